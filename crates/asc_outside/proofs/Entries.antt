@@ -1,6 +1,5 @@
 -- A file by its name, in the map that keeps the files.
-use Rattle.std.proofs.Common.{◌≡◌, ℕ, List, [], ◌∷◌, Option, Some, Bool, cond, map, refl, sym, ap, ◌∙◌, String, Vec, Global, true, false, string_bytes}
-use Rattle.std.specs.BTreeMap.{BTreeMap, get_by_text}
+use Rattle.std.proofs.Common.{◌≡◌, ℕ, List, [], ◌∷◌, Option, Some, Bool, cond, refl, sym, ap, ◌∙◌, String, Vec, Global, true, false, string_bytes}
 use Rattle.std.specs.Cmp.Lexicographic.{slice_cmp}
 use Rattle.std.specs.Map.{lookup}
 use Rattle.std.specs.Option.{option_map}

@@ -1,5 +1,5 @@
 -- What a host in memory keeps, what it means as a host, and what its calls answer and leave.
-use Rattle.std.specs.Prelude.{ℕ, ◌+◌, ◌-◌, ◌^◌, min, nat_lt, Bool, true, List, [], ◌∷◌, ◌++◌, Option, Some, None, length, Result, Ok, Err, if◌then◌else◌, ◌==◌}
+use Rattle.std.specs.Prelude.{ℕ, ◌+◌, nat_lt, Bool, List, [], ◌∷◌, ◌++◌, Option, Some, None, length, Result, Ok, Err, if◌then◌else◌, ◌==◌}
 use Rattle.std.specs.Map.{lookup}
 use Rattle.std.specs.List.{list_any}
 use Rattle.std.specs.Str.{bytes_eq}
@@ -41,10 +41,10 @@ read_answer host name limit = if next_fails host then Err Failed else found (fil
 abbrev pub noted : MemHostState → HostCall → MemHostState
 noted host call = record host { asked = host.asked ++ call ∷ [] }
 
--- A refused call is noted, but where there was no memory; a failure is counted, up to the end of the count's type.
+-- A refused call is noted, but where there was no memory, and a failure is counted.
 abbrev pub after_refusal : MemHostState → HostCall → HostFault → MemHostState
 after_refusal host call TooLong = noted host call
-after_refusal host call Failed = record (noted host call) { faults = min (host.faults + 1) (2 ^ 64 - 1) }
+after_refusal host call Failed = record (noted host call) { faults = host.faults + 1 }
 after_refusal host call NoMemory = host
 
 -- what a call leaves, but for what a write or a print that isn't refused changes besides

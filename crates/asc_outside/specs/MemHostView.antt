@@ -1,5 +1,5 @@
 -- The fields of a host in memory, as contracts see them.
-use Rattle.std.specs.Prelude.{ℕ, List, map, string_bytes}
+use Rattle.std.specs.Prelude.{map, string_bytes}
 use Rattle.asc_outside.specs.Host.{HostCall, Reads, Writes, Prints}
 use Rattle.asc_outside.specs.MemHost.{MemHostState}
 use Rattle.asc_outside.specs.NamedFiles.{file_pairs}

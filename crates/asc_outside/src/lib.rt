@@ -7,3 +7,6 @@ mod named_files;
 
 pub use host::{Host, HostFault};
 pub use mem_host::MemHost;
+
+#[cfg(test)]
+mod tests;

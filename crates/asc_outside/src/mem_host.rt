@@ -1,4 +1,4 @@
-ghost use Rattle.std.specs.Prelude.{◌≡◌, ◌≢◌, [], ◌∷◌, ◌++◌, ℕ, List, Some, Ok, Err, IfOk, IfErr, OnOk, OnErr, IsOkUnless, ◌+◌, ◌-◌, ◌^◌, ◌<◌, ◌≤◌, min, true, false, IsErrOf, vec_len, vec_capacity, string_bytes};
+ghost use Rattle.std.specs.Prelude.{◌≡◌, ◌≢◌, [], ◌∷◌, ◌++◌, ℕ, List, Some, Ok, Err, IfOk, IfErr, OnOk, OnErr, IsOkUnless, ◌<◌, true, false, IsErrOf, vec_len, vec_capacity, string_bytes};
 ghost use Rattle.std.specs.Option.{option_copied};
 
 use crate::host::{Host, HostFault};
@@ -29,6 +29,7 @@ pub struct MemHost {
 }
 
 impl Model for MemHost {
+    ghost use Rattle.std.specs.Prelude.{◌≤◌, vec_len};
     ghost use Rattle.asc_outside.specs.MemHost.{MemHostState};
 
     ghost Value = { MemHostState };
@@ -36,11 +37,13 @@ impl Model for MemHost {
     ghost use Rattle.asc_outside.specs.MemHostView.{mem_host_view};
 
     ghost view = { mem_host_view };
+
+    // each fault was a call
+    ghost invariant = { λ host. host.faults ≤ vec_len host.asked };
 }
 
 impl MemHost {
-    ghost use Rattle.asc_outside.specs.Host.{HostCall, Reads, Writes, Prints};
-    ghost use Rattle.asc_outside.specs.MemHost.{MemHostState, file_of, next_fails, read_answer, noted, after_refusal};
+    ghost use Rattle.asc_outside.specs.MemHost.{file_of, next_fails, read_answer, noted, after_refusal};
     ghost use Rattle.asc_outside.specs.MemHostView.{call_of};
 
     /// A host without files, whose calls with these numbers fail.
@@ -131,35 +134,24 @@ impl MemHost {
         }
     }
 
-    fn count_fault(&mut self)
-        ensures counted { self.new ≡ record self.old { faults = min (self.old.faults + 1) (2 ^ 64 - 1) } }
-        ensures later { self.old.faults ≤ self.new.faults }
-    {
-        self.faults = self.faults.saturating_add(1);
-    }
-
     // Notes a call that is refused for this fault, and answers why it is refused in the end.
     fn refuse(&mut self, call: Asked, fault: HostFault) -> HostFault
         ensures which { result ≢ HostFault.NoMemory → result ≡ fault }
         ensures after { self.new ≡ after_refusal self.old (call_of call) result }
-        ensures later { self.old.faults ≤ self.new.faults }
     {
-        if fault == HostFault::NoMemory {
-            return fault;
-        }
-        if let Err(unnoted) = self.note(call) {
-            return unnoted;
+        if fault == HostFault::NoMemory || self.asked.push(call).is_err() {
+            return HostFault::NoMemory;
         }
         if fault == HostFault::Failed {
-            self.count_fault();
+            self.faults += 1;
         }
         fault
     }
 }
 
 impl Host for MemHost {
-    ghost use Rattle.asc_outside.specs.Host.{HostCall, Reads, Writes, Prints};
-    ghost use Rattle.asc_outside.specs.MemHost.{MemHostState, told_by, file_of, next_fails, read_answer, after_call};
+    ghost use Rattle.asc_outside.specs.Host.{Reads, Writes, Prints};
+    ghost use Rattle.asc_outside.specs.MemHost.{told_by, file_of, next_fails, read_answer, after_call};
 
     ghost state = { told_by };
 
@@ -167,7 +159,6 @@ impl Host for MemHost {
         ensures ok { IfOk result (λ bytes. read_answer self.old name.now limit ≡ Ok bytes.items) }
         ensures err { IfErr result (λ fault. fault ≢ HostFault.NoMemory → read_answer self.old name.now limit ≡ Err fault) }
         ensures after { self.new ≡ after_call self.old (Reads name.now) result }
-        ensures later { self.old.faults ≤ self.new.faults }
     {
         let call = Asked::Read(self.copy_of(name)?);
         match self.find(alloc, name, limit) {
@@ -187,7 +178,6 @@ impl Host for MemHost {
         ensures others { (other : List ℕ) → other ≢ name.now → file_of self.new.files other ≡ file_of self.old.files other }
         ensures refused { OnErr result (self.new.files ≡ self.old.files) }
         ensures after { self.new ≡ record (after_call self.old (Writes name.now) result) { files = self.new.files } }
-        ensures later { self.old.faults ≤ self.new.faults }
     {
         let call = Asked::Write(self.copy_of(name)?);
         if self.next_fails() {
@@ -208,7 +198,6 @@ impl Host for MemHost {
         ensures appended { OnOk result (self.new.printed ≡ self.old.printed ++ bytes.now) }
         ensures refused { OnErr result (self.new.printed ≡ self.old.printed) }
         ensures after { self.new ≡ record (after_call self.old Prints result) { printed = self.new.printed } }
-        ensures later { self.old.faults ≤ self.new.faults }
     {
         if self.next_fails() {
             return Err(self.refuse(Asked::Print, HostFault::Failed));
