@@ -1,0 +1,4 @@
+pub mod Host
+pub mod MemHost
+pub mod MemHostView
+pub mod NamedFiles
