@@ -1,0 +1,4 @@
+pub mod Numbers
+pub mod Placed
+pub mod Single
+pub mod Whole
