@@ -1,3 +1,4 @@
+pub mod Covered
 pub mod Numbers
 pub mod Placed
 pub mod Single

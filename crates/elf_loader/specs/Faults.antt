@@ -57,23 +57,23 @@ IsLoad header = header.kind ≡ 1
 -- a PT_LOAD that has more bytes in the file than in the memory, or bytes beyond the file
 abbrev pub IsBadSegment : List ℕ → ProgramHeader → Type 0
 IsBadSegment file header =
-  IsLoad header × ((header.memory_size < header.file_size) ⊎ (length file < header.offset + header.file_size))
+    IsLoad header × ((header.memory_size < header.file_size) ⊎ (length file < header.offset + header.file_size))
 
 -- a PT_LOAD that takes memory, not all of it in the memory of `size` bytes from `base` on
 abbrev pub IsOutside : ℕ → ℕ → ProgramHeader → Type 0
 IsOutside base size header =
-  IsLoad header × (0 < header.memory_size)
+    IsLoad header × (0 < header.memory_size)
     × ((header.address < base) ⊎ (base + size < header.address + header.memory_size))
 
 -- two PT_LOADs that both take a byte of memory
 abbrev pub Overlap : ProgramHeader → ProgramHeader → Type 0
 Overlap one other =
-  IsLoad one × IsLoad other × IsTrue (meets one.address one.memory_size other.address other.memory_size)
+    IsLoad one × IsLoad other × IsTrue (meets one.address one.memory_size other.address other.memory_size)
 
 -- e_entry isn't a multiple of four in the memory
 abbrev pub HasOtherEntry : ℕ → ℕ → List ℕ → Type 0
 HasOtherEntry base size file =
-  (entry_of file % 4 ≢ 0) ⊎ ((entry_of file < base) ⊎ (base + size ≤ entry_of file))
+    (entry_of file % 4 ≢ 0) ⊎ ((entry_of file < base) ⊎ (base + size ≤ entry_of file))
 
 -- the ELF header is that of a program for 32-bit RISC-V without compressed instructions
 pub record IsProgram (file : List ℕ) : Type 0 where
@@ -95,7 +95,7 @@ pub record IsFaultless (base size : ℕ) (file : List ℕ) : Type 0 where
   pub segments : (index : ℕ) → index < header_count file → ¬ IsBadSegment file (header_at file index)
   pub inside : (index : ℕ) → index < header_count file → ¬ IsOutside base size (header_at file index)
   pub apart : (index lower : ℕ) → index < header_count file → lower < index →
-    ¬ Overlap (header_at file index) (header_at file lower)
+      ¬ Overlap (header_at file index) (header_at file lower)
   pub entry : ¬ HasOtherEntry base size file
 
 -- the files that are accepted: they have no fault, and one program header alone, which is a PT_LOAD

@@ -16,7 +16,7 @@ is_load header = header.kind == 1
 -- whether the address has a byte of the file part of this segment
 abbrev pub covers : ProgramHeader → ℕ → Bool
 covers header address =
-  is_load header && nat_le header.address address && nat_lt address (header.address + header.file_size)
+    is_load header && nat_le header.address address && nat_lt address (header.address + header.file_size)
 
 -- the byte of the file part that has the address; a byte that no file part has is 0
 unfoldable pub byte_of : List ℕ → ℕ → Option ProgramHeader → ℕ
@@ -37,7 +37,7 @@ touches header address = is_load header && meets header.address header.file_size
 -- the numbers of the lines of 64 bytes, counted from `base`, that have a byte of a file part
 unfoldable pub marked_lines : ℕ → ℕ → List ℕ → List ℕ
 marked_lines base size file =
-  filter (λ line. list_any (λ header. touches header (base + 64 * line)) (headers file)) (range_with_len 0 (size / 64))
+    filter (λ line. list_any (λ header. touches header (base + 64 * line)) (headers file)) (range_with_len 0 (size / 64))
 
 -- whether a segment is a PT_LOAD that takes memory
 abbrev pub takes_memory : ProgramHeader → Bool
@@ -46,7 +46,7 @@ takes_memory header = is_load header && nat_lt 0 header.memory_size
 -- the greatest end of a PT_LOAD that takes memory, and `base` where there is none
 unfoldable pub last_end : ℕ → List ℕ → ℕ
 last_end base file =
-  fold max base (map (λ header. header.address + header.memory_size) (filter takes_memory (headers file)))
+    fold max base (map (λ header. header.address + header.memory_size) (filter takes_memory (headers file)))
 
 -- where the heap begins: the least multiple of 16 not below that end, but at most the memory's end
 unfoldable pub first_break : ℕ → ℕ → List ℕ → ℕ
@@ -56,5 +56,5 @@ first_break base size file = min (next_multiple_of (last_end base file) 16) (bas
 pub record IsLaidOut (base size : ℕ) (file : List ℕ) (header : ProgramHeader) (bytes : List ℕ) : Type 0 where
   pub len : length bytes ≡ size
   pub each : (place : ℕ) → place < size →
-    slice_index bytes place
+      slice_index bytes place
       ≡ (if covers header (base + place) then slice_index file (header.offset + (base + place - header.address)) else 0)

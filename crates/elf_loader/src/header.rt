@@ -11,16 +11,20 @@ const HEADER_SIZE: usize = 52;
 /// The bytes of one program header.
 const PROGRAM_HEADER_SIZE: u16 = 32;
 
-/// The most program headers that a file may have.
-const MOST_HEADERS: u16 = 256;
-
 const MAGIC: [u8; 4] = [0x7f, b'E', b'L', b'F'];
+
 const CLASS_32: u8 = 1;
+
 const LITTLE_ENDIAN: u8 = 1;
+
 const CURRENT_VERSION: u8 = 1;
+
 const EXECUTABLE: u16 = 2;
+
 const MACHINE_RISCV: u16 = 243;
+
 const FLAG_COMPRESSED: u32 = 1;
+
 const LOAD: u32 = 1;
 
 /// A program header, as the file says it.
@@ -103,7 +107,9 @@ fn has_one_header(file: &[u8]) -> bool
     ensures otherwise { ¬ HasNoTable file.now → ¬ HasOtherHeaderSize file.now → header_count file.now ≡ 1 → IsTrue result }
 {
     let offset = u64::from(read_word(file, 28));
-    read_half(file, 44) == 1 && read_half(file, 42) == PROGRAM_HEADER_SIZE && offset + u64::from(PROGRAM_HEADER_SIZE) <= file.len() as u64
+    read_half(file, 44) == 1
+        && read_half(file, 42) == PROGRAM_HEADER_SIZE
+        && offset + u64::from(PROGRAM_HEADER_SIZE) <= file.len() as u64
 }
 
 impl ProgramHeader {
@@ -131,7 +137,11 @@ impl ProgramHeader {
         requires { self.now.address + self.now.memory_size < 2 ^ 32 ⊎ (self.now.memory_size ≡ 0) }
         ensures { result ≡ (if nat_lt 0 self.now.memory_size then self.now.address + self.now.memory_size else base) }
     {
-        if self.memory_size == 0 { base } else { self.address + self.memory_size }
+        if self.memory_size == 0 {
+            base
+        } else {
+            self.address + self.memory_size
+        }
     }
 
     /// Whether the segment has no more bytes in the file than in the memory, and none beyond the file.

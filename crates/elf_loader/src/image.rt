@@ -45,7 +45,13 @@ fn place(bytes: &mut [u8], start: usize, part: &[u8])
 
 #[tactic(auto, using(crate::proofs::Placed::laid_blank, crate::proofs::Placed::laid_part))]
 /// The memory's bytes: zeros, with the segment's file part in its place.
-pub fn lay_out(alloc: Global, file: &[u8], base: u32, size: u32, header: &ProgramHeader) -> Result<Vec<u8>, AllocError>
+pub fn lay_out(
+    alloc: Global,
+    file: &[u8],
+    base: u32,
+    size: u32,
+    header: &ProgramHeader,
+) -> Result<Vec<u8>, AllocError>
     requires load { IsLoad header.now }
     requires sound { ¬ IsBadSegment file.now header.now }
     requires inside { ¬ IsOutside base size header.now }
@@ -61,10 +67,17 @@ pub fn lay_out(alloc: Global, file: &[u8], base: u32, size: u32, header: &Progra
 }
 
 /// The numbers of the lines that have a byte of the segment's file part.
-pub fn mark_lines(alloc: Global, base: u32, size: u32, header: &ProgramHeader) -> Result<Vec<u32>, AllocError>
+pub fn mark_lines(
+    alloc: Global,
+    base: u32,
+    size: u32,
+    header: &ProgramHeader,
+) -> Result<Vec<u32>, AllocError>
     ensures { IfOk result (λ lines. lines.items ≡ filter (λ line. touches header.now (base + 64 * line)) (range_with_len 0 (size / 64))) }
 {
-    (0..size / LINE).filter(|line| header.touches(base, *line)).collect(alloc)
+    (0..size / LINE)
+        .filter(|line| header.touches(base, *line))
+        .collect(alloc)
 }
 
 /// Where the heap begins, for a memory of `size` bytes from `base` on whose last segment has this end.
@@ -73,5 +86,5 @@ pub fn first_break(base: u32, size: u32, end: u32) -> u32
     requires inside { end ≤ base + size }
     ensures { result ≡ min (next_multiple_of end 16) (base + size) }
 {
-    end.next_multiple_of(BREAK_STEP).min(base + size)
+    end.next_multiple_of(BREAK_STEP)
 }

@@ -12,7 +12,6 @@ ghost use Rattle.elf_loader.specs.Layout.{first_break, image_bytes, marked_lines
 ghost use Rattle.elf_loader.specs.Memory.{IsImage, IsMemory};
 
 pub use image::Image;
-
 use std::alloc::Global;
 use thiserror::Error;
 
@@ -61,3 +60,6 @@ pub fn parse(alloc: Global, file: &[u8], base: u32, size: u32) -> Result<Image, 
         heap,
     })
 }
+
+#[cfg(test)]
+mod tests;
