@@ -1,8 +1,8 @@
 //! The ELF header and the program headers (System V gABI, "ELF Header" and "Program Header"; RISC-V psABI).
 
 ghost use Rattle.std.specs.Prelude.{◌≡◌, ℕ, ◌+◌, ◌≤◌, ◌↔◌, length, IsTrue, IfSome, IfNone, OnSome, ◌%◌, ◌<◌, ◌*◌, ◌^◌, ◌⊎◌, take, drop, nat_lt, if◌then◌else◌};
-ghost use Rattle.elf_loader.specs.Elf.{half, word, entry_of, header_offset, header_count, header_from, header_at};
-ghost use Rattle.elf_loader.specs.Faults.{HasNoTable, HasOtherEntry, HasOtherHeaderSize, IsAccepted, IsBadSegment, IsLoad, IsOutside, IsProgram};
+ghost use Rattle.elf_loader.specs.Elf.{half, word, entry_of, header_count, header_from, header_at};
+ghost use Rattle.elf_loader.specs.Faults.{HasNoTable, HasOtherHeaderSize, IsAccepted, IsBadSegment, IsLoad, IsOutside, IsProgram};
 ghost use Rattle.elf_loader.specs.Layout.{touches};
 
 /// The bytes of the ELF header.
@@ -83,6 +83,7 @@ pub fn entry(file: &[u8]) -> u32
     read_word(file, 24)
 }
 
+/// Whether the file begins with the header of a program for 32-bit RISC-V without compressed instructions.
 fn is_program(file: &[u8]) -> bool
     ensures { IsTrue result ↔ IsProgram file.now }
 {

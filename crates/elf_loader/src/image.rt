@@ -1,6 +1,6 @@
 //! The memory that a program header describes (System V gABI, "Program Loading").
 
-ghost use Rattle.std.specs.Prelude.{◌≡◌, ℕ, ◌+◌, ◌*◌, ◌/◌, ◌≤◌, ◌++◌, length, take, drop, filter, min, nat_lt, if◌then◌else◌, IfOk, replicate};
+ghost use Rattle.std.specs.Prelude.{◌≡◌, ◌+◌, ◌*◌, ◌/◌, ◌≤◌, ◌++◌, length, take, drop, filter, min, IfOk, replicate};
 ghost use Rattle.std.specs.List.{range_with_len};
 ghost use Rattle.std.specs.Int.{next_multiple_of};
 ghost use Rattle.elf_loader.specs.Faults.{IsLoad, IsBadSegment, IsOutside};
@@ -43,8 +43,8 @@ fn place(bytes: &mut [u8], start: usize, part: &[u8])
     bytes[start..start + part.len()].copy_from_slice(part);
 }
 
-#[tactic(auto, using(crate::proofs::Placed::laid_blank, crate::proofs::Placed::laid_part))]
 /// The memory's bytes: zeros, with the segment's file part in its place.
+#[tactic(auto, using(crate::proofs::Placed::laid_blank))]
 pub fn lay_out(
     alloc: Global,
     file: &[u8],
