@@ -1,0 +1,5 @@
+pub mod Covered
+pub mod Numbers
+pub mod Placed
+pub mod Single
+pub mod Whole

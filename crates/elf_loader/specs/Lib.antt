@@ -1,0 +1,4 @@
+pub mod Elf
+pub mod Faults
+pub mod Layout
+pub mod Memory
