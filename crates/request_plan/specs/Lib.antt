@@ -1,0 +1,4 @@
+pub mod Plan
+pub mod Play
+pub mod Course
+pub mod Laws
