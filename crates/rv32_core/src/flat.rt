@@ -26,7 +26,7 @@ impl Model for FlatBytes {
 }
 
 /// What never is: no stop.
-#[derive(Clone, Copy, Debug, PartialEq, Eq)]
+#[derive(Clone, Copy)]
 pub enum Never {}
 
 impl FlatBytes {
