@@ -1,0 +1,2 @@
+pub mod FlatRunLaws
+pub mod Served

@@ -1,0 +1,88 @@
+-- Where the bytes are told, a chain of steps of a plan is the plan served by their list, and a step is the flat machine's.
+use Rattle.std.proofs.Common.{◌≡◌, ℕ, ◌-◌, Bool, true, false, List, [], Result, Ok, Option, Some, refl, sym, ap, ◌∙◌, cond}
+use Rattle.std.specs.Int.{from_le_bytes, w32}
+use Rattle.request_plan.specs.Plan.{Plan, Done as Outcome, Ask, Ends}
+use Rattle.request_plan.specs.Play.{served}
+use Rattle.rv32_core.specs.Access.{Access, Load, Store, IsAnswer, TellsLoad, TellsStore, access_bytes, slice_of}
+use Rattle.rv32_core.specs.Machine.{Machine, is_inside, effect_of}
+use Rattle.rv32_core.specs.FlatMachine.{FlatStep, effected, flat_step}
+use Rattle.rv32_core.specs.StepPlan.{effect_plan, step_plan}
+use Rattle.rv32_core.specs.declared.effect.Effect.{Effect}
+use Rattle.rv32_core.specs.declared.effect.Effect.TheVariants.{Sets, Exits, Traps}
+use Rattle.rv32_core.specs.declared.outcome.Done.{Done}
+use Rattle.rv32_core.specs.declared.outcome.TrapKind.TheVariants.{FetchFault}
+
+-- the machine and the answer of a flat step, and its bytes
+abbrev pub parts_of : FlatStep → (Machine × Done) × List ℕ
+parts_of step = ((step.machine, step.done), step.memory)
+
+-- an effect's plan is served by a list of bytes to what the effect makes of it
+pub served-effect_plan : (start : ℕ) (machine : Machine) (memory : List ℕ) (effect : Effect)
+    → served (access_bytes start) (effect_plan machine effect) memory ≡ parts_of (effected machine memory effect)
+served-effect_plan start machine memory (Sets index value) = refl
+served-effect_plan start machine memory (Exits status) = refl
+served-effect_plan start machine memory (Traps kind) = refl
+
+-- the two ways of a fetch
+served-fetch : (machine : Machine) (memory : List ℕ) (fits : Bool)
+    → served (access_bytes machine.core.base) (cond fits (Ask (Load machine.core.pc 4) machine (λ bytes. effect_plan machine (effect_of machine.core (from_le_bytes w32 bytes)))) (effect_plan machine (Traps FetchFault))) memory
+    ≡ parts_of (cond fits (effected machine memory (effect_of machine.core (from_le_bytes w32 (slice_of memory (machine.core.pc - machine.core.base) 4)))) (effected machine memory (Traps FetchFault)))
+served-fetch machine memory true =
+    served-effect_plan machine.core.base machine memory (effect_of machine.core (from_le_bytes w32 (slice_of memory (machine.core.pc - machine.core.base) 4)))
+served-fetch machine memory false = refl
+
+-- a step's plan is served by a list of bytes to the step of the flat machine
+pub served-step_plan : (machine : Machine) (memory : List ℕ)
+    → served (access_bytes machine.core.base) (step_plan machine) memory ≡ parts_of (flat_step machine memory)
+served-step_plan machine memory = served-fetch machine memory (is_inside machine.core machine.core.pc 4)
+
+-- a flat step with these parts is this one
+pub flat_step-is : (machine : Machine) (memory : List ℕ) (end : (Machine × Done) × List ℕ)
+    → served (access_bytes machine.core.base) (step_plan machine) memory ≡ end
+    → flat_step machine memory ≡ record { machine = (end.0).0; memory = end.1; done = (end.0).1 }
+flat_step-is machine memory end e =
+    ap (λ (r : (Machine × Done) × List ℕ). let step : FlatStep = record { machine = (r.0).0; memory = r.1; done = (r.0).1 } in step)
+    (sym (served-step_plan machine memory) ∙ e)
+
+module _ {S E : Type 0} (step : S → Access → Result (List ℕ) E → S → Type 0) (base : S → ℕ) (told : S → Option (List ℕ))
+    (keeps_base : (s t : S) (access : Access) (answer : Result (List ℕ) E) → step s access answer t → base t ≡ base s)
+    (answers : (s t : S) (access : Access) (bytes : List ℕ) → step s access (Ok bytes) t → IsAnswer access bytes)
+    (tells_load : (s t : S) (address count : ℕ) (bytes : List ℕ) → step s (Load address count) (Ok bytes) t
+    → TellsLoad (base s) (told s) address count bytes (told t))
+    (tells_store : (s t : S) (address : ℕ) (bytes done : List ℕ) → step s (Store address bytes) (Ok done) t
+    → TellsStore (base s) (told s) address bytes (told t)) where
+  -- where a chain's end is told, its start was told, and its plan is served from there to the end
+  pub Ends-told : (start : ℕ) {B A : Type 0} (p : Plan Access (List ℕ) B A) (s t : S) (a : A)
+      → base s ≡ start → Ends step p s t a → (after : List ℕ) → told t ≡ Some after
+      → (before : List ℕ) × (told s ≡ Some before) × (served (access_bytes start) p before ≡ (a, after))
+  Ends-told start {B} {A} (Outcome x) s t a same h after e =
+      (after, ap told (sym h.1) ∙ e, (let is : a ≡ x = h.0 in ap (λ (z : A). (z, after)) (sym is)))
+  Ends-told start (Ask (Load address count) b k) s t a same h after e =
+      let rest = Ends-told start (k (h.0)) (h.1) t a (keeps_base s (h.1) (Load address count) (Ok (h.0)) (h.2) ∙ same) (h.3) after e in
+      let first = tells_load s (h.1) address count (h.0) (h.2) (rest.0) (rest.1) in
+      let is : h.0 ≡ slice_of (rest.0) (address - start) count =
+      first.1 ∙ ap (λ n. slice_of (rest.0) (address - n) count) same
+      in
+      (rest.0, first.0, ap (λ bytes. served (access_bytes start) (k bytes) (rest.0)) (sym is) ∙ rest.2)
+  Ends-told start (Ask (Store address bytes) b k) s t a same h after e =
+      let rest = Ends-told start (k (h.0)) (h.1) t a (keeps_base s (h.1) (Store address bytes) (Ok (h.0)) (h.2) ∙ same) (h.3) after e in
+      let first = tells_store s (h.1) address bytes (h.0) (h.2) (rest.0) (rest.1) in
+      let none : h.0 ≡ [] = answers s (h.1) (Store address bytes) (h.0) (h.2) in
+      let is : (access_bytes start (first.0) (Store address bytes)).1 ≡ rest.0 =
+      ap (λ n. (access_bytes n (first.0) (Store address bytes)).1) (sym same) ∙ sym first.2
+      in (
+        first.0,
+        first.1,
+        ap (λ m. served (access_bytes start) (k []) m) is
+            ∙ ap (λ done. served (access_bytes start) (k done) (rest.0)) (sym none)
+            ∙ rest.2,
+      )
+
+  -- where the bytes are told after a step, it is the flat machine's step on what was told before
+  pub told_step : (machine next : Machine) (s t : S) (done : Done)
+      → base s ≡ machine.core.base → Ends step (step_plan machine) s t (next, done) → (after : List ℕ) → told t ≡ Some after
+      → (before : List ℕ) × (told s ≡ Some before)
+      × (flat_step machine before ≡ record { machine = next; memory = after; done = done })
+  told_step machine next s t done same h after e =
+      let r = Ends-told (machine.core.base) (step_plan machine) s t (next, done) same h after e in
+      (r.0, r.1, flat_step-is machine (r.0) ((next, done), after) r.2)

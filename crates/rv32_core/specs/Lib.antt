@@ -1,0 +1,5 @@
+pub mod Access
+pub mod FlatMachine
+pub mod FlatRun
+pub mod Machine
+pub mod StepPlan

@@ -1,0 +1,14 @@
+//! What an instruction does, found from the registers and the word alone.
+
+use crate::outcome::TrapKind;
+
+/// What an instruction does.
+#[derive(Clone, Copy, Debug, PartialEq, Eq)]
+pub enum Effect {
+    /// A register gets a value, and the next instruction follows.
+    Sets { register: u8, value: u32 },
+    /// The program ends with this status.
+    Exits { status: u8 },
+    /// It traps.
+    Traps { kind: TrapKind },
+}
