@@ -1,11 +1,14 @@
 -- How a command ends, after its steps and the print of a refusal's text.
-use Rattle.std.proofs.Common.{◌≡◌, ◌⊎◌, ℕ, ◌<◌, ◌≤◌, List, [], ◌∷◌, ◌++◌, Option, Some, None, Result, Ok, Err, IsSome, option_map, take, refl, sym, ap, subst, ◌∙◌, inl, inr, arith, append_assoc, append-nil}
+use Rattle.std.proofs.Common.{◌≡◌, ◌⊎◌, ℕ, ◌<◌, ◌≤◌, List, [], ◌∷◌, ◌++◌, Option, Some, None, Result, Ok, Err, IsSome, option_map, length, take, refl, sym, ap, subst, ◌∙◌, inl, inr, arith, append_assoc, append-nil}
 use Rattle.asc_outside.specs.Host.{HostCall, Prints, HostState, Files, Rose, OthersStay}
-use Rattle.ascend_top.specs.Command.{IsCause, HasAsked, StepsEnd, Reports, Refuses, CommandEnds, AsksMore, PrintsMore, PrintsText, Unprinted, step_calls, print_calls, last_calls}
-use Rattle.ascend_top.specs.Flat.{run_of}
+use Rattle.elf_loader.specs.Faults.{IsAccepted}
+use Rattle.ascend_top.specs.Command.{Completes, Runs, IsCause, HasAsked, StepsEnd, Reports, Refuses, CommandEnds, AsksMore, PrintsMore, PrintsText, Unprinted, step_calls, print_calls, last_calls}
+use Rattle.ascend_top.specs.Endings.{status_of, status_of_ending, status_of_flat}
+use Rattle.ascend_top.specs.Flat.{memory_base, memory_size, flat_ending, run_of}
 use Rattle.ascend_top.specs.Texts.{refusal_text}
 use Rattle.ascend_top.specs.Words.{RunValues}
 use Rattle.ascend_top.specs.declared.ending.Ending.{Ending}
+use Rattle.ascend_top.specs.declared.ending.Ending.TheVariants.{Exit, Trap, Budget}
 use Rattle.ascend_top.specs.declared.ending.Refusal.{Refusal}
 use Rattle.ascend_top.specs.declared.ending.Refusal.TheVariants.{Usage, Elf, KeyLength, TooLong, Host, NoMemory}
 use Rattle.ascend_top.specs.declared.words.Name.TheVariants.{Key, Elf as ElfName, Output}
@@ -76,3 +79,42 @@ ends_with_refusal given refusal end old mid new steps refuses = ends refuses.sam
       others = others;
       calls = calls_of NoMemory e.1 (asked_before_last refusal ((steps.calls).0) e.0 ((steps.calls).1));
     })
+
+-- one file has one content
+one_file : (files : Files) (name a b : List ℕ) → files name ≡ Some a → files name ≡ Some b → a ≡ b
+one_file files name a b h g = let e : ◌≡◌ {A = Option (List ℕ)} (Some a) (Some b) = sym h ∙ g in cc
+
+status_of-flat_ending : (ending : Ending) → status_of_ending ending ≡ status_of_flat (flat_ending ending)
+status_of-flat_ending (Exit status) = refl
+status_of-flat_ending (Trap kind pc) = refl
+status_of-flat_ending Budget = refl
+
+pub completes : (given : RunValues) (status : ℕ) (end : Result Ending Refusal) (old new : HostState) → status ≡ status_of end → CommandEnds given end old new
+    → (files : Files) (elf : List ℕ) → old.files ≡ Some files → Runs files given elf → ¬ Rose old.faults new.faults → Completes given elf status old new
+completes given status (Ok ending) old new is ends files elf told runs safe =
+    let cause = ends.cause files told in
+    let same = one_file files given.elf cause.0 elf (((cause.1).elf).0) ((runs.elf).0) in
+    inr (
+      is ∙ status_of-flat_ending ending ∙ ap status_of_flat (cause.2) ∙ ap (λ file. status_of_flat ((run_of file).ending)) same,
+      ends.reports files elf told ((runs.elf).0),
+    )
+completes given status (Err Host) old new is ends files elf told runs safe = absurd (safe (ends.fault refl))
+completes given status (Err NoMemory) old new is ends files elf told runs safe = inl is
+completes given status (Err (KeyLength count)) old new is ends files elf told runs safe =
+    let cause = ends.cause files told in
+    let same = one_file files given.key cause.0 (runs.key).0 cause.1 (runs.key).1 in
+    absurd (let no : ⊥ = omega (arith, cause.2, cause.3, (runs.key).2, ap length same) in no)
+completes given status (Err (TooLong Key)) old new is ends files elf told runs safe =
+    let cause = ends.cause files told in
+    let same = one_file files given.key cause.0 (runs.key).0 cause.1 (runs.key).1 in
+    absurd (let no : ⊥ = omega (arith, cause.2, (runs.key).2, ap length same) in no)
+completes given status (Err (TooLong ElfName)) old new is ends files elf told runs safe =
+    let cause = (ends.cause files told).1 in
+    let same = one_file files given.elf cause.0 elf cause.1 (runs.elf).0 in
+    absurd (let no : ⊥ = omega (arith, cause.2, (runs.elf).1, ap length same) in no)
+completes given status (Err (Elf fault)) old new is ends files elf told runs safe =
+    let cause = (ends.cause files told).1 in
+    let same = one_file files given.elf cause.0 elf (cause.1).0 (runs.elf).0 in
+    absurd (cause.2 (subst (λ file. IsAccepted memory_base memory_size file) (sym same) runs.accepted))
+completes given status (Err (TooLong Output)) old new is ends files elf told runs safe = absurd (ends.cause files told)
+completes given status (Err (Usage word)) old new is ends files elf told runs safe = absurd (ends.cause files told)

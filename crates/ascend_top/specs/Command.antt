@@ -3,6 +3,7 @@ use Rattle.std.specs.Prelude.{◌≡◌, ◌⊎◌, ℕ, ◌≤◌, ◌<◌, Lis
 use Rattle.asc_outside.specs.Host.{HostCall, Reads, Writes, Prints, HostState, Files, Rose, IsLonger, OthersStay}
 use Rattle.elf_loader.specs.Faults.{IsAccepted}
 use Rattle.rv32_core.specs.FlatRun.{FlatRun}
+use Rattle.ascend_top.specs.Endings.{status_of_flat}
 use Rattle.ascend_top.specs.Flat.{memory_base, memory_size, run_of, output_of, flat_ending}
 use Rattle.ascend_top.specs.Texts.{report_text, refusal_text}
 use Rattle.ascend_top.specs.Words.{RunValues}
@@ -138,3 +139,8 @@ pub record CommandEnds (given : RunValues) (end : Result Ending Refusal) (old ne
   pub text : IfErr end (λ refusal. PrintsText (refusal_text refusal) old new)
   pub others : OthersStay given.output old.files new.files
   pub calls : (count : ℕ) × HasAsked end count × AsksMore old.asked (take count (step_calls given) ++ last_calls end) new.asked
+
+-- What a command comes to whose files are right and whose host never fails: its run is reported, or there is no memory.
+abbrev pub Completes : RunValues → List ℕ → ℕ → HostState → HostState → Type 0
+Completes given elf status old new =
+    (status ≡ 11) ⊎ ((status ≡ status_of_flat ((run_of elf).ending)) × Reports given (run_of elf) old new)

@@ -2,7 +2,7 @@
 use Rattle.std.specs.Prelude.{ℕ, List, [], ◌∷◌, ◌++◌, Option, Some, None, codes}
 use Rattle.std.specs.Fmt.{decimal}
 use Rattle.rv32_core.specs.declared.outcome.TrapKind.{TrapKind}
-use Rattle.rv32_core.specs.declared.outcome.TrapKind.TheVariants.{FetchFault, NotYet}
+use Rattle.rv32_core.specs.declared.outcome.TrapKind.TheVariants.{FetchFault, OutputLimit, NotYet}
 use Rattle.rv32_core.specs.FlatRun.{FlatRun, FlatEnding, Exited, Trapped, Budget}
 use Rattle.ascend_top.specs.Words.{name_text}
 use Rattle.ascend_top.specs.declared.ending.Refusal.{Refusal}
@@ -15,6 +15,7 @@ line text = text ++ 10 ∷ []
 -- the kind of a trap, as it is printed
 abbrev pub kind_text : TrapKind → List ℕ
 kind_text FetchFault = codes "FetchFault"
+kind_text OutputLimit = codes "OutputLimit"
 kind_text NotYet = codes "NotYet"
 
 -- the ending, as it is printed

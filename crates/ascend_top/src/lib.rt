@@ -12,9 +12,8 @@ mod words;
 
 ghost use Rattle.std.specs.Prelude.{◌≡◌, ◌⊎◌, ℕ, List, Some, Result};
 ghost use Rattle.asc_outside.specs.Host.{Files, Rose};
-ghost use Rattle.ascend_top.specs.Command.{CommandEnds, Refuses, Reports, Runs};
-ghost use Rattle.ascend_top.specs.Endings.{status_of, status_of_flat, status_of_refusal};
-ghost use Rattle.ascend_top.specs.Flat.{run_of};
+ghost use Rattle.ascend_top.specs.Command.{CommandEnds, Completes, Refuses, Runs};
+ghost use Rattle.ascend_top.specs.Endings.{status_of, status_of_refusal};
 ghost use Rattle.ascend_top.specs.Words.{RunValues, IsFault, IsRun, texts, run_values};
 ghost use Rattle.ascend_top.specs.declared.ending.Ending.{Ending as HowEnded};
 ghost use Rattle.ascend_top.specs.declared.ending.Refusal.{Refusal as WhyRefused};
@@ -43,6 +42,9 @@ pub fn ascend<H: Host>(alloc: Global, words: &[String], host: &mut H) -> u8
         × Refuses (Usage word) end (H.state host.old) (H.state host.new) }
     ensures run { (given : RunValues) → IsRun (texts words.now) given → (end : Result HowEnded WhyRefused) × (result ≡ status_of end)
         × CommandEnds given end (H.state host.old) (H.state host.new) }
+    ensures complete { (given : RunValues) (files : Files) (elf : List ℕ) → IsRun (texts words.now) given → (H.state host.old).files ≡ Some files
+        → Runs files given elf → ¬ Rose (H.state host.old).faults (H.state host.new).faults
+        → Completes given elf result (H.state host.old) (H.state host.new) }
 {
     match words::read_words(words) {
         Ok(given) => run_command(alloc, &given, host),

@@ -12,6 +12,7 @@ fn kind_name(kind: TrapKind) -> &'static str
 {
     match kind {
         TrapKind::FetchFault => "FetchFault",
+        TrapKind::OutputLimit => "OutputLimit",
         TrapKind::NotYet => "NotYet",
     }
 }

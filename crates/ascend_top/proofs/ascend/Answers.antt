@@ -5,6 +5,7 @@ use Rattle.ascend_top.specs.Words.{run_values}
 use Rattle.ascend_top.specs.declared.ending.Ending.{Ending as HowEnded}
 use Rattle.ascend_top.specs.declared.ending.Refusal.{Refusal as WhyRefused}
 use Rattle.ascend_top.specs.declared.ending.Refusal.TheVariants.{Usage}
+use Rattle.ascend_top.proofs.EndLaws.{completes}
 use Rattle.ascend_top.proofs.WordLaws.{IsRun-not-IsFault, IsRun-one, IsFault-one}
 use Rattle.ascend_top.proofs.ascend.Goals as goal
 
@@ -23,3 +24,11 @@ returns-in-Err-clause-usage g c word fault =
 
 pub returns-in-Err-clause-run : goal.returns-in-Err-clause-run
 returns-in-Err-clause-run g c given run = absurd (c.in-Err.ensures.excluded given run)
+
+pub returns-in-Ok-clause-complete : goal.returns-in-Ok-clause-complete
+returns-in-Ok-clause-complete g c given files elf run told runs safe =
+    let ends = returns-in-Ok-clause-run g c given run in
+    completes given c.run_command.result (ends.0) _ _ (ends.1) (ends.2) files elf told runs safe
+
+pub returns-in-Err-clause-complete : goal.returns-in-Err-clause-complete
+returns-in-Err-clause-complete g c given files elf run told runs safe = absurd (c.in-Err.ensures.excluded given run)
