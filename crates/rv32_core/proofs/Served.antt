@@ -8,7 +8,7 @@ use Rattle.request_plan.proofs.Served.{served-bind}
 use Rattle.rv32_core.specs.Access.{Access, Load, Store, IsAnswer, TellsLoad, TellsStore, access_bytes, slice_of}
 use Rattle.rv32_core.specs.Machine.{Machine, IsEffect, is_inside, effect_of}
 use Rattle.rv32_core.specs.FlatMachine.{FlatStep, going_on, call_cost, after_read, after_write, effected, flat_step}
-use Rattle.rv32_core.specs.StepPlan.{effect_plan, step_plan}
+use Rattle.rv32_core.specs.StepPlan.{effect_plan, step_plan, TellsStep}
 use Rattle.rv32_core.specs.Transfer.{pieces, stores_plan, loads_plan}
 use Rattle.rv32_core.specs.declared.effect.Effect.{Effect}
 use Rattle.rv32_core.specs.declared.effect.Effect.TheVariants.{Sets, Answers, Reads, Writes, Exits, Traps}
@@ -22,7 +22,7 @@ abbrev pub parts_of : FlatStep → (Machine × Done) × List ℕ
 parts_of step = ((step.machine, step.done), step.memory)
 
 -- so many bytes of a list that has them
-length-slice_of : (list : List ℕ) (offset count : ℕ) → count ≤ length list - offset → length (slice_of list offset count) ≡ count
+pub length-slice_of : (list : List ℕ) (offset count : ℕ) → count ≤ length list - offset → length (slice_of list offset count) ≡ count
 length-slice_of list offset count fits = grind (arith, common_steps)
 
 -- an effect's plan is served by a list of bytes to what the effect makes of it
@@ -104,10 +104,8 @@ module _ {S E : Type 0} (step : S → Access → Result (List ℕ) E → S → T
       )
 
   -- where the bytes are told after a step, it is the flat machine's step on what was told before
-  pub told_step : (machine next : Machine) (s t : S) (done : Done)
-      → base s ≡ machine.core.base → Ends step (step_plan machine) s t (next, done) → (after : List ℕ) → told t ≡ Some after
-      → (before : List ℕ) × (told s ≡ Some before)
-      × (flat_step machine before ≡ record { machine = next; memory = after; done = done })
+  pub told_step : (machine next : Machine) (s t : S) (done : Done) → base s ≡ machine.core.base
+      → Ends step (step_plan machine) s t (next, done) → TellsStep machine (told s) next (told t) done
   told_step machine next s t done same h after e =
       let r = Ends-told (machine.core.base) (step_plan machine) s t (next, done) same h after e in
       (r.0, r.1, flat_step-is machine (r.0) ((next, done), after) r.2)

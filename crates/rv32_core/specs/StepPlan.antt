@@ -1,11 +1,11 @@
 -- What a step asks of its bytes, item by item: its fetch, and then its data.
-use Rattle.std.specs.Prelude.{ℕ, List, if◌then◌else◌}
+use Rattle.std.specs.Prelude.{◌≡◌, ℕ, List, Option, Some, if◌then◌else◌}
 use Rattle.std.specs.Int.{from_le_bytes, w32}
 use Rattle.request_plan.specs.Plan.{Plan, Done as Outcome, Ask, bind}
 use Rattle.rv32_core.specs.Access.{Access, Load, slice_of}
 use Rattle.rv32_core.specs.Transfer.{pieces, stores_plan, loads_plan}
 use Rattle.rv32_core.specs.Machine.{CoreState, FilesState, Machine, is_inside, with_register, effect_of}
-use Rattle.rv32_core.specs.FlatMachine.{going_on, call_cost, exit_with, trap_at, answered, after_read, after_write}
+use Rattle.rv32_core.specs.FlatMachine.{going_on, call_cost, exit_with, trap_at, answered, after_read, after_write, flat_step}
 use Rattle.rv32_core.specs.declared.effect.Effect.{Effect}
 use Rattle.rv32_core.specs.declared.effect.Effect.TheVariants.{Sets, Answers, Reads, Writes, Exits, Traps}
 use Rattle.rv32_core.specs.declared.outcome.Done.{Done}
@@ -36,3 +36,10 @@ step_plan machine =
     if is_inside core core.pc 4
     then Ask (Load core.pc 4) machine (λ bytes. effect_plan machine (effect_of machine (from_le_bytes w32 bytes)))
     else effect_plan machine (Traps FetchFault)
+
+-- Where the bytes are told after a step, they were told before, and the step is that of the flat machine on them.
+abbrev pub TellsStep : Machine → Option (List ℕ) → Machine → Option (List ℕ) → Done → Type 0
+TellsStep machine old next new done =
+    (after : List ℕ) → new ≡ Some after
+    → (before : List ℕ) × (old ≡ Some before)
+    × (flat_step machine before ≡ record { machine = next; memory = after; done = done })

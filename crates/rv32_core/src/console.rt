@@ -29,7 +29,8 @@ impl Model for Files {
 
     ghost view = { λ f. record { input = f.input.items; position = f.position; output = f.output.items; limit = f.limit } };
 
-    ghost invariant = { λ f. (f.position ≤ length f.input.items) × (length f.output.items ≤ f.limit) × (f.limit ≤ vec_capacity f.output) };
+    ghost invariant = { λ f. (f.position ≤ length f.input.items) × (length f.output.items ≤ f.limit)
+        × (f.limit ≤ vec_capacity f.output) };
 }
 
 impl Files {
@@ -88,8 +89,12 @@ impl Files {
     ) -> Result<(), B::Stop>
         requires range { IsRange (B.base memory.old) (B.size memory.old) address count }
         requires left { count ≤ bytes_left self.old }
-        ensures ok { OnOk result (Ends B.step (stores_plan (slice_of self.old.input self.old.position count) (pieces address count)) memory.old memory.new tt) }
-        ensures err { IfErr result (λ stop. Stops B.step (stores_plan (slice_of self.old.input self.old.position count) (pieces address count)) memory.old memory.new stop tt) }
+        ensures ok { OnOk result (Ends B.step
+            (stores_plan (slice_of self.old.input self.old.position count) (pieces address count))
+            memory.old memory.new tt) }
+        ensures err { IfErr result (λ stop. Stops B.step
+            (stores_plan (slice_of self.old.input self.old.position count) (pieces address count))
+            memory.old memory.new stop tt) }
         ensures after { OnOk result (self.new ≡ record self.old { position = self.old.position + count }) }
         ensures unchanged { OnErr result (self.new ≡ self.old) }
         ensures base { B.base memory.new ≡ B.base memory.old }
@@ -110,8 +115,10 @@ impl Files {
     ) -> Result<(), B::Stop>
         requires range { IsRange (B.base memory.old) (B.size memory.old) address count }
         requires room { length self.old.output + count ≤ self.old.limit }
-        ensures ok { OnOk result (Ends B.step (loads_plan self.old.output (pieces address count)) memory.old memory.new self.new.output) }
-        ensures err { IfErr result (λ stop. Stops B.step (loads_plan self.old.output (pieces address count)) memory.old memory.new stop tt) }
+        ensures ok { OnOk result (Ends B.step (loads_plan self.old.output (pieces address count))
+            memory.old memory.new self.new.output) }
+        ensures err { IfErr result (λ stop. Stops B.step (loads_plan self.old.output (pieces address count))
+            memory.old memory.new stop tt) }
         ensures after { OnOk result (self.new ≡ record self.old { output = self.new.output }) }
         ensures unchanged { OnErr result (self.new ≡ self.old) }
         ensures base { B.base memory.new ≡ B.base memory.old }

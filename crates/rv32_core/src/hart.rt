@@ -1,10 +1,10 @@
 //! The core: registers, program counter, and the step.
 
-ghost use Rattle.std.specs.Prelude.{◌≡◌, ℕ, ◌+◌, ◌*◌, ◌%◌, ◌^◌, ◌<◌, ◌≤◌, List, length, replicate, slice_set, Option, Some, IfOk, IfErr, OnErr, IsTrue};
+ghost use Rattle.std.specs.Prelude.{◌≡◌, ◌+◌, ◌%◌, ◌^◌, ◌<◌, ◌≤◌, IfOk, IfErr, OnErr};
 ghost use Rattle.request_plan.specs.Plan.{Ends, Stops};
 ghost use Rattle.rv32_core.specs.Machine.{IsMemory, IsEffect, bits, sign_extended, core_at_start, effect_of, call_of, read_of, write_of, with_register, is_inside, is_buffer};
-ghost use Rattle.rv32_core.specs.FlatMachine.{flat_step, going_on, call_cost, trap_at};
-ghost use Rattle.rv32_core.specs.StepPlan.{machine_of, effect_plan, step_plan};
+ghost use Rattle.rv32_core.specs.FlatMachine.{going_on, call_cost, trap_at};
+ghost use Rattle.rv32_core.specs.StepPlan.{machine_of, effect_plan, step_plan, TellsStep};
 
 use crate::console::Files;
 use crate::effect::Effect;
@@ -61,9 +61,23 @@ impl Model for Core {
 
     ghost Value = { CoreState };
 
-    ghost view = { λ c. record { pc = c.pc; registers = c.registers; base = c.base; size = c.size; first_break = c.first_break; break_now = c.break_now } };
+    ghost view = { λ c. record {
+      pc = c.pc;
+      registers = c.registers;
+      base = c.base;
+      size = c.size;
+      first_break = c.first_break;
+      break_now = c.break_now;
+    } };
 
-    ghost invariant = { λ c. IsCore (record { pc = c.pc; registers = c.registers; base = c.base; size = c.size; first_break = c.first_break; break_now = c.break_now }) };
+    ghost invariant = { λ c. IsCore (record {
+      pc = c.pc;
+      registers = c.registers;
+      base = c.base;
+      size = c.size;
+      first_break = c.first_break;
+      break_now = c.break_now;
+    }) };
 }
 
 /// So many bits of a word, from the bit `low` on.
@@ -118,11 +132,13 @@ impl Core {
     pub fn step<B: Bytes>(&mut self, bytes: &mut B, files: &mut Files) -> Result<Done, B::Stop>
         requires base { B.base bytes.old ≡ self.old.base }
         requires size { B.size bytes.old ≡ self.old.size }
-        ensures ok { IfOk result (λ done. Ends B.step (step_plan (machine_of self.old files.old)) bytes.old bytes.new (machine_of self.new files.new, done)) }
-        ensures err { IfErr result (λ stop. Stops B.step (step_plan (machine_of self.old files.old)) bytes.old bytes.new stop (machine_of self.new files.new)) }
+        ensures ok { IfOk result (λ done. Ends B.step (step_plan (machine_of self.old files.old))
+            bytes.old bytes.new (machine_of self.new files.new, done)) }
+        ensures err { IfErr result (λ stop. Stops B.step (step_plan (machine_of self.old files.old))
+            bytes.old bytes.new stop (machine_of self.new files.new)) }
         ensures unchanged { OnErr result (machine_of self.new files.new ≡ machine_of self.old files.old) }
-        ensures told { IfOk result (λ done. (after : List ℕ) → B.told bytes.new ≡ Some after → (before : List ℕ) × (B.told bytes.old ≡ Some before)
-            × (flat_step (machine_of self.old files.old) before ≡ record { machine = machine_of self.new files.new; memory = after; done = done })) }
+        ensures told { IfOk result (λ done. TellsStep (machine_of self.old files.old) (B.told bytes.old)
+            (machine_of self.new files.new) (B.told bytes.new) done) }
         ensures same_base { self.new.base ≡ self.old.base }
         ensures same_size { self.new.size ≡ self.old.size }
         ensures bytes_base { B.base bytes.new ≡ B.base bytes.old }
@@ -135,8 +151,10 @@ impl Core {
     fn follow<B: Bytes>(&mut self, bytes: &mut B, files: &mut Files) -> Result<Done, B::Stop>
         requires base { B.base bytes.old ≡ self.old.base }
         requires size { B.size bytes.old ≡ self.old.size }
-        ensures ok { IfOk result (λ done. Ends B.step (step_plan (machine_of self.old files.old)) bytes.old bytes.new (machine_of self.new files.new, done)) }
-        ensures err { IfErr result (λ stop. Stops B.step (step_plan (machine_of self.old files.old)) bytes.old bytes.new stop (machine_of self.new files.new)) }
+        ensures ok { IfOk result (λ done. Ends B.step (step_plan (machine_of self.old files.old))
+            bytes.old bytes.new (machine_of self.new files.new, done)) }
+        ensures err { IfErr result (λ stop. Stops B.step (step_plan (machine_of self.old files.old))
+            bytes.old bytes.new stop (machine_of self.new files.new)) }
         ensures unchanged { OnErr result (machine_of self.new files.new ≡ machine_of self.old files.old) }
         ensures same_base { self.new.base ≡ self.old.base }
         ensures same_size { self.new.size ≡ self.old.size }
@@ -163,8 +181,10 @@ impl Core {
         requires size { B.size bytes.old ≡ self.old.size }
         requires below { self.old.base + self.old.size < 2 ^ 32 }
         requires effect { IsEffect (machine_of self.old files.old) effect }
-        ensures ok { IfOk result (λ done. Ends B.step (effect_plan (machine_of self.old files.old) effect) bytes.old bytes.new (machine_of self.new files.new, done)) }
-        ensures err { IfErr result (λ stop. Stops B.step (effect_plan (machine_of self.old files.old) effect) bytes.old bytes.new stop (machine_of self.new files.new)) }
+        ensures ok { IfOk result (λ done. Ends B.step (effect_plan (machine_of self.old files.old) effect)
+            bytes.old bytes.new (machine_of self.new files.new, done)) }
+        ensures err { IfErr result (λ stop. Stops B.step (effect_plan (machine_of self.old files.old) effect)
+            bytes.old bytes.new stop (machine_of self.new files.new)) }
         ensures unchanged { OnErr result (machine_of self.new files.new ≡ machine_of self.old files.old) }
         ensures same_base { self.new.base ≡ self.old.base }
         ensures same_size { self.new.size ≡ self.old.size }

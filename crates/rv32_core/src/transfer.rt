@@ -20,8 +20,10 @@ fn piece_length(address: u32, most: u32) -> u32
 /// Stores bytes from an address on. Where a store is stopped, those before it were made.
 pub(crate) fn store_all<B: Bytes>(memory: &mut B, address: u32, bytes: &[u8]) -> Result<(), B::Stop>
     requires { IsRange (B.base memory.old) (B.size memory.old) address (length bytes.now) }
-    ensures ok { OnOk result (Ends B.step (stores_plan bytes.now (pieces address (length bytes.now))) memory.old memory.new tt) }
-    ensures err { IfErr result (λ stop. Stops B.step (stores_plan bytes.now (pieces address (length bytes.now))) memory.old memory.new stop tt) }
+    ensures ok { OnOk result (Ends B.step (stores_plan bytes.now (pieces address (length bytes.now)))
+        memory.old memory.new tt) }
+    ensures err { IfErr result (λ stop. Stops B.step (stores_plan bytes.now (pieces address (length bytes.now)))
+        memory.old memory.new stop tt) }
     ensures base { B.base memory.new ≡ B.base memory.old }
     ensures size { B.size memory.new ≡ B.size memory.old }
 {
@@ -72,8 +74,10 @@ pub(crate) fn load_all<B: Bytes>(
 ) -> Result<(), B::Stop>
     requires range { IsRange (B.base memory.old) (B.size memory.old) address count }
     requires room { vec_len output.old + count ≤ vec_capacity output.old }
-    ensures ok { OnOk result (Ends B.step (loads_plan output.old.items (pieces address count)) memory.old memory.new output.new.items) }
-    ensures err { IfErr result (λ stop. Stops B.step (loads_plan output.old.items (pieces address count)) memory.old memory.new stop tt) }
+    ensures ok { OnOk result (Ends B.step (loads_plan output.old.items (pieces address count))
+        memory.old memory.new output.new.items) }
+    ensures err { IfErr result (λ stop. Stops B.step (loads_plan output.old.items (pieces address count))
+        memory.old memory.new stop tt) }
     ensures len { OnOk result (vec_len output.new ≡ vec_len output.old + count) }
     ensures before { take (vec_len output.old) output.new.items ≡ output.old.items }
     ensures capacity { vec_capacity output.old ≤ vec_capacity output.new }
