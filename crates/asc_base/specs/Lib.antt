@@ -1,1 +1,4 @@
+pub mod Greatest
 pub mod Memory
+pub mod Shape
+pub mod TreeShape
