@@ -22,8 +22,8 @@ pub greatest-le : (holds : ℕ → Bool) (bound : ℕ) → greatest holds bound 
 greatest-le holds zero = omega (arith, greatest-zero holds)
 greatest-le holds (suc bound) =
     elim (cases_Bool (holds (suc bound))) [
-      inl found ↦ omega (arith, greatest-suc_true holds bound found)
-    | inr other ↦ omega (arith, greatest-suc_false holds bound other, greatest-le holds bound)
+      | inl found ↦ omega (arith, greatest-suc_true holds bound found)
+      | inr other ↦ omega (arith, greatest-suc_false holds bound other, greatest-le holds bound)
     ]
 
 -- the test holds at the greatest number, unless that is 0
@@ -32,8 +32,8 @@ pub greatest_found : (holds : ℕ → Bool) (bound : ℕ)
 greatest_found holds zero = inl (greatest-zero holds)
 greatest_found holds (suc bound) =
     elim (cases_Bool (holds (suc bound))) [
-      inl found ↦ inr (rw (greatest-suc_true holds bound found) found)
-    | inr other ↦ rw (greatest-suc_false holds bound other) (greatest_found holds bound)
+      | inl found ↦ inr (rw (greatest-suc_true holds bound found) found)
+      | inr other ↦ rw (greatest-suc_false holds bound other) (greatest_found holds bound)
     ]
 
 -- and at none above it
@@ -41,10 +41,10 @@ pub greatest_above : (holds : ℕ → Bool) (bound j : ℕ) → greatest holds b
 greatest_above holds zero j above within = absurd (omega arith)
 greatest_above holds (suc bound) j above within =
     elim (cases_Bool (holds (suc bound))) [
-      inl found ↦ absurd (omega (arith, greatest-suc_true holds bound found))
-    | inr other ↦ elim (cases_lt j (suc bound)) [
-        inl below ↦ greatest_above holds bound j (omega (arith, greatest-suc_false holds bound other)) (omega arith)
-      | inr last ↦ (let same : j ≡ suc bound = omega arith in rw same other)
+      | inl found ↦ absurd (omega (arith, greatest-suc_true holds bound found))
+      | inr other ↦ elim (cases_lt j (suc bound)) [
+        | inl below ↦ greatest_above holds bound j (omega (arith, greatest-suc_false holds bound other)) (omega arith)
+        | inr last ↦ (let same : j ≡ suc bound = omega arith in rw same other)
       ]
     ]
 
@@ -53,16 +53,16 @@ pub greatest_is : (holds : ℕ → Bool) (bound k : ℕ) → k ≤ bound → (k 
     → ((j : ℕ) → k < j → j ≤ bound → holds j ≡ false) → greatest holds bound ≡ k
 greatest_is holds bound k within here above =
     elim (cases_lt (greatest holds bound) k) [
-      inl under ↦ elim here [
-        inl none ↦ absurd (omega arith)
-      | inr found ↦ (let missed : holds k ≡ false = greatest_above holds bound k under within in cc)
+      | inl under ↦ elim here [
+        | inl none ↦ absurd (omega arith)
+        | inr found ↦ (let missed : holds k ≡ false = greatest_above holds bound k under within in cc)
       ]
-    | inr over ↦ elim (cases_lt k (greatest holds bound)) [
-        inl beyond ↦ elim (greatest_found holds bound) [
-          inl none ↦ absurd (omega arith)
-        | inr found ↦ (let missed : holds (greatest holds bound) ≡ false = above (greatest holds bound) beyond (greatest-le holds bound) in cc)
+      | inr over ↦ elim (cases_lt k (greatest holds bound)) [
+        | inl beyond ↦ elim (greatest_found holds bound) [
+          | inl none ↦ absurd (omega arith)
+          | inr found ↦ (let missed : holds (greatest holds bound) ≡ false = above (greatest holds bound) beyond (greatest-le holds bound) in cc)
         ]
-      | inr same ↦ omega arith
+        | inr same ↦ omega arith
       ]
     ]
 
@@ -85,8 +85,8 @@ pub least-le : (holds : ℕ → Bool) (bound : ℕ) → least holds bound ≤ bo
 least-le holds zero = omega (arith, least-zero holds)
 least-le holds (suc bound) =
     elim (cases_Bool (holds 0)) [
-      inl found ↦ omega (arith, least-suc_true holds bound found)
-    | inr other ↦ omega (arith, least-suc_false holds bound other, least-le (λ k. holds (suc k)) bound)
+      | inl found ↦ omega (arith, least-suc_true holds bound found)
+      | inr other ↦ omega (arith, least-suc_false holds bound other, least-le (λ k. holds (suc k)) bound)
     ]
 
 -- the test holds at the least number, unless that is the bound
@@ -94,10 +94,10 @@ pub least_found : (holds : ℕ → Bool) (bound : ℕ) → (least holds bound �
 least_found holds zero = inl (least-zero holds)
 least_found holds (suc bound) =
     elim (cases_Bool (holds 0)) [
-      inl found ↦ inr (rw (least-suc_true holds bound found) found)
-    | inr other ↦ rw (least-suc_false holds bound other) (elim (least_found (λ k. holds (suc k)) bound) [
-        inl last ↦ inl (ap suc last)
-      | inr found ↦ inr found
+      | inl found ↦ inr (rw (least-suc_true holds bound found) found)
+      | inr other ↦ rw (least-suc_false holds bound other) (elim (least_found (λ k. holds (suc k)) bound) [
+        | inl last ↦ inl (ap suc last)
+        | inr found ↦ inr found
       ])
     ]
 
@@ -106,13 +106,13 @@ pub least_below : (holds : ℕ → Bool) (bound j : ℕ) → j < least holds bou
 least_below holds zero j below = absurd (omega (arith, least-zero holds))
 least_below holds (suc bound) zero below =
     elim (cases_Bool (holds 0)) [
-      inl found ↦ absurd (omega (arith, least-suc_true holds bound found))
-    | inr other ↦ other
+      | inl found ↦ absurd (omega (arith, least-suc_true holds bound found))
+      | inr other ↦ other
     ]
 least_below holds (suc bound) (suc j) below =
     elim (cases_Bool (holds 0)) [
-      inl found ↦ absurd (omega (arith, least-suc_true holds bound found))
-    | inr other ↦ least_below (λ k. holds (suc k)) bound j (omega (arith, least-suc_false holds bound other))
+      | inl found ↦ absurd (omega (arith, least-suc_true holds bound found))
+      | inr other ↦ least_below (λ k. holds (suc k)) bound j (omega (arith, least-suc_false holds bound other))
     ]
 
 -- a number is the least, where the test holds at it and at none below it
@@ -120,13 +120,13 @@ pub least_is : (holds : ℕ → Bool) (bound k : ℕ) → k ≤ bound → holds 
     → ((j : ℕ) → j < k → holds j ≡ false) → least holds bound ≡ k
 least_is holds bound k within here below =
     elim (cases_lt (least holds bound) k) [
-      inl under ↦ elim (least_found holds bound) [
-        inl last ↦ absurd (omega arith)
-      | inr found ↦ (let missed : holds (least holds bound) ≡ false = below (least holds bound) under in cc)
+      | inl under ↦ elim (least_found holds bound) [
+        | inl last ↦ absurd (omega arith)
+        | inr found ↦ (let missed : holds (least holds bound) ≡ false = below (least holds bound) under in cc)
       ]
-    | inr over ↦ elim (cases_lt k (least holds bound)) [
-        inl beyond ↦ (let missed : holds k ≡ false = least_below holds bound k beyond in cc)
-      | inr same ↦ omega arith
+      | inr over ↦ elim (cases_lt k (least holds bound)) [
+        | inl beyond ↦ (let missed : holds k ≡ false = least_below holds bound k beyond in cc)
+        | inr same ↦ omega arith
       ]
     ]
 
@@ -135,9 +135,12 @@ pub least_holds : (holds : ℕ → Bool) (bound k : ℕ) → k ≤ bound → hol
     → (least holds bound ≤ k) × (holds (least holds bound) ≡ true)
 least_holds holds bound k within here =
     elim (cases_lt k (least holds bound)) [
-      inl beyond ↦ (let missed : holds k ≡ false = least_below holds bound k beyond in cc)
-    | inr up_to ↦ (up_to, elim (least_found holds bound) [
-        inl last ↦ (let same : least holds bound ≡ k = omega arith in rw same here)
-      | inr found ↦ found
-      ])
+      | inl beyond ↦ (let missed : holds k ≡ false = least_below holds bound k beyond in cc)
+      | inr up_to ↦ (
+        up_to,
+        elim (least_found holds bound) [
+          | inl last ↦ (let same : least holds bound ≡ k = omega arith in rw same here)
+          | inr found ↦ found
+        ],
+      )
     ]

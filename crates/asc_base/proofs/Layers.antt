@@ -1,8 +1,8 @@
 -- Layers: their counts, their addresses, and the one in which a block is.
-use Rattle.std.specs.Prelude.{nat_le}
+use Rattle.std.specs.Prelude.{nat_le, ◌==◌, ◌≢◌, min, Option, Some, None}
 use Rattle.std.proofs.Common.{◌≡◌, ℕ, zero, suc, ◌+◌, ◌-◌, ◌*◌, ◌/◌, ◌<◌, ◌≤◌, ◌⊎◌, refl, ap, inl, inr, arith, add-one, true, false}
-use Rattle.std.proofs.lemmas.Bool.{cases_lt, le-leb, lt-leb, leb-true, leb-false}
-use Rattle.asc_base.specs.TreeShape.{layer_count, layer_first, layer_of, index_of, IsInLayer}
+use Rattle.std.proofs.lemmas.Bool.{cases_lt, le-leb, lt-leb, leb-true, leb-false, eq-eqb, ne_eqb}
+use Rattle.asc_base.specs.TreeShape.{layer_count, layer_first, layer_of, index_of, parent_of, children_of, IsInLayer}
 use Rattle.asc_base.specs.Greatest.{greatest}
 use Rattle.asc_base.proofs.Extremes.{greatest_is, greatest-le, greatest_found, greatest_above}
 
@@ -34,8 +34,8 @@ unfolding layer_first
 layer_first-le lines low zero within = (let same : low ≡ 0 = omega arith in rw same (omega arith))
 layer_first-le lines low (suc high) within =
     elim (cases_lt low (suc high)) [
-      inl below ↦ omega (arith, layer_first-le lines low high (omega arith))
-    | inr last ↦ (let same : low ≡ suc high = omega arith in rw same (omega arith))
+      | inl below ↦ omega (arith, layer_first-le lines low high (omega arith))
+      | inr last ↦ (let same : low ≡ suc high = omega arith in rw same (omega arith))
     ]
 
 -- a block is in one layer alone, which is its layer
@@ -44,24 +44,27 @@ pub layer_of_is : (lines layers layer address : ℕ) → layer < layers → IsIn
 unfolding layer_of
 layer_of_is lines layers layer address within inside =
     greatest_is _ (layers - 1) layer (omega arith) (inr (le-leb _ _ inside.from))
-      (λ j over up_to. lt-leb _ _ (omega (arith, layer_first-le lines (layer + 1) j (omega arith), inside.below)))
+    (λ j over up_to. lt-leb _ _ (omega (arith, layer_first-le lines (layer + 1) j (omega arith), inside.below)))
 
 -- blocks are in layers
 pub some_layer : (lines layers address : ℕ) → address < layer_first lines layers → 0 < layers
 some_layer lines layers address below =
     elim (cases_lt 0 layers) [
-      inl some ↦ some
-    | inr none ↦
-      (let same : layers ≡ 0 = omega arith in
-      absurd (omega (arith, layer_first-zero lines, ap (layer_first lines) same)))
+      | inl some ↦ some
+      | inr none ↦
+          (let same : layers ≡ 0 = omega arith in
+          absurd (omega (arith, layer_first-zero lines, ap (layer_first lines) same)))
     ]
 
 -- the layer of a block is one of the layers
 pub layer_of-lt : (lines layers address : ℕ) → address < layer_first lines layers → layer_of lines layers address < layers
 unfolding layer_of
 layer_of-lt lines layers address below =
-    omega (arith, some_layer lines layers address below,
-      greatest-le (λ layer. nat_le (layer_first lines layer) address) (layers - 1))
+    omega (
+      arith,
+      some_layer lines layers address below,
+      greatest-le (λ layer. nat_le (layer_first lines layer) address) (layers - 1),
+    )
 
 -- and the block is in it
 layer_of_starts : (lines layers address : ℕ) → address < layer_first lines layers
@@ -69,8 +72,8 @@ layer_of_starts : (lines layers address : ℕ) → address < layer_first lines l
 unfolding layer_of
 layer_of_starts lines layers address below =
     elim (greatest_found (λ layer. nat_le (layer_first lines layer) address) (layers - 1)) [
-      inl lowest ↦ rw lowest (omega (arith, layer_first-zero lines))
-    | inr found ↦ leb-true _ _ found
+      | inl lowest ↦ rw lowest (omega (arith, layer_first-zero lines))
+      | inr found ↦ leb-true _ _ found
     ]
 
 layer_of_ends : (lines layers address : ℕ) → address < layer_first lines layers
@@ -79,13 +82,13 @@ unfolding layer_of
 layer_of_ends lines layers address below =
     let some = some_layer lines layers address below in
     elim (cases_lt (greatest (λ layer. nat_le (layer_first lines layer) address) (layers - 1)) (layers - 1)) [
-      inl under ↦
-        leb-false _ _ (greatest_above (λ layer. nat_le (layer_first lines layer) address) (layers - 1)
+      | inl under ↦
+          leb-false _ _ (greatest_above (λ layer. nat_le (layer_first lines layer) address) (layers - 1)
           (greatest (λ layer. nat_le (layer_first lines layer) address) (layers - 1) + 1) (omega arith) (omega arith))
-    | inr top ↦
-      (let same : greatest (λ layer. nat_le (layer_first lines layer) address) (layers - 1) + 1 ≡ layers =
+      | inr top ↦
+          (let same : greatest (λ layer. nat_le (layer_first lines layer) address) (layers - 1) + 1 ≡ layers =
           omega (arith, greatest-le (λ layer. nat_le (layer_first lines layer) address) (layers - 1)) in
-      rw same below)
+          rw same below)
     ]
 
 pub layer_of_in : (lines layers address : ℕ) → address < layer_first lines layers
@@ -136,7 +139,7 @@ small_layers lines within =
       second = omega arith;
       third = omega arith;
       fourth = omega arith;
-      total = omega arith
+      total = omega arith;
     }
 
 -- while a layer has more than one block, the next has fewer
@@ -146,9 +149,42 @@ unfolding layer_count
 count_falls lines zero some = inr (omega arith)
 count_falls lines (suc layer) some =
     elim (count_falls lines layer some) [
-      inl one ↦ inl (omega arith)
-    | inr low ↦ elim (cases_lt 1 (layer_count lines layer)) [
-        inl more ↦ inr (omega arith)
-      | inr one ↦ inl (omega arith)
+      | inl one ↦ inl (omega arith)
+      | inr low ↦ elim (cases_lt 1 (layer_count lines layer)) [
+        | inl more ↦ inr (omega arith)
+        | inr one ↦ inl (omega arith)
       ]
     ]
+
+-- the parent of a block below the top layer, and none of the others
+pub parent_of-top : (lines layers address layer : ℕ) → layer ≡ layer_of lines layers address → layer + 1 ≡ layers
+    → parent_of lines layers address ≡ None
+unfolding parent_of
+parent_of-top lines layers address layer same top =
+    let last : (layer_of lines layers address + 1 == layers) ≡ true = eq-eqb _ _ (omega arith) in
+    rw last
+
+pub parent_of-below : (lines layers address layer : ℕ) → layer ≡ layer_of lines layers address → layer + 1 ≢ layers
+    → parent_of lines layers address ≡ Some (layer_first lines (layer + 1) + index_of lines layers address / 32)
+unfolding parent_of
+parent_of-below lines layers address layer same under =
+    let other : (layer_of lines layers address + 1 == layers) ≡ false = ne_eqb _ _ (λ e. under (omega arith)) in
+    rw (same, other)
+
+-- the children of a block above layer 0, and none of a data line
+pub children_of-line : (lines layers address layer : ℕ) → layer ≡ layer_of lines layers address → layer ≡ 0
+    → children_of lines layers address ≡ None
+unfolding children_of
+children_of-line lines layers address layer same line =
+    let lowest : (layer_of lines layers address == 0) ≡ true = eq-eqb _ _ (omega arith) in
+    rw lowest
+
+pub children_of-above : (lines layers address layer : ℕ) → layer ≡ layer_of lines layers address → layer ≢ 0
+    → children_of lines layers address ≡ Some (
+      layer_first lines (layer - 1) + 32 * index_of lines layers address,
+      min 32 (layer_count lines (layer - 1) - 32 * index_of lines layers address),
+    )
+unfolding children_of
+children_of-above lines layers address layer same over =
+    let other : (layer_of lines layers address == 0) ≡ false = ne_eqb _ _ (λ e. over (omega arith)) in
+    rw (same, other)

@@ -29,23 +29,23 @@ pub levels_of_is : (total levels : ℕ) → IsLevel total levels → levels_of t
 unfolding levels_of
 levels_of_is total levels h =
     elim (cases_lt levels 2) [
-      inl lowest ↦ elim (greatest_found (fits total) total) [
-        inl none ↦ omega (arith, h.some)
-      | inr found ↦ elim (cases_lt (greatest (fits total) total) 2) [
-          inl low ↦ omega (arith, h.some)
-        | inr high ↦ (let room = leb-true _ _ found in
-          let more : 2 ^ (levels + 2) ≤ 2 ^ (greatest (fits total) total + 1) = pow_mono (omega arith) in
-          absurd (omega (arith, h.greatest, room)))
+      | inl lowest ↦ elim (greatest_found (fits total) total) [
+        | inl none ↦ omega (arith, h.some)
+        | inr found ↦ elim (cases_lt (greatest (fits total) total) 2) [
+          | inl low ↦ omega (arith, h.some)
+          | inr high ↦ (let room = leb-true _ _ found in
+              let more : 2 ^ (levels + 2) ≤ 2 ^ (greatest (fits total) total + 1) = pow_mono (omega arith) in
+              absurd (omega (arith, h.greatest, room)))
         ]
       ]
-    | inr higher ↦ elim h.room [
-        inl one ↦ absurd (omega arith)
-      | inr room ↦
-        (let within : levels ≤ total = omega (arith, lt-pow levels, pow_mono {i = levels} {j = levels + 1} (omega arith)) in
-        let same : greatest (fits total) total ≡ levels =
+      | inr higher ↦ elim h.room [
+        | inl one ↦ absurd (omega arith)
+        | inr room ↦
+            (let within : levels ≤ total = omega (arith, lt-pow levels, pow_mono {i = levels} {j = levels + 1} (omega arith)) in
+            let same : greatest (fits total) total ≡ levels =
             greatest_is (fits total) total levels within (inr (le-leb _ _ room))
-              (λ j over up_to. lt-leb _ _ (omega (arith, h.greatest, pow_mono {i = levels + 2} {j = j + 1} (omega arith)))) in
-        omega arith)
+            (λ j over up_to. lt-leb _ _ (omega (arith, h.greatest, pow_mono {i = levels + 2} {j = j + 1} (omega arith)))) in
+            omega arith)
       ]
     ]
 
@@ -54,21 +54,21 @@ unfolding levels_of
 levels_of_level total = record {
   some = omega arith;
   room = elim (greatest_found (fits total) total) [
-      inl none ↦ inl (omega arith)
+    | inl none ↦ inl (omega arith)
     | inr found ↦ elim (cases_lt (greatest (fits total) total) 1) [
-        inl low ↦ inl (omega arith)
+      | inl low ↦ inl (omega arith)
       | inr high ↦
-        (let same : max 1 (greatest (fits total) total) ≡ greatest (fits total) total = omega arith in
-        inr (rw same (leb-true _ _ found)))
-      ]
-    ];
-  greatest = elim (cases_lt total (max 1 (greatest (fits total) total) + 1)) [
-      inl few ↦ omega (arith, lt-pow (max 1 (greatest (fits total) total) + 2))
-    | inr many ↦
-      (let out = greatest_above (fits total) total (max 1 (greatest (fits total) total) + 1) (omega arith) (omega arith) in
-      let less = leb-false _ _ out in
-      let more : 2 ^ (max 1 (greatest (fits total) total) + 1 + 1) ≤ 2 ^ (max 1 (greatest (fits total) total) + 2) =
-          pow_mono (omega arith) in
-      omega (arith, less, more))
+          (let same : max 1 (greatest (fits total) total) ≡ greatest (fits total) total = omega arith in
+          inr (rw same (leb-true _ _ found)))
     ]
+  ];
+  greatest = elim (cases_lt total (max 1 (greatest (fits total) total) + 1)) [
+    | inl few ↦ omega (arith, lt-pow (max 1 (greatest (fits total) total) + 2))
+    | inr many ↦
+        (let out = greatest_above (fits total) total (max 1 (greatest (fits total) total) + 1) (omega arith) (omega arith) in
+        let less = leb-false _ _ out in
+        let more : 2 ^ (max 1 (greatest (fits total) total) + 1 + 1) ≤ 2 ^ (max 1 (greatest (fits total) total) + 2) =
+        pow_mono (omega arith) in
+        omega (arith, less, more))
+  ];
 }

@@ -33,11 +33,11 @@ pub record IsLayered (shape : Shape) : Type 0 where
 pub level_to : (total levels : ℕ) → total ≤ 270601 → IsLevel total levels → levels ≤ 17
 level_to total levels few h =
     elim (cases_lt 17 levels) [
-      inl deep ↦ elim h.room [
-        inl one ↦ absurd (omega arith)
-      | inr room ↦ absurd (omega (arith, room, pow_mono {i = 19} {j = levels + 1} (omega arith)))
+      | inl deep ↦ elim h.room [
+        | inl one ↦ absurd (omega arith)
+        | inr room ↦ absurd (omega (arith, room, pow_mono {i = 19} {j = levels + 1} (omega arith)))
       ]
-    | inr flat ↦ flat
+      | inr flat ↦ flat
     ]
 
 -- the top layer is one of five, and has at most so many blocks as roots
@@ -46,15 +46,15 @@ pub top_layer-le : (lines roots : ℕ) → 1 ≤ lines → lines ≤ 262144 → 
 unfolding top_layer
 top_layer-le lines roots some within rooted =
     elim (cases_lt lines 4) [
-      inl few ↦
-        (let low = least_holds (λ layer. nat_le (layer_count lines layer) roots) lines 1 (omega arith)
-            (le-leb _ _ (omega (arith, layer_count-next lines 0, layer_count-zero lines))) in
-        (omega (arith, low.0), leb-true _ _ low.1))
-    | inr many ↦
-      (let small = small_layers lines within in
-      let low = least_holds (λ layer. nat_le (layer_count lines layer) roots) lines 4 many
+      | inl few ↦
+          (let low = least_holds (λ layer. nat_le (layer_count lines layer) roots) lines 1 (omega arith)
+          (le-leb _ _ (omega (arith, layer_count-next lines 0, layer_count-zero lines))) in
+          (omega (arith, low.0), leb-true _ _ low.1))
+      | inr many ↦
+          (let small = small_layers lines within in
+          let low = least_holds (λ layer. nat_le (layer_count lines layer) roots) lines 4 many
           (le-leb _ _ (omega (arith, small.fourth))) in
-      (low.0, leb-true _ _ low.1))
+          (low.0, leb-true _ _ low.1))
     ]
 
 -- the top layer is the one with at most so many blocks, where all below have more
@@ -64,13 +64,13 @@ pub top_layer_is : (lines roots layer : ℕ) → 1 ≤ lines → 1 ≤ roots
 unfolding top_layer
 top_layer_is lines roots layer some rooted fits more =
     elim (cases_lt lines layer) [
-      inl far ↦ elim (count_falls lines lines some) [
-        inl one ↦ absurd (omega (arith, more lines far))
-      | inr low ↦ absurd (omega (arith, layer_count-pos lines lines some))
+      | inl far ↦ elim (count_falls lines lines some) [
+        | inl one ↦ absurd (omega (arith, more lines far))
+        | inr low ↦ absurd (omega (arith, layer_count-pos lines lines some))
       ]
-    | inr near ↦
-      least_is (λ layer. nat_le (layer_count lines layer) roots) lines layer near (le-leb _ _ fits)
-        (λ low below. lt-leb _ _ (more low below))
+      | inr near ↦
+          least_is (λ layer. nat_le (layer_count lines layer) roots) lines layer near (le-leb _ _ fits)
+          (λ low below. lt-leb _ _ (more low below))
     ]
 
 pub shape_of_layered : (lines roots : ℕ) → 1 ≤ lines → lines ≤ 262144 → 1 ≤ roots → IsLayered (shape_of lines roots)
@@ -81,7 +81,7 @@ shape_of_layered lines roots some within rooted =
     let level = levels_of_level (layer_first lines (top_layer lines roots + 1)) in
     let total = layer_first-le lines (top_layer lines roots + 1) 5 (omega (arith, top.0)) in
     let most : levels_of (layer_first lines (top_layer lines roots + 1)) ≤ 17 =
-        level_to (layer_first lines (top_layer lines roots + 1)) _ (omega (arith, total, small.total)) level in
+    level_to (layer_first lines (top_layer lines roots + 1)) _ (omega (arith, total, small.total)) level in
     let buckets = pow_mono {i = levels_of (layer_first lines (top_layer lines roots + 1)) + 1} {j = 18} (omega arith) in
     let some_buckets = pow_pos (levels_of (layer_first lines (top_layer lines roots + 1)) + 1) in
     record {
@@ -89,8 +89,13 @@ shape_of_layered lines roots some within rooted =
       lines_to = within;
       layers_from = omega arith;
       layers_to = omega (arith, top.0);
-      total_from = omega (arith, layer_first-le lines 1 (top_layer lines roots + 1) (omega arith),
-        layer_first-next lines 0, layer_first-zero lines, layer_count-zero lines);
+      total_from = omega (
+        arith,
+        layer_first-le lines 1 (top_layer lines roots + 1) (omega arith),
+        layer_first-next lines 0,
+        layer_first-zero lines,
+        layer_count-zero lines,
+      );
       total_to = omega (arith, total, small.total);
       total = refl;
       firsts = λ layer below. get_or-places (layer_first lines) (top_layer lines roots + 1) layer below (omega (arith, top.0));
@@ -99,7 +104,7 @@ shape_of_layered lines roots some within rooted =
       levels_from = level.some;
       levels_to = most;
       buckets = omega (arith, some_buckets);
-      buckets_to = omega (arith, buckets, some_buckets)
+      buckets_to = omega (arith, buckets, some_buckets);
     }
 
 -- what is known of a shape

@@ -18,7 +18,7 @@ layered lines layers = record {
   counts = places_of (layer_count lines) layers;
   levels = levels_of (layer_first lines layers);
   total = layer_first lines layers;
-  buckets = buckets_of (levels_of (layer_first lines layers))
+  buckets = buckets_of (levels_of (layer_first lines layers));
 }
 
 -- the shape of so many lines under at most so many roots

@@ -61,8 +61,10 @@ child_index_of lines layers address = index_of lines layers address % 32
 unfoldable pub children_of : ℕ → ℕ → ℕ → Option (ℕ × ℕ)
 children_of lines layers address =
     (if layer_of lines layers address == 0 then None
-    else Some (layer_first lines (layer_of lines layers address - 1) + 32 * index_of lines layers address,
-        min 32 (layer_count lines (layer_of lines layers address - 1) - 32 * index_of lines layers address)))
+    else Some (
+      layer_first lines (layer_of lines layers address - 1) + 32 * index_of lines layers address,
+      min 32 (layer_count lines (layer_of lines layers address - 1) - 32 * index_of lines layers address),
+    ))
 
 -- the bucket at a level of the path to a leaf, where the leaves are at level `levels`
 unfoldable pub bucket_of : ℕ → ℕ → ℕ → ℕ

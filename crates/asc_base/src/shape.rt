@@ -182,6 +182,7 @@ impl Layers {
         ensures firsts { result.firsts ≡ places_of (layer_first lines) result.layers }
         ensures counts { result.counts ≡ places_of (layer_count lines) result.layers }
         ensures total { result.total ≡ layer_first lines result.layers }
+        ensures few { result.total ≤ 270601 }
     {
         let mut top = 0;
         let mut firsts = [0; 5];
@@ -205,7 +206,8 @@ impl Layers {
 /// The level of the leaves of a tree over so many blocks.
 fn levels_under(total: u32) -> u32
     requires { total ≤ 270601 }
-    ensures { result ≡ levels_of total }
+    ensures level { result ≡ levels_of total }
+    ensures few { result ≤ 17 }
 {
     let mut levels = 1;
     while 1 << (levels + 2) <= total {

@@ -8,7 +8,7 @@ invariant-loop-counts l = record {
   one_of_five : l.top ≤ 4;
   firsts : l.firsts ≡ places_of (layer_first l.lines) (l.top + 1);
   counts : l.counts ≡ places_of (layer_count l.lines) (l.top + 1);
-  more : (low : ℕ) → low < l.top → l.roots < layer_count l.lines low
+  more : (low : ℕ) → low < l.top → l.roots < layer_count l.lines low;
 }
 
 abbrev pub decreases-loop-counts : goal.decreases-loop-counts
