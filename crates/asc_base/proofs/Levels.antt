@@ -72,3 +72,12 @@ levels_of_level total = record {
         omega (arith, less, more))
   ];
 }
+
+-- no greater level has so many buckets above its leaves
+pub levels_of-ge : (total level : ℕ) → 2 ^ (level + 1) ≤ total → level ≤ levels_of total
+levels_of-ge total level room =
+    elim (cases_lt (levels_of total) level) [
+      inl deeper ↦
+        absurd (omega (arith, (levels_of_level total).greatest, pow_mono {i = levels_of total + 2} {j = level + 1} (omega arith)))
+    | inr within ↦ within
+    ]

@@ -1,4 +1,5 @@
 pub mod Extremes
+pub mod Families
 pub mod Layers
 pub mod Levels
 pub mod Paths

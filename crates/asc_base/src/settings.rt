@@ -1,3 +1,9 @@
+ghost use Rattle.std.specs.Prelude.{◌≡◌, ℕ, ◌+◌, ◌/◌, ◌<◌, ◌≤◌, ◌↔◌, IsTrue, IsNone, IfSome, IsOk, IfOk, Err, take};
+ghost use Rattle.std.specs.List.Sorted.{IsStrictlyIncreasing};
+ghost use Rattle.asc_base.specs.declared.settings.Setting.{Setting as SettingValue};
+ghost use Rattle.asc_base.specs.Shape.{IsShape, shape_of};
+ghost use Rattle.asc_base.specs.Settings.{IsPowerTo, IsFromTo, AreRates, InRange, AreBefore, AreAllowed, IsFirstFault, IsConfig, greatest_rate, narrow_rates, config_of};
+
 use crate::shape::Shape;
 
 /// The rates of a configuration: the cycles from a slot's end to the next slot's start.
@@ -117,4 +123,196 @@ pub struct Config {
     pub epoch: u64,
     /// The shape of the tree: that of `size / 64` lines.
     pub shape: Shape,
+}
+
+/// The settings in the order in which they are tested.
+const TABLE: [Setting; 14] = [
+    Setting::Size,
+    Setting::Base,
+    Setting::Sets,
+    Setting::Ways,
+    Setting::Plb,
+    Setting::Roots,
+    Setting::Ic,
+    Setting::Stash,
+    Setting::Budget,
+    Setting::Time,
+    Setting::Leak,
+    Setting::Rates,
+    Setting::First,
+    Setting::Epoch,
+];
+
+impl Config {
+    /// The configuration with these settings, and the shape of `size / 64` lines under `roots`.
+    ///
+    /// Err exactly where a setting isn't in its range; it names the first, in the order of the fields of `Settings`.
+    pub fn check(settings: &Settings) -> Result<Config, Setting>
+        ensures fault { (setting : SettingValue) → (result ≡ Err setting) ↔ IsFirstFault settings.now setting }
+        ensures allowed { IsOk result ↔ AreAllowed settings.now }
+        ensures config { IfOk result (λ config. config ≡ config_of settings.now) }
+        ensures is_config { IfOk result IsConfig }
+    {
+        if let Some(fault) = settings.first_fault() {
+            return Err(fault);
+        }
+        Ok(settings.config())
+    }
+}
+
+impl Settings {
+    /// The first setting that isn't in its range, and none where all are.
+    fn first_fault(&self) -> Option<Setting>
+        ensures none { IsNone result → AreAllowed self.now }
+        ensures first { IfSome result (IsFirstFault self.now) }
+    {
+        for setting in TABLE {
+            if !self.allows(setting) {
+                return Some(setting);
+            }
+        }
+        None
+    }
+
+    /// Whether a setting is in its range.
+    fn allows(&self, setting: Setting) -> bool
+        requires { AreBefore self.now setting }
+        ensures { IsTrue result ↔ InRange self.now setting }
+    {
+        match setting {
+            Setting::Size => is_from_to(self.size, 4_096, 16_777_216) && self.size % 4_096 == 0,
+            Setting::Base => self.base % 4_096 == 0 && self.base <= 4_294_901_760 - self.size,
+            Setting::Sets => is_power_to(self.sets, 10),
+            Setting::Ways => is_from_to(self.ways, 1, 16),
+            Setting::Plb => is_from_to(self.plb, 1, 4_096),
+            Setting::Roots => is_from_to(self.roots, 1, 4_096),
+            Setting::Ic => is_from_to(self.ic, 2, 14),
+            Setting::Stash => self.stash <= 4_096,
+            Setting::Budget => self.budget <= 1_000_000_000,
+            Setting::Time => is_from_to(self.time, 1, 268_435_456),
+            Setting::Leak => self.leak <= 60,
+            Setting::Rates => self.rates.are_allowed(),
+            Setting::First => self.first < self.rates.count as u64,
+            Setting::Epoch => self.allows_epoch(),
+        }
+    }
+
+    /// Whether the first epoch is in its range.
+    fn allows_epoch(&self) -> bool
+        requires { AreBefore self.now Setting.Epoch }
+        ensures { IsTrue result ↔ InRange self.now Setting.Epoch }
+    {
+        let shape = self.shape();
+        is_from_to(
+            self.epoch,
+            shape.olat() + self.rates.greatest(),
+            268_435_456,
+        )
+    }
+
+    /// The shape of the tree: that of `size / 64` lines.
+    fn shape(&self) -> Shape
+        requires size { InRange self.now Setting.Size }
+        requires roots { InRange self.now Setting.Roots }
+        ensures shape { result ≡ shape_of (self.now.size / 64) self.now.roots }
+        ensures is_shape { IsShape result }
+    {
+        match Shape::new((self.size / 64) as u32, self.roots as u32) {
+            Some(shape) => shape,
+            None => unreachable!(),
+        }
+    }
+
+    /// The configuration of settings that are all in their ranges.
+    fn config(&self) -> Config
+        requires { AreAllowed self.now }
+        ensures config { result ≡ config_of self.now }
+        ensures is_config { IsConfig result }
+    {
+        let rates = self.rates.narrowed();
+        let shape = self.shape();
+        Config {
+            size: self.size as u32,
+            base: self.base as u32,
+            sets: self.sets as u32,
+            ways: self.ways as u32,
+            plb: self.plb as u32,
+            roots: self.roots as u32,
+            ic: self.ic as u32,
+            stash: self.stash as u32,
+            budget: self.budget,
+            time: self.time,
+            leak: self.leak as u32,
+            rates,
+            first: self.first as u32,
+            epoch: self.epoch,
+            shape,
+        }
+    }
+}
+
+impl WideRates {
+    /// Whether these are 1, 2, 4, 8 or 16 strictly rising numbers from 64 to 1,048,576.
+    fn are_allowed(&self) -> bool
+        ensures { IsTrue result ↔ AreRates self.now.list self.now.count }
+    {
+        if !is_power_to(self.count as u64, 4) {
+            return false;
+        }
+        let rates = &self.list[..self.count as usize];
+        rise(rates) && rates.iter().all(|rate| is_from_to(*rate, 64, 1_048_576))
+    }
+
+    /// The greatest rate.
+    fn greatest(&self) -> u64
+        requires { AreRates self.now.list self.now.count }
+        ensures greatest { result ≡ greatest_rate self.now.list self.now.count }
+        ensures bound { result ≤ 1048576 }
+    {
+        self.list[..self.count as usize]
+            .iter()
+            .fold(0, |greatest, rate| greatest.max(*rate))
+    }
+
+    /// The rates in 32 bits each, with zeros in the places that are left.
+    fn narrowed(&self) -> Rates
+        requires { AreRates self.now.list self.now.count }
+        ensures { result ≡ narrow_rates self.now }
+    {
+        let mut list = [0; 16];
+        for place in 0..self.count as usize {
+            list[place] = self.list[place] as u32;
+        }
+        Rates {
+            list,
+            count: self.count,
+        }
+    }
+}
+
+/// Whether each number is below the next.
+fn rise(numbers: &[u64]) -> bool
+    ensures { IsTrue result ↔ IsStrictlyIncreasing numbers.now }
+{
+    numbers.is_sorted_by(|low, high| low < high)
+}
+
+/// Whether a number is a power of two, at most `2 ^ most`.
+fn is_power_to(number: u64, most: u32) -> bool
+    requires { most < 64 }
+    ensures { IsTrue result ↔ IsPowerTo most number }
+{
+    for power in 0..=most {
+        if number == 1 << power {
+            return true;
+        }
+    }
+    false
+}
+
+/// Whether a number is one of `least`, `most` and those between.
+fn is_from_to(number: u64, least: u64, most: u64) -> bool
+    ensures { IsTrue result ↔ IsFromTo least most number }
+{
+    least <= number && number <= most
 }
