@@ -5,5 +5,7 @@ pub mod Levels
 pub mod Paths
 pub mod Placed
 pub mod Places
+pub mod RateLists
 pub mod ShapeFacts
 pub mod Stacked
+pub mod TestOrder

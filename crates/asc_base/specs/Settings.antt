@@ -1,5 +1,5 @@
 -- The ranges of the settings, and the configurations that come of settings in their ranges.
-use Rattle.std.specs.Prelude.{◌≡◌, ℕ, ◌+◌, ◌-◌, ◌/◌, ◌%◌, ◌^◌, ◌<◌, ◌≤◌, List, [], ◌∷◌, ◌++◌, All, fold, max, take, drop, replicate}
+use Rattle.std.specs.Prelude.{◌≡◌, ℕ, ◌+◌, ◌-◌, ◌/◌, ◌%◌, ◌^◌, ◌<◌, ◌≤◌, List, ◌++◌, All, fold, max, take, drop, replicate}
 use Rattle.std.specs.List.Sorted.{IsStrictlyIncreasing}
 use Rattle.asc_base.specs.Memory.{IsMemory}
 use Rattle.asc_base.specs.Shape.{IsShape, shape_of}
@@ -29,11 +29,7 @@ pub record AreRates (list : List ℕ) (count : ℕ) : Type 0 where
 abbrev pub greatest_rate : List ℕ → ℕ → ℕ
 greatest_rate list count = fold max 0 (take count list)
 
--- the settings, in the order in which they are tested
-abbrev pub table : List Setting
-table = Size ∷ Base ∷ Sets ∷ Ways ∷ Plb ∷ Roots ∷ Ic ∷ Stash ∷ Budget ∷ Time ∷ Leak ∷ RatesSetting ∷ First ∷ Epoch ∷ []
-
--- how many are tested before a setting
+-- the order in which the settings are tested: how many come before a setting
 abbrev pub place_of : Setting → ℕ
 place_of Size = 0
 place_of Base = 1
@@ -69,9 +65,9 @@ InRange settings Epoch =
     IsFromTo (olat_of (shape_of (settings.size / 64) settings.roots).levels
       + greatest_rate settings.rates.list settings.rates.count) 268435456 settings.epoch
 
--- the settings before this one are in their ranges
+-- the settings that are tested before this one are in their ranges
 abbrev pub AreBefore : Settings → Setting → Type 0
-AreBefore settings setting = All (InRange settings) (take (place_of setting) table)
+AreBefore settings setting = (earlier : Setting) → place_of earlier < place_of setting → InRange settings earlier
 
 -- a setting isn't in its range, and all before it are
 pub record IsFirstFault (settings : Settings) (setting : Setting) : Type 0 where
@@ -80,7 +76,7 @@ pub record IsFirstFault (settings : Settings) (setting : Setting) : Type 0 where
 
 -- all settings are in their ranges
 abbrev pub AreAllowed : Settings → Type 0
-AreAllowed settings = All (InRange settings) table
+AreAllowed settings = (setting : Setting) → InRange settings setting
 
 -- the rates of settings, with zeros in the places that are left
 unfoldable pub narrow_rates : WideRates → Rates

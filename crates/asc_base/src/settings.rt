@@ -1,4 +1,4 @@
-ghost use Rattle.std.specs.Prelude.{◌≡◌, ℕ, ◌+◌, ◌/◌, ◌<◌, ◌≤◌, ◌↔◌, IsTrue, IsNone, IfSome, IsOk, IfOk, Err, take};
+ghost use Rattle.std.specs.Prelude.{◌≡◌, ℕ, ◌+◌, ◌/◌, ◌<◌, ◌≤◌, ◌↔◌, IsTrue, IsNone, IfSome, IsOk, IfOk, Err, take, drop, replicate, ◌-◌};
 ghost use Rattle.std.specs.List.Sorted.{IsStrictlyIncreasing};
 ghost use Rattle.asc_base.specs.declared.settings.Setting.{Setting as SettingValue};
 ghost use Rattle.asc_base.specs.Shape.{IsShape, shape_of};
@@ -266,8 +266,7 @@ impl WideRates {
     /// The greatest rate.
     fn greatest(&self) -> u64
         requires { AreRates self.now.list self.now.count }
-        ensures greatest { result ≡ greatest_rate self.now.list self.now.count }
-        ensures bound { result ≤ 1048576 }
+        ensures { result ≡ greatest_rate self.now.list self.now.count }
     {
         self.list[..self.count as usize]
             .iter()
@@ -277,7 +276,9 @@ impl WideRates {
     /// The rates in 32 bits each, with zeros in the places that are left.
     fn narrowed(&self) -> Rates
         requires { AreRates self.now.list self.now.count }
-        ensures { result ≡ narrow_rates self.now }
+        ensures rates { result ≡ narrow_rates self.now }
+        ensures kept { take result.count result.list ≡ take self.now.count self.now.list }
+        ensures rest { drop result.count result.list ≡ replicate (16 - result.count) 0 }
     {
         let mut list = [0; 16];
         for place in 0..self.count as usize {
@@ -294,7 +295,12 @@ impl WideRates {
 fn rise(numbers: &[u64]) -> bool
     ensures { IsTrue result ↔ IsStrictlyIncreasing numbers.now }
 {
-    numbers.is_sorted_by(|low, high| low < high)
+    for place in 1..numbers.len() {
+        if numbers[place - 1] >= numbers[place] {
+            return false;
+        }
+    }
+    true
 }
 
 /// Whether a number is a power of two, at most `2 ^ most`.
