@@ -1,5 +1,5 @@
 -- Layers: their counts, their addresses, and the one in which a block is.
-use Rattle.std.specs.Prelude.{nat_le, ◌==◌, ◌≢◌, min, Option, Some, None}
+use Rattle.std.specs.Prelude.{nat_le, ◌==◌, ◌≢◌, min, Some, None}
 use Rattle.std.proofs.Common.{◌≡◌, ℕ, zero, suc, ◌+◌, ◌-◌, ◌*◌, ◌/◌, ◌<◌, ◌≤◌, ◌⊎◌, refl, ap, inl, inr, arith, add-one, true, false}
 use Rattle.std.proofs.lemmas.Bool.{cases_lt, le-leb, lt-leb, leb-true, leb-false, eq-eqb, ne_eqb}
 use Rattle.asc_base.specs.TreeShape.{layer_count, layer_first, layer_of, index_of, parent_of, children_of, IsInLayer}

@@ -1,13 +1,13 @@
 -- The level of the leaves.
 use Rattle.std.specs.Prelude.{nat_le, max}
-use Rattle.std.proofs.Common.{◌≡◌, ℕ, zero, suc, ◌+◌, ◌-◌, ◌*◌, ◌^◌, ◌<◌, ◌≤◌, ◌⊎◌, Bool, refl, inl, inr, arith, true, false}
+use Rattle.std.proofs.Common.{◌≡◌, ℕ, zero, suc, ◌+◌, ◌^◌, ◌<◌, ◌≤◌, ◌⊎◌, Bool, inl, inr, arith}
 use Rattle.std.proofs.Math.Nat.{two-pow-succ}
-use Rattle.std.proofs.Math.Pow.{pow-lt, pow_mono}
+use Rattle.std.proofs.Math.Pow.{pow_mono}
 use Rattle.std.proofs.lemmas.Bool.{cases_lt, le-leb, lt-leb, leb-true, leb-false}
-use Rattle.std.proofs.lemmas.Nat.{pow_pos, pow_below}
+use Rattle.std.proofs.lemmas.Nat.{pow_pos}
 use Rattle.asc_base.specs.Greatest.{greatest}
 use Rattle.asc_base.specs.TreeShape.{levels_of}
-use Rattle.asc_base.proofs.Extremes.{greatest_is, greatest-le, greatest_found, greatest_above}
+use Rattle.asc_base.proofs.Extremes.{greatest_is, greatest_found, greatest_above}
 
 -- a number is below its power of two
 pub lt-pow : (k : ℕ) → k < 2 ^ k
@@ -77,7 +77,7 @@ levels_of_level total = record {
 pub levels_of-ge : (total level : ℕ) → 2 ^ (level + 1) ≤ total → level ≤ levels_of total
 levels_of-ge total level room =
     elim (cases_lt (levels_of total) level) [
-      inl deeper ↦
-        absurd (omega (arith, (levels_of_level total).greatest, pow_mono {i = levels_of total + 2} {j = level + 1} (omega arith)))
-    | inr within ↦ within
+      | inl deeper ↦
+          absurd (omega (arith, (levels_of_level total).greatest, pow_mono {i = levels_of total + 2} {j = level + 1} (omega arith)))
+      | inr within ↦ within
     ]

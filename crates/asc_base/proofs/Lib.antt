@@ -8,4 +8,3 @@ pub mod Places
 pub mod RateLists
 pub mod ShapeFacts
 pub mod Stacked
-pub mod TestOrder

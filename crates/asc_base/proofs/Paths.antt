@@ -1,6 +1,6 @@
 -- The buckets of the path to a leaf, and those that two paths share.
 use Rattle.std.specs.Prelude.{◌↔◌}
-use Rattle.std.proofs.Common.{◌≡◌, ◌≢◌, ℕ, zero, suc, ◌+◌, ◌-◌, ◌*◌, ◌/◌, ◌^◌, ◌<◌, ◌≤◌, ◌⊎◌, ◌==◌, true, false, refl, sym, ◌∙◌, ap, inl, inr, arith, add-one}
+use Rattle.std.proofs.Common.{◌≡◌, ◌≢◌, ℕ, zero, suc, ◌+◌, ◌-◌, ◌*◌, ◌/◌, ◌^◌, ◌<◌, ◌≤◌, ◌⊎◌, ◌==◌, sym, ◌∙◌, ap, inl, inr, arith, add-one}
 use Rattle.std.proofs.Math.Nat.{two-pow-succ, div-lt_iff_lt-mul}
 use Rattle.std.proofs.Math.Pow.{pow_mono}
 use Rattle.std.proofs.lemmas.Bool.{cases_lt, eqb-true, eqb-false, eq-eqb, ne_eqb}
@@ -110,16 +110,25 @@ pub bucket_of-apart : (levels x y low high : ℕ) → low ≢ high → low ≤ l
     → bucket_of levels x low ≢ bucket_of levels y high
 bucket_of-apart levels x y low high other in_low in_high in_x in_y same =
     elim (cases_lt low high) [
-      inl under ↦ omega (arith, (bucket_of-bounds levels x low in_low in_x).1, (bucket_of-bounds levels y high in_high in_y).0,
-        pow_mono {i = low + 1} {j = high} (omega arith))
-    | inr over ↦ omega (arith, (bucket_of-bounds levels y high in_high in_y).1, (bucket_of-bounds levels x low in_low in_x).0,
-        pow_mono {i = high + 1} {j = low} (omega arith))
+      | inl under ↦ omega (
+        arith,
+        (bucket_of-bounds levels x low in_low in_x).1,
+        (bucket_of-bounds levels y high in_high in_y).0,
+        pow_mono {i = low + 1} {j = high} (omega arith),
+      )
+      | inr over ↦ omega (
+        arith,
+        (bucket_of-bounds levels y high in_high in_y).1,
+        (bucket_of-bounds levels x low in_low in_x).0,
+        pow_mono {i = high + 1} {j = low} (omega arith),
+      )
     ]
 
 -- paths share a bucket of a level exactly where it isn't deeper than their greatest shared one
 pub shared_iff : (levels x y level : ℕ) → x < 2 ^ levels → y < 2 ^ levels → level ≤ levels
     → (bucket_of levels x level ≡ bucket_of levels y level) ↔ (level ≤ shared_of levels x y)
-shared_iff levels x y level in_x in_y within =
-    (shared_of-ge levels x y level within,
-      λ up_to. bucket_of-same levels x y level (shared_of levels x y) up_to (shared_of-le levels x y)
-        (shared_of_same levels x y in_x in_y))
+shared_iff levels x y level in_x in_y within = (
+  shared_of-ge levels x y level within,
+  λ up_to. bucket_of-same levels x y level (shared_of levels x y) up_to (shared_of-le levels x y)
+      (shared_of_same levels x y in_x in_y),
+)

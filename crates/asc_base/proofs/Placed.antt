@@ -1,11 +1,11 @@
 -- A block of a shape, its parent and its children, by the shape's lists.
-use Rattle.std.specs.Prelude.{min, Option, Some}
-use Rattle.std.proofs.Common.{◌≡◌, ℕ, zero, suc, ◌+◌, ◌-◌, ◌*◌, ◌/◌, ◌<◌, ◌≤◌, get_or, refl, sym, ◌∙◌, ap, subst, arith}
+use Rattle.std.specs.Prelude.{Some}
+use Rattle.std.proofs.Common.{◌≡◌, ℕ, ◌+◌, ◌-◌, ◌*◌, ◌/◌, ◌<◌, ◌≤◌, get_or, refl, sym, ◌∙◌, ap, arith}
 use Rattle.asc_base.specs.declared.shape.Shape.{Shape}
 use Rattle.asc_base.specs.declared.block.Address.{Address}
 use Rattle.asc_base.specs.Shape.{IsShape, parent_in, children_in}
 use Rattle.asc_base.specs.TreeShape.{layer_count, layer_first, layer_of, index_of, parent_of, children_of}
-use Rattle.asc_base.proofs.Layers.{layer_of-lt, layer_of_in, index_of-lt, layer_first-le, layer_first-next, layer_count-next}
+use Rattle.asc_base.proofs.Layers.{layer_of-lt, index_of-lt, layer_first-le, layer_first-next, layer_count-next}
 use Rattle.asc_base.proofs.ShapeFacts.{IsLayered, shape_layered}
 
 -- a block of a layer, whose parent is a block of the shape, and whose children are too

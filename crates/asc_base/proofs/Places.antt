@@ -1,7 +1,7 @@
 -- Lists of five numbers, one for each layer.
 use Rattle.std.specs.Prelude.{nat_lt}
-use Rattle.std.proofs.Common.{◌≡◌, ℕ, zero, suc, ◌+◌, ◌<◌, ◌≤◌, List, [], ◌∷◌, length, get_or, set, refl, arith, true, false, cond}
-use Rattle.std.proofs.lemmas.Bool.{le-leb, lt-leb}
+use Rattle.std.proofs.Common.{◌≡◌, ℕ, zero, suc, ◌+◌, ◌<◌, [], ◌∷◌, length, get_or, set, refl, arith, true}
+use Rattle.std.proofs.lemmas.Bool.{le-leb}
 use Rattle.asc_base.specs.Shape.{places_of}
 
 pub length-places : (value : ℕ → ℕ) (layers : ℕ) → length (places_of value layers) ≡ 5

@@ -1,5 +1,5 @@
 -- What is known of rates in their range.
-use Rattle.std.proofs.Common.{◌≡◌, ℕ, zero, suc, ◌+◌, ◌-◌, ◌^◌, ◌<◌, ◌≤◌, List, [], ◌∷◌, ◌++◌, length, get_or, set, take, drop, replicate, max, refl, sym, ◌∙◌, ap, inl, inr, arith}
+use Rattle.std.proofs.Common.{◌≡◌, ℕ, suc, ◌+◌, ◌-◌, ◌<◌, ◌≤◌, List, [], ◌∷◌, ◌++◌, length, get_or, set, take, drop, replicate, max, inl, inr, arith}
 use Rattle.std.specs.Prelude.{All, fold}
 use Rattle.std.proofs.Math.Pow.{pow_mono}
 use Rattle.std.proofs.lemmas.Bool.{cases_order}
@@ -31,13 +31,13 @@ pub set-narrow : (list : List ℕ) (place number : ℕ) → length list ≡ 16 �
     → set (take place list ++ replicate (16 - place) 0) place number ≡ take (place + 1) list ++ replicate (16 - (place + 1)) 0
 set-narrow list place number whole within same =
     same_number_lists _ _ (grind (arith, common_steps))
-      (λ k below. elim (cases_order k place) [
-        inl here ↦ grind (arith, elements)
+    (λ k below. elim (cases_order k place) [
+      | inl here ↦ grind (arith, elements)
       | inr there ↦ elim there [
-          inl before ↦ grind (arith, elements)
+        | inl before ↦ grind (arith, elements)
         | inr after ↦ grind (arith, elements)
-        ]
-      ])
+      ]
+    ])
 
 -- a rate is at most 1,048,576
 pub rate-le : (list : List ℕ) (count place : ℕ) → AreRates list count → length list ≡ 16 → place < count

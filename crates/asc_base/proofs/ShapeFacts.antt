@@ -1,14 +1,14 @@
 -- What is known of a shape.
 use Rattle.std.specs.Prelude.{nat_le}
-use Rattle.std.proofs.Common.{◌≡◌, ℕ, zero, suc, ◌+◌, ◌-◌, ◌*◌, ◌^◌, ◌<◌, ◌≤◌, ◌⊎◌, get_or, true, refl, sym, ap, subst, inl, inr, arith}
+use Rattle.std.proofs.Common.{◌≡◌, ℕ, ◌+◌, ◌^◌, ◌<◌, ◌≤◌, get_or, refl, sym, subst, inl, inr, arith}
 use Rattle.std.proofs.Math.Pow.{pow_mono}
 use Rattle.std.proofs.lemmas.Nat.{pow_pos}
 use Rattle.std.proofs.lemmas.Bool.{cases_lt, le-leb, lt-leb, leb-true, leb-false}
 use Rattle.asc_base.specs.declared.shape.Shape.{Shape}
-use Rattle.asc_base.specs.Shape.{IsShape, shape_of, layered, places_of}
+use Rattle.asc_base.specs.Shape.{IsShape, shape_of, layered}
 use Rattle.asc_base.specs.TreeShape.{layer_count, layer_first, top_layer, levels_of, buckets_of}
 use Rattle.asc_base.proofs.Extremes.{least_is, least_holds, least_below}
-use Rattle.asc_base.proofs.Layers.{AreSmall, small_layers, layer_count-zero, layer_count-next, layer_count-pos, count_falls, layer_first-le, layer_first-zero, layer_first-next}
+use Rattle.asc_base.proofs.Layers.{small_layers, layer_count-zero, layer_count-next, layer_count-pos, count_falls, layer_first-le, layer_first-zero, layer_first-next}
 use Rattle.asc_base.proofs.Levels.{IsLevel, levels_of_level}
 use Rattle.asc_base.proofs.Places.{get_or-places}
 
@@ -64,12 +64,13 @@ pub top_layer_first : (lines roots : ℕ) → 1 ≤ lines → 1 ≤ roots
 unfolding top_layer
 top_layer_first lines roots some rooted =
     let last : layer_count lines lines ≤ roots = elim (count_falls lines lines some) [
-        inl one ↦ omega arith
+      | inl one ↦ omega arith
       | inr low ↦ absurd (omega (arith, layer_count-pos lines lines some))
-      ] in
-    let low = least_holds (λ layer. nat_le (layer_count lines layer) roots) lines lines (omega arith) (le-leb _ _ last) in
-    (leb-true _ _ low.1,
-      λ layer below. leb-false _ _ (least_below (λ layer. nat_le (layer_count lines layer) roots) lines layer below))
+    ] in
+    let low = least_holds (λ layer. nat_le (layer_count lines layer) roots) lines lines (omega arith) (le-leb _ _ last) in (
+      leb-true _ _ low.1,
+      λ layer below. leb-false _ _ (least_below (λ layer. nat_le (layer_count lines layer) roots) lines layer below),
+    )
 
 -- the top layer is the one with at most so many blocks, where all below have more
 pub top_layer_is : (lines roots layer : ℕ) → 1 ≤ lines → 1 ≤ roots

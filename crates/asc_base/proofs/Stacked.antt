@@ -1,10 +1,10 @@
 -- The lists of the layers up to one of them, and those of one layer more.
 use Rattle.std.specs.Prelude.{min}
-use Rattle.std.proofs.Common.{◌≡◌, ℕ, ◌+◌, ◌-◌, ◌/◌, ◌%◌, ◌<◌, ◌≤◌, List, get_or, set, refl, sym, ◌∙◌, ap, inl, inr, arith}
+use Rattle.std.proofs.Common.{◌≡◌, ℕ, ◌+◌, ◌/◌, ◌%◌, ◌<◌, ◌≤◌, List, get_or, set, ◌∙◌, ap, inl, inr, arith}
 use Rattle.std.proofs.lemmas.Bool.{cases_lt}
 use Rattle.asc_base.specs.Shape.{places_of}
 use Rattle.asc_base.specs.TreeShape.{layer_count, layer_first}
-use Rattle.asc_base.proofs.Layers.{AreSmall, small_layers, layer_first-le, layer_first-next, layer_count-next}
+use Rattle.asc_base.proofs.Layers.{small_layers, layer_first-le, layer_first-next, layer_count-next}
 use Rattle.asc_base.proofs.Places.{get_or-places, set-places}
 
 pub record AreStacked (lines roots top : ℕ) (firsts counts : List ℕ) : Type 0 where

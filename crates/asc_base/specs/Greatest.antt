@@ -1,5 +1,5 @@
 -- The least and the greatest number at which a test holds.
-use Rattle.std.specs.Prelude.{ℕ, ◌+◌, Bool, if◌then◌else◌}
+use Rattle.std.specs.Prelude.{ℕ, Bool, if◌then◌else◌}
 use Rattle.std.proofs.Common.{zero, suc}
 
 -- the least number up to `bound` at which the test holds, and `bound` where it holds at none of them

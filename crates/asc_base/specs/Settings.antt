@@ -63,7 +63,7 @@ InRange settings RatesSetting = AreRates settings.rates.list settings.rates.coun
 InRange settings First = settings.first < settings.rates.count
 InRange settings Epoch =
     IsFromTo (olat_of (shape_of (settings.size / 64) settings.roots).levels
-      + greatest_rate settings.rates.list settings.rates.count) 268435456 settings.epoch
+    + greatest_rate settings.rates.list settings.rates.count) 268435456 settings.epoch
 
 -- the settings that are tested before this one are in their ranges
 abbrev pub AreBefore : Settings → Setting → Type 0
@@ -99,7 +99,7 @@ config_of settings = record {
   rates = narrow_rates settings.rates;
   first = settings.first;
   epoch = settings.epoch;
-  shape = shape_of (settings.size / 64) settings.roots
+  shape = shape_of (settings.size / 64) settings.roots;
 }
 
 -- a configuration that settings in their ranges give

@@ -1,5 +1,5 @@
 -- Shapes, and their blocks and paths.
-use Rattle.std.specs.Prelude.{◌≡◌, ℕ, ◌+◌, ◌≤◌, ◌<◌, ◌^◌, List, [], ◌∷◌, map, nat_lt, Option, Some, None, if◌then◌else◌}
+use Rattle.std.specs.Prelude.{◌≡◌, ℕ, ◌+◌, ◌≤◌, ◌<◌, List, [], ◌∷◌, map, nat_lt, Option, if◌then◌else◌}
 use Rattle.std.specs.Option.{option_map}
 use Rattle.asc_base.specs.TreeShape.{layer_count, layer_first, top_layer, levels_of, buckets_of, parent_of, children_of}
 use Rattle.asc_base.specs.declared.block.Address.{Address}

@@ -1,4 +1,3 @@
-use Rattle.std.proofs.Common.{ℕ}
 use Rattle.asc_base.proofs.ShapeFacts.{top_layer_first}
 use Rattle.asc_base.proofs.laws.top_layer_first.Goals as goal
 

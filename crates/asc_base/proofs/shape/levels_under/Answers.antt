@@ -1,4 +1,4 @@
-use Rattle.std.proofs.Common.{◌≡◌, ◌+◌, ◌^◌, sym, arith}
+use Rattle.std.proofs.Common.{◌+◌, sym, arith}
 use Rattle.std.proofs.lemmas.Nat.{one_shl}
 use Rattle.asc_base.proofs.Levels.{levels_of_is}
 use Rattle.asc_base.proofs.shape.levels_under.Goals as goal

@@ -1,10 +1,8 @@
 use Rattle.std.specs.Prelude.{◌↔◌, IsTrue}
-use Rattle.std.proofs.Common.{◌≡◌, ℕ, ◌+◌, ◌-◌, ◌%◌, ◌<◌, ◌≤◌, sym, subst, arith, lit<}
+use Rattle.std.proofs.Common.{◌≡◌, ℕ, ◌+◌, ◌-◌, ◌%◌, ◌≤◌, arith, lit<}
 use Rattle.std.proofs.Math.Dec.{leb}
 use Rattle.std.proofs.lemmas.Bool.{le-leb, leb-true}
-use Rattle.asc_base.specs.declared.settings.Setting.{Setting}
-use Rattle.asc_base.specs.declared.settings.Setting.TheVariants.{Size, Base, Epoch}
-use Rattle.asc_base.specs.Settings.{InRange, AreBefore, place_of}
+use Rattle.asc_base.specs.declared.settings.Setting.TheVariants.{Size}
 use Rattle.asc_base.proofs.settings.Settings.allows.Goals as goal
 
 -- the sum is at most the limit where it may be subtracted from

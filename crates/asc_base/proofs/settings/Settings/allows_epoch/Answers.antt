@@ -1,4 +1,4 @@
-use Rattle.std.proofs.Common.{◌+◌, ◌≤◌, arith, lit<}
+use Rattle.std.proofs.Common.{arith, lit<}
 use Rattle.asc_base.specs.declared.settings.Setting.TheVariants.{Rates}
 use Rattle.asc_base.proofs.RateLists.{greatest_rate-le}
 use Rattle.asc_base.proofs.ShapeFacts.{IsLayered, shape_layered}

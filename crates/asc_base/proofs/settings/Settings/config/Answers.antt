@@ -1,4 +1,4 @@
-use Rattle.std.proofs.Common.{◌≡◌, ℕ, ◌+◌, ◌-◌, ◌/◌, ◌^◌, ◌<◌, ◌≤◌, List, take, drop, replicate, refl, sym, ◌∙◌, ap, subst, arith}
+use Rattle.std.proofs.Common.{◌≡◌, ℕ, ◌-◌, ◌/◌, List, take, drop, replicate, refl, sym, ap, subst, arith}
 use Rattle.std.proofs.Math.Pow.{pow_mono}
 use Rattle.std.specs.Prelude.{All, fold, max}
 use Rattle.std.specs.List.Sorted.{IsStrictlyIncreasing}
@@ -7,9 +7,8 @@ use Rattle.asc_base.specs.declared.settings.Rates.{Rates as RateList}
 use Rattle.asc_base.specs.declared.settings.Settings.{Settings}
 use Rattle.asc_base.specs.declared.settings.Setting.TheVariants.{Size, Base, Sets, Ways, Plb, Roots, Ic, Stash, Budget, Time, Leak, Rates, First, Epoch}
 use Rattle.asc_base.specs.declared.shape.Shape.{Shape}
-use Rattle.asc_base.specs.Settings.{IsPowerTo, IsFromTo, AreRates, AreAllowed, IsConfig, config_of, narrow_rates, greatest_rate}
+use Rattle.asc_base.specs.Settings.{IsFromTo, AreAllowed, IsConfig, config_of, narrow_rates, greatest_rate}
 use Rattle.asc_base.specs.Shape.{IsShape, shape_of}
-use Rattle.asc_base.specs.TreeShape.{olat_of}
 use Rattle.asc_base.proofs.RateLists.{rate_count-le}
 use Rattle.asc_base.proofs.settings.Settings.config.Goals as goal
 
@@ -30,7 +29,7 @@ made settings rates shape = record {
   rates = rates;
   first = settings.first;
   epoch = settings.epoch;
-  shape = shape
+  shape = shape;
 }
 
 made_is : (settings : Settings) (rates : RateList) (shape : Shape) → rates ≡ narrow_rates settings.rates
@@ -50,7 +49,7 @@ made_config settings rates shape allowed count kept rest is_shape same = record 
     size_to = (allowed Size).0.1;
     size_pages = (allowed Size).1;
     base_pages = (allowed Base).0;
-    below_top = (allowed Base).1
+    below_top = (allowed Base).1;
   };
   sets = allowed Sets;
   ways = allowed Ways;
@@ -64,15 +63,15 @@ made_config settings rates shape allowed count kept rest is_shape same = record 
   rates = record {
     power = rw count (allowed Rates).power;
     rise = subst (λ (l : List ℕ). IsStrictlyIncreasing l) (sym kept) (allowed Rates).rise;
-    bounds = subst (λ (l : List ℕ). All (IsFromTo 64 1048576) l) (sym kept) (allowed Rates).bounds
+    bounds = subst (λ (l : List ℕ). All (IsFromTo 64 1048576) l) (sym kept) (allowed Rates).bounds;
   };
   rest = rest;
   first = rw count (allowed First);
   epoch = (let greatest : greatest_rate rates.list rates.count ≡ greatest_rate settings.rates.list settings.rates.count =
       ap (λ (l : List ℕ). fold max 0 l) kept in
-    rw (greatest, same) (allowed Epoch));
+      rw (greatest, same) (allowed Epoch));
   is_shape = is_shape;
-  shape = same
+  shape = same;
 }
 
 pub narrowed-rates-requires : goal.narrowed-rates-requires
@@ -121,5 +120,5 @@ pub returns-clause-is_config : goal.returns-clause-is_config
 unfolding made narrow_rates
 returns-clause-is_config c =
     made_config c.args.self.now c.narrowed-rates.result c.shape-shape.result c.requires
-      (ap (λ (r : RateList). r.count) c.narrowed-rates.ensures.rates) c.narrowed-rates.ensures.kept c.narrowed-rates.ensures.rest
-      c.shape-shape.ensures.is_shape c.shape-shape.ensures.shape
+    (ap (λ (r : RateList). r.count) c.narrowed-rates.ensures.rates) c.narrowed-rates.ensures.kept c.narrowed-rates.ensures.rest
+    c.shape-shape.ensures.is_shape c.shape-shape.ensures.shape

@@ -1,4 +1,4 @@
-use Rattle.std.proofs.Common.{◌≡◌, ℕ, ◌^◌, ◌≤◌, refl, arith}
+use Rattle.std.proofs.Common.{refl}
 use Rattle.asc_base.proofs.RateLists.{power_count-le}
 use Rattle.asc_base.proofs.settings.WideRates.are_allowed.Goals as goal
 

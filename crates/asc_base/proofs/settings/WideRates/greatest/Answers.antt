@@ -1,5 +1,4 @@
-use Rattle.std.proofs.Common.{◌≡◌, ℕ, ◌≤◌, arith}
-use Rattle.asc_base.proofs.RateLists.{rate_count-le, greatest_rate-le}
+use Rattle.asc_base.proofs.RateLists.{rate_count-le}
 use Rattle.asc_base.proofs.settings.WideRates.greatest.Goals as goal
 
 pub shared_ref_as_front-iter : goal.shared_ref_as_front-iter

@@ -1,7 +1,7 @@
-use Rattle.std.proofs.Common.{◌≡◌, ℕ, ◌+◌, ◌-◌, ◌<◌, ◌≤◌, List, ◌++◌, length, take, drop, replicate, refl, sym, ◌∙◌, ap, arith, rules}
+use Rattle.std.proofs.Common.{◌≡◌, ℕ, ◌-◌, List, ◌++◌, take, replicate, refl, arith, rules}
 use Rattle.asc_base.specs.declared.settings.Rates.{Rates}
 use Rattle.asc_base.specs.declared.settings.WideRates.{WideRates}
-use Rattle.asc_base.specs.Settings.{narrow_rates, AreRates}
+use Rattle.asc_base.specs.Settings.{narrow_rates}
 use Rattle.asc_base.proofs.RateLists.{rate_count-le, rate-le, set-narrow, take-narrow, drop-narrow}
 use Rattle.asc_base.proofs.settings.WideRates.narrowed.Goals as goal
 
@@ -23,7 +23,7 @@ bounds-list-place c = omega (arith, (rate_count-le _ _ c.requires).1)
 pub loop-place-preserved : goal.loop-place-preserved
 loop-place-preserved c =
     rw c.loop-place.invariant
-      (set-narrow c.args.self.now.list c.loop-place.place _ (search rules) (omega (arith, (rate_count-le _ _ c.requires).1)) refl)
+    (set-narrow c.args.self.now.list c.loop-place.place _ (search rules) (omega (arith, (rate_count-le _ _ c.requires).1)) refl)
 
 pub returns-clause-rates : goal.returns-clause-rates
 returns-clause-rates c = narrow_is c.args.self.now c.loop-place.list c.loop-place.place c.loop-place.invariant (omega arith)

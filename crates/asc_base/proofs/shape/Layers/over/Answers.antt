@@ -1,9 +1,9 @@
-use Rattle.std.proofs.Common.{◌≡◌, ℕ, ◌+◌, ◌<◌, ◌≤◌, refl, sym, ap, subst, inl, inr, arith}
+use Rattle.std.proofs.Common.{◌≡◌, refl, ap, inl, inr, arith}
 use Rattle.std.proofs.lemmas.Bool.{cases_lt}
 use Rattle.asc_base.specs.Shape.{places_of}
 use Rattle.asc_base.specs.TreeShape.{layer_count, layer_first}
 use Rattle.asc_base.proofs.ShapeFacts.{top_layer_is}
-use Rattle.asc_base.proofs.Stacked.{AreStacked, stacked, stacked_firsts, stacked_counts}
+use Rattle.asc_base.proofs.Stacked.{stacked, stacked_firsts, stacked_counts}
 use Rattle.asc_base.proofs.shape.Layers.over.Goals as goal
 
 pub loop-counts-init : goal.loop-counts-init

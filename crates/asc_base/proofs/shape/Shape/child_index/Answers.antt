@@ -1,6 +1,6 @@
-use Rattle.std.proofs.Common.{◌≡◌, ℕ, ◌%◌, ap, arith}
+use Rattle.std.proofs.Common.{ℕ, ◌%◌, ap, arith}
 use Rattle.asc_base.specs.TreeShape.{child_index_of}
-use Rattle.asc_base.proofs.Placed.{IsPlaced, placed}
+use Rattle.asc_base.proofs.Placed.{placed}
 use Rattle.asc_base.proofs.shape.Shape.child_index.Goals as goal
 
 pub bounds-self-layer : goal.bounds-self-layer

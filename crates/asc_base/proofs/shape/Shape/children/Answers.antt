@@ -1,7 +1,6 @@
-use Rattle.std.specs.Prelude.{Option, Some, None, min}
-use Rattle.std.proofs.Common.{◌≡◌, ℕ, ◌+◌, ◌-◌, ◌*◌, ◌/◌, ◌<◌, ◌≤◌, sym, ap, arith}
+use Rattle.std.proofs.Common.{arith}
 use Rattle.asc_base.proofs.Layers.{children_of-line, children_of-above}
-use Rattle.asc_base.proofs.Placed.{IsPlaced, placed, children_in_is}
+use Rattle.asc_base.proofs.Placed.{placed, children_in_is}
 use Rattle.asc_base.proofs.shape.Shape.children.Goals as goal
 
 pub returns-then-layer-eq0-clause-children : goal.returns-then-layer-eq0-clause-children

@@ -1,5 +1,4 @@
 use Rattle.std.proofs.Common.{◌≡◌, ℕ, ◌+◌, ◌-◌, ◌<◌, ◌≤◌, sym, ap, arith}
-use Rattle.asc_base.specs.declared.shape.Shape.{Shape}
 use Rattle.asc_base.specs.TreeShape.{layer_first, layer_of}
 use Rattle.asc_base.proofs.Layers.{layer_of_is, layer_first-zero}
 use Rattle.asc_base.proofs.ShapeFacts.{IsLayered, shape_layered}

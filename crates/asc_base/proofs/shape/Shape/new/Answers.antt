@@ -1,7 +1,7 @@
-use Rattle.std.proofs.Common.{◌≡◌, ℕ, ◌+◌, ◌-◌, ◌*◌, ◌%◌, ◌^◌, ◌<◌, ◌≤◌, List, refl, sym, ◌∙◌, ap, arith}
+use Rattle.std.proofs.Common.{◌≡◌, ℕ, ◌+◌, ◌-◌, ◌*◌, ◌%◌, ◌^◌, ◌≤◌, List, ap, arith}
 use Rattle.std.proofs.lemmas.Nat.{one_shl, pow_pos}
 use Rattle.asc_base.specs.declared.shape.Shape.{Shape}
-use Rattle.asc_base.specs.Shape.{IsShape, shape_of, layered, places_of}
+use Rattle.asc_base.specs.Shape.{shape_of, layered, places_of}
 use Rattle.asc_base.specs.TreeShape.{layer_count, layer_first, top_layer, levels_of, buckets_of}
 use Rattle.asc_base.proofs.shape.Shape.new.Goals as goal
 

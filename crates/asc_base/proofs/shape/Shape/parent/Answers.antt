@@ -1,7 +1,6 @@
-use Rattle.std.specs.Prelude.{Option, Some, None}
-use Rattle.std.proofs.Common.{◌≡◌, ℕ, ◌+◌, ◌-◌, ◌/◌, ◌<◌, sym, ap, arith}
+use Rattle.std.proofs.Common.{arith}
 use Rattle.asc_base.proofs.Layers.{parent_of-top, parent_of-below}
-use Rattle.asc_base.proofs.Placed.{IsPlaced, placed, parent_in_is}
+use Rattle.asc_base.proofs.Placed.{placed, parent_in_is}
 use Rattle.asc_base.proofs.shape.Shape.parent.Goals as goal
 
 pub overflow_add-layer : goal.overflow_add-layer

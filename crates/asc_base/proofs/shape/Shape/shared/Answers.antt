@@ -1,4 +1,4 @@
-use Rattle.std.proofs.Common.{◌≡◌, sym, ◌∙◌, inl, inr, arith}
+use Rattle.std.proofs.Common.{sym, inl, inr, arith}
 use Rattle.asc_base.proofs.Paths.{shared_of_is}
 use Rattle.asc_base.proofs.shape.Shape.shared.Goals as goal
 

@@ -1,4 +1,4 @@
-use Rattle.std.proofs.Common.{◌≡◌, ℕ, ◌<◌, ◌≤◌, ◌≢◌}
+use Rattle.std.proofs.Common.{ℕ, ◌<◌, ◌≤◌, ◌≢◌}
 use Rattle.asc_base.specs.TreeShape.{bucket_of}
 use Rattle.asc_base.proofs.shape.Shape.shared.Given as goal
 
