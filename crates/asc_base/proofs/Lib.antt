@@ -1,0 +1,10 @@
+pub mod Extremes
+pub mod Families
+pub mod Layers
+pub mod Levels
+pub mod Paths
+pub mod Placed
+pub mod Places
+pub mod RateLists
+pub mod ShapeFacts
+pub mod Stacked
