@@ -42,9 +42,8 @@ fn codes_of_the_standard(rt: HostRuntime) {
 // tools/hmac_vectors.py prints them.
 #[test]
 fn codes_by_length(rt: HostRuntime) {
-    let mut key = [0u8; 32];
-    key.copy_from_slice(&counting()[..32]);
     let message = counting();
+    let key = key_of(&message[..32]);
     let codes = [
         (
             0usize,
