@@ -13,9 +13,9 @@ fn hex(code: &[u8; 32]) -> [u8; 64] {
 }
 
 // Bytes that count up from 0 and begin anew after 250.
-fn counting() -> [u8; 1000] {
-    let mut bytes = [0u8; 1000];
-    for place in 0..1000 {
+fn counting<const N: usize>() -> [u8; N] {
+    let mut bytes = [0u8; N];
+    for place in 0..N {
         bytes[place] = (place % 251) as u8;
     }
     bytes
@@ -42,8 +42,8 @@ fn codes_of_the_standard(rt: HostRuntime) {
 // tools/hmac_vectors.py prints them.
 #[test]
 fn codes_by_length(rt: HostRuntime) {
-    let message = counting();
-    let key = key_of(&message[..32]);
+    let key = counting::<32>();
+    let message = counting::<1000>();
     let codes = [
         (
             0usize,
