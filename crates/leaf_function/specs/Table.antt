@@ -19,7 +19,7 @@ same_point _ _ = false
 
 -- the leaf of the first pair that has the point, or the rest's
 abbrev pub table_leaf : Table → Point → ℕ
-table_leaf table point = option_map_or (λ pair. pair.1.0) table.rest (find (λ pair. same_point pair.0 point) table.pairs)
+table_leaf table point = option_map_or (λ pair. pair.1.0) (find (λ pair. same_point pair.0 point) table.pairs) table.rest
 
 -- every leaf is one of the tree's
 abbrev pub AllBelow : List (Point × Leaf) → ℕ → Type 0

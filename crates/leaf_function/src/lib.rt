@@ -3,6 +3,8 @@
 
 mod keyed;
 mod leaf_fn;
+mod table;
 
 pub use keyed::KeyedLeaf;
 pub use leaf_fn::LeafFn;
+pub use table::TableLeaf;
