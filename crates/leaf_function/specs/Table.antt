@@ -1,5 +1,5 @@
 -- Which leaf a table gives a point.
-use Rattle.std.specs.Prelude.{◌≡◌, ℕ, ◌^◌, ◌<◌, List, Bool, false, ◌==◌, ◌&&◌, find, All}
+use Rattle.std.specs.Prelude.{ℕ, ◌^◌, ◌<◌, List, Bool, false, ◌==◌, ◌&&◌, find, All}
 use Rattle.std.specs.Option.{option_map_or}
 use Rattle.asc_base.specs.declared.block.Leaf.{Leaf}
 use Rattle.asc_base.specs.declared.block.Point.{Point}

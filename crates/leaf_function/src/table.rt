@@ -34,7 +34,11 @@ impl TableLeaf {
         requires others { rest.0 < 2 ^ levels }
         ensures { result ≡ record { pairs = pairs.items; rest = rest.0; levels = levels } }
     {
-        TableLeaf { pairs, rest, levels }
+        TableLeaf {
+            pairs,
+            rest,
+            levels,
+        }
     }
 }
 
