@@ -11,3 +11,6 @@ pub use keyed::KeyedLeaf;
 pub use laws::{search_tells_points, texts_tell_points};
 pub use leaf_fn::LeafFn;
 pub use table::TableLeaf;
+
+#[cfg(test)]
+mod tests;
