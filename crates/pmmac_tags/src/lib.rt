@@ -1,13 +1,13 @@
-// A library with one function.
+//! Tags of messages: an address, its counter and its line, authenticated under one key. A tag holds of an old line only
+//! under its old counter, so a line that is given back after its counter rose is found out. Different messages have
+//! different texts. No call takes memory.
 #![tactic(auto)]
 
-ghost use Rattle.std.specs.Prelude.{◌≡◌};
-ghost use Rattle.pmmac_tags.specs.Echo.{echo_of};
+mod laws;
+mod tagger;
 
-// The `ensures` clause is the contract: what `echo` returns is `echo_of` of its argument, a definition
-// in `specs/Echo.antt`, which a caller's clause can cite too.
-pub fn echo(x: usize) -> usize
-    ensures { result ≡ echo_of x }
-{
-    x
-}
+pub use laws::texts_tell_messages;
+pub use tagger::Tagger;
+
+#[cfg(test)]
+mod tests;
