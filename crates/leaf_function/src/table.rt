@@ -7,6 +7,8 @@ use std::alloc::Global;
 use std::marker::Model;
 
 /// Leaves by a table: a point's leaf is that of the first pair that has the point, or that of the rest.
+///
+/// It is seen as its pairs in order, the rest's leaf and its levels.
 #[derive(Drop)]
 pub struct TableLeaf {
     pairs: Vec<(Point, Leaf)>,

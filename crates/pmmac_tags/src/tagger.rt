@@ -7,7 +7,7 @@ use std::marker::Model;
 
 /// Gives messages their tags: the first 16 bytes of the authentication code of a message's text.
 ///
-/// It is seen as its key, derived from the master key.
+/// It is seen as its key, which the master key gives under the label `ascend tag`.
 #[derive(Drop)]
 pub struct Tagger {
     key: [u8; 32],
