@@ -28,20 +28,20 @@ total_to-more place places (suc k) =
 total_to-counts : (level : ℕ) (places : List (Option ℕ)) (k : ℕ) → level ≤ k → 1 + total_to places k ≤ total_to (Some level ∷ places) k
 total_to-counts level places zero h =
     elim (eqb_tells level 0) [
-      inl same ↦ let step : count_at 0 (Some level ∷ places) ≡ 1 + count_at 0 places = count_by-yes (stands_at 0) (Some level) places same.0 in omega arith
-    | inr differs ↦ absurd (differs.1 (omega arith))
+      | inl same ↦ let step : count_at 0 (Some level ∷ places) ≡ 1 + count_at 0 places = count_by-yes (stands_at 0) (Some level) places same.0 in omega arith
+      | inr differs ↦ absurd (differs.1 (omega arith))
     ]
 total_to-counts level places (suc k) h =
     elim (eqb_tells level (suc k)) [
-      inl same ↦
-        let step : count_at (suc k) (Some level ∷ places) ≡ 1 + count_at (suc k) places = count_by-yes (stands_at (suc k)) (Some level) places same.0 in
-        let below : total_to places k ≤ total_to (Some level ∷ places) k = total_to-more (Some level) places k in
-        omega arith
-    | inr differs ↦
-        let apart : level ≢ suc k = differs.1 in
-        let below : 1 + total_to places k ≤ total_to (Some level ∷ places) k = total_to-counts level places k (omega arith) in
-        let here : count_at (suc k) places ≤ count_at (suc k) (Some level ∷ places) = count_at-more (suc k) (Some level) places in
-        omega arith
+      | inl same ↦
+          let step : count_at (suc k) (Some level ∷ places) ≡ 1 + count_at (suc k) places = count_by-yes (stands_at (suc k)) (Some level) places same.0 in
+          let below : total_to places k ≤ total_to (Some level ∷ places) k = total_to-more (Some level) places k in
+          omega arith
+      | inr differs ↦
+          let apart : level ≢ suc k = differs.1 in
+          let below : 1 + total_to places k ≤ total_to (Some level ∷ places) k = total_to-counts level places k (omega arith) in
+          let here : count_at (suc k) places ≤ count_at (suc k) (Some level ∷ places) = count_at-more (suc k) (Some level) places in
+          omega arith
     ]
 
 total_to-le : (places : List (Option ℕ)) (k : ℕ) → ((level : ℕ) → count_at level places ≤ slots) → total_to places k ≤ slots * (k + 1)
@@ -54,8 +54,8 @@ total_to-le places (suc k) room =
 within-cons : (depth : ℕ) (depths : List ℕ) (k : ℕ) → count_within (depth ∷ depths) k ≤ 1 + count_within depths k
 within-cons depth depths k =
     elim (leb_tells depth k) [
-      inl h ↦ let step : count_within (depth ∷ depths) k ≡ 1 + count_within depths k = count_by-yes (λ d. nat_le d k) depth depths h.0 in omega arith
-    | inr h ↦ let step : count_within (depth ∷ depths) k ≡ 0 + count_within depths k = count_by-no (λ d. nat_le d k) depth depths h.0 in omega arith
+      | inl h ↦ let step : count_within (depth ∷ depths) k ≡ 1 + count_within depths k = count_by-yes (λ d. nat_le d k) depth depths h.0 in omega arith
+      | inr h ↦ let step : count_within (depth ∷ depths) k ≡ 0 + count_within depths k = count_by-no (λ d. nat_le d k) depth depths h.0 in omega arith
     ]
 
 within-le : (depths : List ℕ) (places : List (Option ℕ)) (k : ℕ) → Fits depths places → count_within depths k ≤ left places + total_to places k
@@ -73,15 +73,15 @@ within-le (depth ∷ depths) (Some level ∷ places) k f =
     let goes : left (Some level ∷ places) ≡ 0 + left places = count_by-no is_none (Some level) places refl in
     let above : level ≤ depth = f.0 in
     elim (leb_tells depth k) [
-      inl h ↦
-        let within : depth ≤ k = h.1 in
-        let first : count_within (depth ∷ depths) k ≤ 1 + count_within depths k = within-cons depth depths k in
-        let more : 1 + total_to places k ≤ total_to (Some level ∷ places) k = total_to-counts level places k (omega arith) in
-        omega arith
-    | inr h ↦
-        let first : count_within (depth ∷ depths) k ≡ 0 + count_within depths k = count_by-no (λ d. nat_le d k) depth depths h.0 in
-        let more : total_to places k ≤ total_to (Some level ∷ places) k = total_to-more (Some level) places k in
-        omega arith
+      | inl h ↦
+          let within : depth ≤ k = h.1 in
+          let first : count_within (depth ∷ depths) k ≤ 1 + count_within depths k = within-cons depth depths k in
+          let more : 1 + total_to places k ≤ total_to (Some level ∷ places) k = total_to-counts level places k (omega arith) in
+          omega arith
+      | inr h ↦
+          let first : count_within (depth ∷ depths) k ≡ 0 + count_within depths k = count_by-no (λ d. nat_le d k) depth depths h.0 in
+          let more : total_to places k ≤ total_to (Some level ∷ places) k = total_to-more (Some level) places k in
+          omega arith
     ]
 
 pub excess-le-left : (depths : List ℕ) (places : List (Option ℕ)) (k : ℕ) → IsPlacement depths places → excess depths k ≤ left places

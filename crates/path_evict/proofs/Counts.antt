@@ -20,8 +20,8 @@ waiting-fill level room (depth ∷ depths) (Some place ∷ places) = waiting-fil
 waiting-fill level zero (depth ∷ depths) (None ∷ places) = omega arith
 waiting-fill level (suc room) (depth ∷ depths) (None ∷ places) =
     elim (leb_tells level depth) [
-      inl h ↦ rw h.0 (let rest_of : waiting level depths (fill level room depths places) ≡ waiting level depths places - room = waiting-fill level room depths places in omega arith)
-    | inr h ↦ rw (h.0, h.0) (waiting-fill level (suc room) depths places)
+      | inl h ↦ rw h.0 (let rest_of : waiting level depths (fill level room depths places) ≡ waiting level depths places - room = waiting-fill level room depths places in omega arith)
+      | inr h ↦ rw (h.0, h.0) (waiting-fill level (suc room) depths places)
     ]
 
 -- every level that is taken so far is at least `bound`, and no entry stands below its depth
@@ -52,8 +52,8 @@ FitsFrom-fill level room (depth ∷ depths) (Some place ∷ places) f = (let h :
 FitsFrom-fill level zero (depth ∷ depths) (None ∷ places) f = FitsFrom-lower level depths places f
 FitsFrom-fill level (suc room) (depth ∷ depths) (None ∷ places) f =
     elim (leb_tells level depth) [
-      inl h ↦ rw h.0 (omega arith, h.1, FitsFrom-fill level room depths places f)
-    | inr h ↦ rw h.0 (FitsFrom-fill level (suc room) depths places f)
+      | inl h ↦ rw h.0 (omega arith, h.1, FitsFrom-fill level room depths places f)
+      | inr h ↦ rw h.0 (FitsFrom-fill level (suc room) depths places f)
     ]
 
 FitsFrom-fill_up : (level : ℕ) (depths : List ℕ) (places : List (Option ℕ)) → FitsFrom (suc level) depths places → FitsFrom 0 depths (fill_up level depths places)

@@ -14,8 +14,8 @@ excess-le-rest depths zero k h =
     subst P e (omega arith)
 excess-le-rest depths (suc level) k h =
     elim (leb_tells k level) [
-      inl below ↦ let sooner : excess depths k ≤ rest depths level = excess-le-rest depths level k below.1 in omega arith
-    | inr above ↦ le_here (excess depths) level k _ (omega arith) (omega arith)
+      | inl below ↦ let sooner : excess depths k ≤ rest depths level = excess-le-rest depths level k below.1 in omega arith
+      | inr above ↦ le_here (excess depths) level k _ (omega arith) (omega arith)
     ]
 
 pub rest-le : (depths : List ℕ) (levels m : ℕ) → ((k : ℕ) → k ≤ levels → excess depths k ≤ m) → rest depths levels ≤ m
@@ -35,8 +35,8 @@ pub record Searched (depths : List ℕ) (n most : ℕ) (witness : Option ℕ) : 
 below_next : (f : ℕ → ℕ) (n r : ℕ) → ((k : ℕ) → k < n → f k ≤ r) → f n ≤ r → (k : ℕ) → k < n + 1 → f k ≤ r
 below_next f n r before here k h =
     elim (leb_tells n k) [
-      inl reached ↦ let P : ℕ → Type 0 = λ i. f i ≤ r in let same : n ≡ k = omega arith in subst P same here
-    | inr below ↦ before k below.1
+      | inl reached ↦ let P : ℕ → Type 0 = λ i. f i ≤ r in let same : n ≡ k = omega arith in subst P same here
+      | inr below ↦ before k below.1
     ]
 
 pub searched_higher : (depths : List ℕ) (n most beyond : ℕ) (witness : Option ℕ) → Searched depths n most witness → beyond ≡ excess depths n → most < beyond → Searched depths (n + 1) beyond (Some n)

@@ -33,36 +33,36 @@ waiting-next level [] (place ∷ places) f = absurd f
 waiting-next level (depth ∷ depths) [] f = absurd f
 waiting-next level (depth ∷ depths) (Some place ∷ places) f =
     elim (eqb_tells depth level) [
-      inl same ↦ let e : depth ≡ level = same.1 in let b : suc level ≤ place = f.0 in let a : place ≤ depth = f.1 in absurd (omega arith)
-    | inr differs ↦
-        let others : waiting level depths places ≡ waiting (suc level) depths places + count_exact depths level = waiting-next level depths places f.2 in
-        let step : count_exact (depth ∷ depths) level ≡ 0 + count_exact depths level = count_by-no (λ d. nat_eq d level) depth depths differs.0 in
-        omega arith
+      | inl same ↦ let e : depth ≡ level = same.1 in let b : suc level ≤ place = f.0 in let a : place ≤ depth = f.1 in absurd (omega arith)
+      | inr differs ↦
+          let others : waiting level depths places ≡ waiting (suc level) depths places + count_exact depths level = waiting-next level depths places f.2 in
+          let step : count_exact (depth ∷ depths) level ≡ 0 + count_exact depths level = count_by-no (λ d. nat_eq d level) depth depths differs.0 in
+          omega arith
     ]
 waiting-next level (depth ∷ depths) (None ∷ places) f =
     let others : waiting level depths places ≡ waiting (suc level) depths places + count_exact depths level = waiting-next level depths places f in
     elim (eqb_tells depth level) [
-      inl same ↦
-        let e : depth ≡ level = same.1 in
-        let step : count_exact (depth ∷ depths) level ≡ 1 + count_exact depths level = count_by-yes (λ d. nat_eq d level) depth depths same.0 in
-        let here : waiting level (depth ∷ depths) (None ∷ places) ≡ 1 + waiting level depths places = waiting-yes level depth depths places (le_true level depth (omega arith)) in
-        let next : waiting (suc level) (depth ∷ depths) (None ∷ places) ≡ 0 + waiting (suc level) depths places = waiting-no (suc level) depth depths places (le_false (suc level) depth (omega arith)) in
-        omega arith
-    | inr differs ↦
-        let apart : depth ≢ level = differs.1 in
-        let step : count_exact (depth ∷ depths) level ≡ 0 + count_exact depths level = count_by-no (λ d. nat_eq d level) depth depths differs.0 in
-        elim (leb_tells level depth) [
-          inl h ↦
-            let reaches : level ≤ depth = h.1 in
-            let here : waiting level (depth ∷ depths) (None ∷ places) ≡ 1 + waiting level depths places = waiting-yes level depth depths places h.0 in
-            let next : waiting (suc level) (depth ∷ depths) (None ∷ places) ≡ 1 + waiting (suc level) depths places = waiting-yes (suc level) depth depths places (le_true (suc level) depth (omega arith)) in
-            omega arith
-        | inr h ↦
-            let short : depth < level = h.1 in
-            let here : waiting level (depth ∷ depths) (None ∷ places) ≡ 0 + waiting level depths places = waiting-no level depth depths places h.0 in
-            let next : waiting (suc level) (depth ∷ depths) (None ∷ places) ≡ 0 + waiting (suc level) depths places = waiting-no (suc level) depth depths places (le_false (suc level) depth (omega arith)) in
-            omega arith
-        ]
+      | inl same ↦
+          let e : depth ≡ level = same.1 in
+          let step : count_exact (depth ∷ depths) level ≡ 1 + count_exact depths level = count_by-yes (λ d. nat_eq d level) depth depths same.0 in
+          let here : waiting level (depth ∷ depths) (None ∷ places) ≡ 1 + waiting level depths places = waiting-yes level depth depths places (le_true level depth (omega arith)) in
+          let next : waiting (suc level) (depth ∷ depths) (None ∷ places) ≡ 0 + waiting (suc level) depths places = waiting-no (suc level) depth depths places (le_false (suc level) depth (omega arith)) in
+          omega arith
+      | inr differs ↦
+          let apart : depth ≢ level = differs.1 in
+          let step : count_exact (depth ∷ depths) level ≡ 0 + count_exact depths level = count_by-no (λ d. nat_eq d level) depth depths differs.0 in
+          elim (leb_tells level depth) [
+            | inl h ↦
+                let reaches : level ≤ depth = h.1 in
+                let here : waiting level (depth ∷ depths) (None ∷ places) ≡ 1 + waiting level depths places = waiting-yes level depth depths places h.0 in
+                let next : waiting (suc level) (depth ∷ depths) (None ∷ places) ≡ 1 + waiting (suc level) depths places = waiting-yes (suc level) depth depths places (le_true (suc level) depth (omega arith)) in
+                omega arith
+            | inr h ↦
+                let short : depth < level = h.1 in
+                let here : waiting level (depth ∷ depths) (None ∷ places) ≡ 0 + waiting level depths places = waiting-no level depth depths places h.0 in
+                let next : waiting (suc level) (depth ∷ depths) (None ∷ places) ≡ 0 + waiting (suc level) depths places = waiting-no (suc level) depth depths places (le_false (suc level) depth (omega arith)) in
+                omega arith
+          ]
     ]
 
 within-next : (depths : List ℕ) (k : ℕ) → count_within depths (suc k) ≡ count_within depths k + count_exact depths (suc k)
@@ -70,27 +70,27 @@ within-next [] k = omega arith
 within-next (depth ∷ depths) k =
     let others : count_within depths (suc k) ≡ count_within depths k + count_exact depths (suc k) = within-next depths k in
     elim (eqb_tells depth (suc k)) [
-      inl same ↦
-        let e : depth ≡ suc k = same.1 in
-        let exact : count_exact (depth ∷ depths) (suc k) ≡ 1 + count_exact depths (suc k) = count_by-yes (λ d. nat_eq d (suc k)) depth depths same.0 in
-        let more : count_within (depth ∷ depths) (suc k) ≡ 1 + count_within depths (suc k) = count_by-yes (λ d. nat_le d (suc k)) depth depths (le_true depth (suc k) (omega arith)) in
-        let less : count_within (depth ∷ depths) k ≡ 0 + count_within depths k = count_by-no (λ d. nat_le d k) depth depths (le_false depth k (omega arith)) in
-        omega arith
-    | inr differs ↦
-        let apart : depth ≢ suc k = differs.1 in
-        let exact : count_exact (depth ∷ depths) (suc k) ≡ 0 + count_exact depths (suc k) = count_by-no (λ d. nat_eq d (suc k)) depth depths differs.0 in
-        elim (leb_tells depth k) [
-          inl h ↦
-            let within : depth ≤ k = h.1 in
-            let more : count_within (depth ∷ depths) (suc k) ≡ 1 + count_within depths (suc k) = count_by-yes (λ d. nat_le d (suc k)) depth depths (le_true depth (suc k) (omega arith)) in
-            let less : count_within (depth ∷ depths) k ≡ 1 + count_within depths k = count_by-yes (λ d. nat_le d k) depth depths h.0 in
-            omega arith
-        | inr h ↦
-            let beyond : k < depth = h.1 in
-            let more : count_within (depth ∷ depths) (suc k) ≡ 0 + count_within depths (suc k) = count_by-no (λ d. nat_le d (suc k)) depth depths (le_false depth (suc k) (omega arith)) in
-            let less : count_within (depth ∷ depths) k ≡ 0 + count_within depths k = count_by-no (λ d. nat_le d k) depth depths h.0 in
-            omega arith
-        ]
+      | inl same ↦
+          let e : depth ≡ suc k = same.1 in
+          let exact : count_exact (depth ∷ depths) (suc k) ≡ 1 + count_exact depths (suc k) = count_by-yes (λ d. nat_eq d (suc k)) depth depths same.0 in
+          let more : count_within (depth ∷ depths) (suc k) ≡ 1 + count_within depths (suc k) = count_by-yes (λ d. nat_le d (suc k)) depth depths (le_true depth (suc k) (omega arith)) in
+          let less : count_within (depth ∷ depths) k ≡ 0 + count_within depths k = count_by-no (λ d. nat_le d k) depth depths (le_false depth k (omega arith)) in
+          omega arith
+      | inr differs ↦
+          let apart : depth ≢ suc k = differs.1 in
+          let exact : count_exact (depth ∷ depths) (suc k) ≡ 0 + count_exact depths (suc k) = count_by-no (λ d. nat_eq d (suc k)) depth depths differs.0 in
+          elim (leb_tells depth k) [
+            | inl h ↦
+                let within : depth ≤ k = h.1 in
+                let more : count_within (depth ∷ depths) (suc k) ≡ 1 + count_within depths (suc k) = count_by-yes (λ d. nat_le d (suc k)) depth depths (le_true depth (suc k) (omega arith)) in
+                let less : count_within (depth ∷ depths) k ≡ 1 + count_within depths k = count_by-yes (λ d. nat_le d k) depth depths h.0 in
+                omega arith
+            | inr h ↦
+                let beyond : k < depth = h.1 in
+                let more : count_within (depth ∷ depths) (suc k) ≡ 0 + count_within depths (suc k) = count_by-no (λ d. nat_le d (suc k)) depth depths (le_false depth (suc k) (omega arith)) in
+                let less : count_within (depth ∷ depths) k ≡ 0 + count_within depths k = count_by-no (λ d. nat_le d k) depth depths h.0 in
+                omega arith
+          ]
     ]
 
 within-zero : (depths : List ℕ) → count_within depths 0 ≡ count_exact depths 0
@@ -98,16 +98,16 @@ within-zero [] = refl
 within-zero (depth ∷ depths) =
     let others : count_within depths 0 ≡ count_exact depths 0 = within-zero depths in
     elim (eqb_tells depth 0) [
-      inl same ↦
-        let e : depth ≡ 0 = same.1 in
-        let exact : count_exact (depth ∷ depths) 0 ≡ 1 + count_exact depths 0 = count_by-yes (λ d. nat_eq d 0) depth depths same.0 in
-        let within : count_within (depth ∷ depths) 0 ≡ 1 + count_within depths 0 = count_by-yes (λ d. nat_le d 0) depth depths (le_true depth 0 (omega arith)) in
-        omega arith
-    | inr differs ↦
-        let apart : depth ≢ 0 = differs.1 in
-        let exact : count_exact (depth ∷ depths) 0 ≡ 0 + count_exact depths 0 = count_by-no (λ d. nat_eq d 0) depth depths differs.0 in
-        let within : count_within (depth ∷ depths) 0 ≡ 0 + count_within depths 0 = count_by-no (λ d. nat_le d 0) depth depths (le_false depth 0 (omega arith)) in
-        omega arith
+      | inl same ↦
+          let e : depth ≡ 0 = same.1 in
+          let exact : count_exact (depth ∷ depths) 0 ≡ 1 + count_exact depths 0 = count_by-yes (λ d. nat_eq d 0) depth depths same.0 in
+          let within : count_within (depth ∷ depths) 0 ≡ 1 + count_within depths 0 = count_by-yes (λ d. nat_le d 0) depth depths (le_true depth 0 (omega arith)) in
+          omega arith
+      | inr differs ↦
+          let apart : depth ≢ 0 = differs.1 in
+          let exact : count_exact (depth ∷ depths) 0 ≡ 0 + count_exact depths 0 = count_by-no (λ d. nat_eq d 0) depth depths differs.0 in
+          let within : count_within (depth ∷ depths) 0 ≡ 0 + count_within depths 0 = count_by-no (λ d. nat_le d 0) depth depths (le_false depth 0 (omega arith)) in
+          omega arith
     ]
 
 -- at the root all that aren't placed wait
@@ -145,7 +145,7 @@ left-fill_up zero depths places f =
     omega arith
 left-fill_up (suc level) depths places f =
     let above : left (fill_up level depths (fill (suc level) 4 depths places)) ≡ max (rest depths level) (waiting (suc level) depths (fill (suc level) 4 depths places) + count_within depths level - 4 * (level + 1)) =
-      left-fill_up level depths (fill (suc level) 4 depths places) (FitsFrom-fill (suc level) 4 depths places f) in
+    left-fill_up level depths (fill (suc level) 4 depths places) (FitsFrom-fill (suc level) 4 depths places f) in
     let taken : waiting (suc level) depths (fill (suc level) 4 depths places) ≡ waiting (suc level) depths places - 4 = waiting-fill (suc level) 4 depths places in
     let next : waiting (suc level) depths places ≡ waiting (suc (suc level)) depths places + count_exact depths (suc level) = waiting-next (suc level) depths places f in
     let within : count_within depths (suc level) ≡ count_within depths level + count_exact depths (suc level) = within-next depths level in
@@ -156,7 +156,7 @@ pub left-eviction : (depths : List ℕ) (levels : ℕ) → All (λ depth. depth 
 unfolding eviction
 left-eviction depths levels all =
     let met : left (fill_up levels depths (replicate (length depths) None)) ≡ max (rest depths levels) (waiting (suc levels) depths (replicate (length depths) None) + count_within depths levels - 4 * (levels + 1)) =
-      left-fill_up levels depths (replicate (length depths) None) (FitsFrom-empty (suc levels) depths) in
+    left-fill_up levels depths (replicate (length depths) None) (FitsFrom-empty (suc levels) depths) in
     let none : waiting (suc levels) depths (replicate (length depths) None) ≡ 0 = waiting-above levels depths (replicate (length depths) None) all in
     let reached : excess depths levels ≤ rest depths levels = excess-le-rest depths levels levels (omega arith) in
     omega arith

@@ -34,5 +34,5 @@ pub planned : (depths : List ℕ) (levels len k m : ℕ) (cleared start lent new
 unfolding eviction
 planned depths levels len k m cleared start lent new old all empty none made same filled whole =
     let rule : take len (new ++ drop m old) ≡ eviction depths levels =
-      written len m new old whole ∙ filled ∙ ap (fill_up levels depths) (same ∙ made ∙ blank (length depths) k cleared empty none) in
+    written len m new old whole ∙ filled ∙ ap (fill_up levels depths) (same ∙ made ∙ blank (length depths) k cleared empty none) in
     subst (IsPlanned depths levels) (sym rule) (IsPlanned-eviction depths levels all)

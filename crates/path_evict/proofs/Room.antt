@@ -16,8 +16,8 @@ count_at-above bound level (depth ∷ depths) (None ∷ places) f h =
     count_by-no (stands_at level) None places refl ∙ ap (λ n. 0 + n) (count_at-above bound level depths places f h)
 count_at-above bound level (depth ∷ depths) (Some place ∷ places) f h =
     elim (eqb_tells place level) [
-      inl same ↦ let e : place ≡ level = same.1 in let b : bound ≤ place = f.0 in absurd (omega arith)
-    | inr other ↦ count_by-no (stands_at level) (Some place) places other.0 ∙ ap (λ n. 0 + n) (count_at-above bound level depths places f.2 h)
+      | inl same ↦ let e : place ≡ level = same.1 in let b : bound ≤ place = f.0 in absurd (omega arith)
+      | inr other ↦ count_by-no (stands_at level) (Some place) places other.0 ∙ ap (λ n. 0 + n) (count_at-above bound level depths places f.2 h)
     ]
 
 count_at-same : (level : ℕ) (place : Option ℕ) (xs ys : List (Option ℕ)) → count_at level xs ≡ count_at level ys → count_at level (place ∷ xs) ≡ count_at level (place ∷ ys)
@@ -43,17 +43,17 @@ count_at-fill_other level other room (depth ∷ depths) (Some place ∷ places) 
 count_at-fill_other level other zero (depth ∷ depths) (None ∷ places) ne = refl
 count_at-fill_other level other (suc room) (depth ∷ depths) (None ∷ places) ne =
     elim (leb_tells level depth) [
-      inl h ↦ elim (eqb_tells level other) [
-          inl same ↦ absurd (ne same.1)
+      | inl h ↦ elim (eqb_tells level other) [
+        | inl same ↦ absurd (ne same.1)
         | inr differs ↦
             ap (count_at other) (fill-yes level room depth depths places h.0)
             ∙ count_by-no (stands_at other) (Some level) (fill level room depths places) differs.0
             ∙ ap (λ n. 0 + n) (count_at-fill_other level other room depths places ne)
             ∙ sym (count_by-no (stands_at other) None places refl)
-        ]
-    | inr h ↦
-        ap (count_at other) (fill-no level room depth depths places h.0)
-        ∙ count_at-same other None (fill level (suc room) depths places) places (count_at-fill_other level other (suc room) depths places ne)
+      ]
+      | inr h ↦
+          ap (count_at other) (fill-no level room depth depths places h.0)
+          ∙ count_at-same other None (fill level (suc room) depths places) places (count_at-fill_other level other (suc room) depths places ne)
     ]
 
 -- one entry more in front counts the same in both
@@ -66,26 +66,26 @@ count_at-fill level room [] places = omega arith
 count_at-fill level room (depth ∷ depths) [] = omega arith
 count_at-fill level room (depth ∷ depths) (Some place ∷ places) =
     le_in_front (cond (stands_at level (Some place)) 1 0) _ _ 0 room _ _
-      (sum_by-cons (λ p. cond (stands_at level p) 1 0) (Some place) (fill level room depths places))
-      (sum_by-cons (λ p. cond (stands_at level p) 1 0) (Some place) places)
-      (count_at-fill level room depths places)
+    (sum_by-cons (λ p. cond (stands_at level p) 1 0) (Some place) (fill level room depths places))
+    (sum_by-cons (λ p. cond (stands_at level p) 1 0) (Some place) places)
+    (count_at-fill level room depths places)
 count_at-fill level zero (depth ∷ depths) (None ∷ places) = omega arith
 count_at-fill level (suc room) (depth ∷ depths) (None ∷ places) =
     let before : count_at level (None ∷ places) ≡ 0 + count_at level places = count_by-no (stands_at level) None places refl in
     elim (leb_tells level depth) [
-      inl h ↦ elim (eqb_tells level level) [
-          inl same ↦
+      | inl h ↦ elim (eqb_tells level level) [
+        | inl same ↦
             let after : count_at level (fill level (suc room) (depth ∷ depths) (None ∷ places)) ≡ 1 + count_at level (fill level room depths places) =
-              ap (count_at level) (fill-yes level room depth depths places h.0) ∙ count_by-yes (stands_at level) (Some level) (fill level room depths places) same.0 in
+            ap (count_at level) (fill-yes level room depth depths places h.0) ∙ count_by-yes (stands_at level) (Some level) (fill level room depths places) same.0 in
             let more : count_at level (fill level room depths places) ≤ count_at level places + room = count_at-fill level room depths places in
             omega arith
         | inr differs ↦ absurd (differs.1 refl)
-        ]
-    | inr h ↦
-        let after : count_at level (fill level (suc room) (depth ∷ depths) (None ∷ places)) ≡ 0 + count_at level (fill level (suc room) depths places) =
+      ]
+      | inr h ↦
+          let after : count_at level (fill level (suc room) (depth ∷ depths) (None ∷ places)) ≡ 0 + count_at level (fill level (suc room) depths places) =
           ap (count_at level) (fill-no level room depth depths places h.0) ∙ count_by-no (stands_at level) None (fill level (suc room) depths places) refl in
-        let more : count_at level (fill level (suc room) depths places) ≤ count_at level places + suc room = count_at-fill level (suc room) depths places in
-        omega arith
+          let more : count_at level (fill level (suc room) depths places) ≤ count_at level places + suc room = count_at-fill level (suc room) depths places in
+          omega arith
     ]
 
 HasRoom : List (Option ℕ) → Type 0
@@ -95,12 +95,12 @@ HasRoom-fill : (level : ℕ) (depths : List ℕ) (places : List (Option ℕ)) �
 unfolding HasRoom
 HasRoom-fill level depths places f room other =
     elim (eqb_tells level other) [
-      inl same ↦ 
-        let P : ℕ → Type 0 = λ i. count_at i (fill level slots depths places) ≤ slots in
-        let none : count_at level places ≡ 0 = count_at-above (suc level) level depths places f (omega arith) in
-        let more : count_at level (fill level slots depths places) ≤ count_at level places + slots = count_at-fill level slots depths places in
-        subst P same.1 (omega arith)
-    | inr differs ↦ rw (count_at-fill_other level other slots depths places differs.1) (room other)
+      | inl same ↦
+          let P : ℕ → Type 0 = λ i. count_at i (fill level slots depths places) ≤ slots in
+          let none : count_at level places ≡ 0 = count_at-above (suc level) level depths places f (omega arith) in
+          let more : count_at level (fill level slots depths places) ≤ count_at level places + slots = count_at-fill level slots depths places in
+          subst P same.1 (omega arith)
+      | inr differs ↦ rw (count_at-fill_other level other slots depths places differs.1) (room other)
     ]
 
 HasRoom-fill_up : (level : ℕ) (depths : List ℕ) (places : List (Option ℕ)) → FitsFrom (suc level) depths places → HasRoom places → HasRoom (fill_up level depths places)

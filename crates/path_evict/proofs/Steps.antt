@@ -20,8 +20,8 @@ fill-skip level room depth (Some place) depths places barred = refl
 fill-skip level zero depth None depths places barred = ap (λ ps. None ∷ ps) (sym (fill-full level depths places))
 fill-skip level (suc room) depth None depths places barred =
     elim (leb_tells level depth) [
-      inl h ↦ absurd (barred (omega arith) refl h.1)
-    | inr h ↦ fill-no level room depth depths places h.0
+      | inl h ↦ absurd (barred (omega arith) refl h.1)
+      | inr h ↦ fill-no level room depth depths places h.0
     ]
 
 fill-take : (level room depth : ℕ) (place : Option ℕ) (depths : List ℕ) (places : List (Option ℕ)) → 0 < room → is_some place ≡ false → level ≤ depth → fill level room (depth ∷ depths) (place ∷ places) ≡ Some level ∷ fill level (room - 1) depths places
@@ -29,8 +29,8 @@ fill-take level room depth (Some place) depths places some none reaches = absurd
 fill-take level zero depth None depths places some none reaches = absurd (omega arith)
 fill-take level (suc room) depth None depths places some none reaches =
     elim (leb_tells level depth) [
-      inl h ↦ fill-yes level room depth depths places h.0 ∙ ap (λ n. Some level ∷ fill level n depths places) (let e : room ≡ suc room - 1 = omega arith in e)
-    | inr h ↦ absurd (omega (arith, h.1))
+      | inl h ↦ fill-yes level room depth depths places h.0 ∙ ap (λ n. Some level ∷ fill level n depths places) (let e : room ≡ suc room - 1 = omega arith in e)
+      | inr h ↦ absurd (omega (arith, h.1))
     ]
 
 module _ (level room i : ℕ) (depths : List ℕ) (places : List (Option ℕ)) (d : ℕ) (p : Option ℕ) (in_depths : i < length depths) (in_places : i < length places) where

@@ -6,7 +6,7 @@ ghost use Rattle.path_evict.specs.Placement.{slots, left, IsPlacement};
 ghost use Rattle.path_evict.specs.Eviction.{fill, fill_up, eviction};
 ghost use Rattle.path_evict.specs.Rest.{excess, rest, IsLeastWitness};
 
-use std::alloc::AllocError;
+use asc_base::NoMemory;
 
 /// The entries that a bucket holds.
 const SLOTS: usize = 4;
@@ -67,7 +67,7 @@ fn fill_path(depths: &[u32], levels: u32, places: &mut [Option<u32>])
 /// whose depth is at least the level. No placement leaves fewer.
 ///
 /// Where `into` has room for as many as there are depths, it takes no memory. After want of memory `into` is empty.
-pub fn plan(depths: &[u32], levels: u32, into: &mut Vec<Option<u32>>) -> Result<(), AllocError>
+pub fn plan(depths: &[u32], levels: u32, into: &mut Vec<Option<u32>>) -> Result<(), NoMemory>
     requires { All (λ depth. depth ≤ levels) depths.now }
     ensures rule { OnOk result (into.new.items ≡ eviction depths.now levels) }
     ensures placement { OnOk result (IsPlacement depths.now into.new.items) }
@@ -78,7 +78,12 @@ pub fn plan(depths: &[u32], levels: u32, into: &mut Vec<Option<u32>>) -> Result<
     ensures err { OnErr result (into.new.items ≡ []) }
 {
     into.clear();
-    into.resize(depths.len(), None)?;
+    let Ok(()) = into.resize(depths.len(), None) else {
+        return Err(NoMemory);
+    };
     fill_path(depths, levels, into);
     Ok(())
 }
+
+#[cfg(test)]
+mod tests;
