@@ -1,5 +1,5 @@
 -- Every placement leaves at least the rest: the entries with a depth of at most k stand at the levels from 0 to k.
-use Rattle.std.proofs.Common.{◌≡◌, ◌≢◌, ℕ, zero, suc, ◌+◌, ◌*◌, ◌-◌, ◌≤◌, ◌<◌, List, [], ◌∷◌, Option, Some, None, Bool, true, false, cond, arith, refl, inl, inr, sym, subst, nat_le, nat_eq, is_none, count_by}
+use Rattle.std.proofs.Common.{◌≡◌, ◌≢◌, ℕ, zero, suc, ◌+◌, ◌*◌, ◌≤◌, List, [], ◌∷◌, Option, Some, None, cond, arith, refl, inl, inr, nat_le, is_none}
 use Rattle.std.proofs.lemmas.Bool.Decides.{leb_tells, eqb_tells}
 use Rattle.std.proofs.lemmas.List.Sums.{sum_by-cons}
 use Rattle.path_evict.specs.Placement.{slots, IsPlacement, Fits, count_at, stands_at, left}

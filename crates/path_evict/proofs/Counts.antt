@@ -1,9 +1,8 @@
 -- What filling a level does to the entries that wait for it, and how many the whole rule leaves.
-use Rattle.std.proofs.Common.{◌≡◌, ℕ, zero, suc, ◌+◌, ◌*◌, ◌-◌, ◌≤◌, ◌<◌, List, [], ◌∷◌, Option, Some, None, Bool, true, false, cond, length, max, arith, refl, subst, inl, inr, sym, ap, ◌∙◌, replicate, nat_le, is_none, count_by}
+use Rattle.std.proofs.Common.{◌≡◌, ℕ, zero, suc, ◌+◌, ◌-◌, ◌≤◌, List, [], ◌∷◌, Option, Some, None, cond, length, arith, inl, inr, replicate, nat_le}
 use Rattle.std.proofs.lemmas.Bool.Decides.{leb_tells}
-use Rattle.path_evict.specs.Placement.{slots, Fits, count_at, left}
+use Rattle.path_evict.specs.Placement.{slots, Fits}
 use Rattle.path_evict.specs.Eviction.{fill, fill_up, eviction}
-use Rattle.path_evict.specs.Rest.{count_within, excess, rest}
 
 -- how many entries wait for a level: they aren't placed, and may stand there
 abbrev pub waiting : ℕ → List ℕ → List (Option ℕ) → ℕ

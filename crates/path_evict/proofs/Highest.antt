@@ -1,5 +1,5 @@
 -- The rest is the greatest excess, and a search through the depths in order finds the least that reaches it.
-use Rattle.std.proofs.Common.{◌≡◌, ℕ, zero, suc, ◌+◌, ◌*◌, ◌-◌, ◌≤◌, ◌<◌, List, Option, Some, None, IfSome, IfNone, arith, inl, inr, subst, sym}
+use Rattle.std.proofs.Common.{◌≡◌, ℕ, zero, suc, ◌+◌, ◌≤◌, ◌<◌, List, Option, Some, None, IfSome, IfNone, arith, inl, inr, subst, sym}
 use Rattle.std.proofs.lemmas.Bool.Decides.{leb_tells}
 use Rattle.path_evict.specs.Rest.{excess, rest, IsLeastWitness}
 

@@ -1,9 +1,9 @@
 -- The rule leaves the rest: what waits for a level, level by level, is a queue whose length at the root is the greatest
 -- excess.
-use Rattle.std.proofs.Common.{◌≡◌, ◌≢◌, ℕ, zero, suc, ◌+◌, ◌*◌, ◌-◌, ◌≤◌, ◌<◌, List, [], ◌∷◌, Option, Some, None, Bool, true, false, cond, length, max, arith, refl, inl, inr, sym, ap, ◌∙◌, replicate, nat_le, nat_eq, is_none, count_by, All}
+use Rattle.std.proofs.Common.{◌≡◌, ◌≢◌, ℕ, zero, suc, ◌+◌, ◌*◌, ◌-◌, ◌≤◌, ◌<◌, List, [], ◌∷◌, Option, Some, None, true, false, length, max, arith, refl, inl, inr, ap, ◌∙◌, replicate, nat_le, nat_eq, is_none, count_by, All}
 use Rattle.std.proofs.lemmas.Bool.Decides.{leb_tells, eqb_tells}
 use Rattle.std.proofs.lemmas.List.Elements.{All-head, All-tail}
-use Rattle.path_evict.specs.Placement.{slots, Fits, left}
+use Rattle.path_evict.specs.Placement.{slots, left}
 use Rattle.path_evict.specs.Eviction.{fill, fill_up, eviction}
 use Rattle.path_evict.specs.Rest.{count_within, excess, rest}
 use Rattle.path_evict.proofs.Counts.{waiting, waiting-fill, FitsFrom, FitsFrom-fill, FitsFrom-empty}

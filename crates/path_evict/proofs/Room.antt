@@ -1,7 +1,7 @@
 -- No level holds more than its bucket's slots.
-use Rattle.std.proofs.Common.{◌≡◌, ◌≢◌, ℕ, zero, suc, ◌+◌, ◌*◌, ◌-◌, ◌≤◌, ◌<◌, List, [], ◌∷◌, Option, Some, None, Bool, true, false, cond, length, arith, refl, subst, inl, inr, sym, ap, ◌∙◌, replicate, nat_le, count_by}
+use Rattle.std.proofs.Common.{◌≡◌, ◌≢◌, ℕ, zero, suc, ◌+◌, ◌≤◌, ◌<◌, List, [], ◌∷◌, Option, Some, None, true, false, cond, length, arith, refl, subst, inl, inr, sym, ap, ◌∙◌, replicate, nat_le}
 use Rattle.std.proofs.lemmas.Bool.Decides.{leb_tells, eqb_tells}
-use Rattle.path_evict.specs.Placement.{slots, IsPlacement, Fits, count_at, stands_at, left}
+use Rattle.path_evict.specs.Placement.{slots, IsPlacement, count_at, stands_at}
 use Rattle.path_evict.specs.Eviction.{fill, fill_up, eviction}
 use Rattle.path_evict.proofs.Tally.{count_by-yes, count_by-no}
 use Rattle.std.proofs.lemmas.List.Sums.{sum_by-cons}

@@ -1,5 +1,5 @@
 -- The rule, one entry at a time.
-use Rattle.std.proofs.Common.{◌≡◌, ◌≢◌, ℕ, zero, suc, ◌+◌, ◌*◌, ◌-◌, ◌≤◌, ◌<◌, List, [], ◌∷◌, ◌++◌, Option, Some, None, Bool, true, false, cond, length, take, drop, get_or, set, arith, refl, inl, inr, sym, ap, ◌∙◌, nat_le, append_assoc, drop-cons, add-one, drop_of_length-le, is_some, not}
+use Rattle.std.proofs.Common.{◌≡◌, ℕ, zero, suc, ◌+◌, ◌-◌, ◌≤◌, ◌<◌, List, [], ◌∷◌, ◌++◌, Option, Some, None, Bool, true, false, length, take, drop, get_or, set, arith, refl, inl, inr, sym, ap, ◌∙◌, append_assoc, drop-cons, add-one, drop_of_length-le, is_some, not}
 use Rattle.std.proofs.lemmas.Bool.Decides.{leb_tells}
 use Rattle.std.proofs.lemmas.List.{take_more, take_more_set, drop-set-lt, append-nil, take-append-le}
 use Rattle.std.proofs.lemmas.List.{take_all}

@@ -1,6 +1,6 @@
 -- Placements of entries on a path. The root's level is 0; an entry's depth is the deepest level of the path that its
 -- own path shares. A placement is a list beside the list of depths: each entry's level, or None where it stays.
-use Rattle.std.specs.Prelude.{ℕ, ◌≤◌, ◌==◌, Bool, true, false, List, [], ◌∷◌, Option, Some, None, is_none, count_by}
+use Rattle.std.specs.Prelude.{ℕ, ◌≤◌, ◌==◌, Bool, false, List, [], ◌∷◌, Option, Some, None, is_none, count_by}
 
 -- the entries that a bucket holds, and there is one bucket to a level
 abbrev pub slots : ℕ

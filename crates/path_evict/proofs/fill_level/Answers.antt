@@ -1,4 +1,4 @@
-use Rattle.std.proofs.Common.{◌≡◌, ◌<◌, ◌≤◌, ℕ, None, length, sym, ◌∙◌, ap, arith, get_or, is_some, false}
+use Rattle.std.proofs.Common.{◌<◌, None, length, sym, ◌∙◌, arith}
 use Rattle.path_evict.proofs.Steps.{step_skip, step_take, after_all, not_both}
 use Rattle.path_evict.proofs.fill_level.Goals as goal
 use Rattle.path_evict.proofs.fill_level.Goals.{then-room-gt0+then-is_none+then-level-depths, else-room-gt0, else-room-gt0-via-then-room-gt0+then-is_none+else-level-depths, else-room-gt0-via-then-room-gt0+else-is_none, else-room-gt0-via-else-room-gt0}

@@ -1,4 +1,4 @@
-use Rattle.std.proofs.Common.{arith, subst, sym}
+use Rattle.std.proofs.Common.{arith}
 use Rattle.path_evict.proofs.Highest.{searched_higher, searched_on, searched_rest, searched_witness, searched_none}
 use Rattle.path_evict.proofs.remainder.Goals as goal
 use Rattle.path_evict.proofs.remainder.Goals.{then-beyond-most, else-beyond-most}

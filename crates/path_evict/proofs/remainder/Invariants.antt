@@ -1,4 +1,3 @@
-use Rattle.std.proofs.Common.{ℕ, Option}
 use Rattle.path_evict.proofs.Highest.{Searched}
 use Rattle.path_evict.proofs.remainder.Given as goal
 
