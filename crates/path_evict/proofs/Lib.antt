@@ -6,3 +6,4 @@ pub mod Room
 pub mod Tally
 pub mod Steps
 pub mod Planned
+pub mod Fitting

@@ -70,6 +70,7 @@ fn fill_path(depths: &[u32], levels: u32, places: &mut [Option<u32>])
 pub fn plan(depths: &[u32], levels: u32, into: &mut Vec<Option<u32>>) -> Result<(), NoMemory>
     requires { All (λ depth. depth ≤ levels) depths.now }
     ensures rule { OnOk result (into.new.items ≡ eviction depths.now levels) }
+    ensures len { OnOk result (vec_len into.new ≡ length depths.now) }
     ensures placement { OnOk result (IsPlacement depths.now into.new.items) }
     ensures rest { OnOk result (left into.new.items ≡ rest depths.now levels) }
     ensures fewest { OnOk result ((places : List (Option ℕ)) → IsPlacement depths.now places → left into.new.items ≤ left places) }

@@ -1,4 +1,4 @@
-use Rattle.std.proofs.Common.{◌≡◌, position, refl, sym, ap, ◌∙◌}
+use Rattle.std.proofs.Common.{position, refl, sym, ap, ◌∙◌}
 use Rattle.oram_stash.specs.Entries.{is_of}
 use Rattle.oram_stash.proofs.Places.{is_some-held}
 use Rattle.oram_stash.proofs.Stash.put.Goals as goal

@@ -1,4 +1,4 @@
-use Rattle.std.proofs.Common.{◌≡◌, ◌+◌, ◌++◌, Some, position, take, drop, get_or, refl, sym, ap, ◌∙◌}
+use Rattle.std.proofs.Common.{◌+◌, ◌++◌, Some, position, take, drop, get_or, sym, ap, ◌∙◌}
 use Rattle.oram_stash.specs.Entries.{is_of}
 use Rattle.oram_stash.proofs.Places.{held-place, without-place, held-absent, without-absent}
 use Rattle.oram_stash.proofs.Stash.take.Goals as goal
