@@ -1,0 +1,32 @@
+use Rattle.std.proofs.Common.{arith}
+use Rattle.path_evict.proofs.Highest.{searched_higher, searched_on, searched_rest, searched_witness, searched_none}
+use Rattle.path_evict.proofs.remainder.Goals as goal
+use Rattle.path_evict.proofs.remainder.Goals.{then-beyond-most, else-beyond-most}
+
+pub loop-k-preserved : goal.loop-k-preserved
+loop-k-preserved c =
+    elim c.if-beyond-most.branch [
+      | then-beyond-most w ↦ rw (w.most-is, w.witness-is) (searched_higher _ _ _ _ _ c.loop-k.invariant c.excess-beyond.ensures w.if-beyond-most.true)
+      | else-beyond-most w ↦ rw (w.most-is, w.witness-is) (searched_on _ _ _ _ _ c.loop-k.invariant c.excess-beyond.ensures w.if-beyond-most.false)
+    ]
+
+pub returns-after-beyond-most-clause-rest : goal.returns-after-beyond-most-clause-rest
+returns-after-beyond-most-clause-rest c =
+    elim c.if-beyond-most.branch [
+      | then-beyond-most w ↦ rw w.most-is (searched_rest _ _ _ _ _ (searched_higher _ _ _ _ _ c.loop-k.invariant c.excess-beyond.ensures w.if-beyond-most.true) (omega arith))
+      | else-beyond-most w ↦ rw w.most-is (searched_rest _ _ _ _ _ (searched_on _ _ _ _ _ c.loop-k.invariant c.excess-beyond.ensures w.if-beyond-most.false) (omega arith))
+    ]
+
+pub returns-after-beyond-most-clause-witness : goal.returns-after-beyond-most-clause-witness
+returns-after-beyond-most-clause-witness c =
+    elim c.if-beyond-most.branch [
+      | then-beyond-most w ↦ rw w.witness-is (searched_witness _ _ _ _ _ (searched_higher _ _ _ _ _ c.loop-k.invariant c.excess-beyond.ensures w.if-beyond-most.true) (omega arith))
+      | else-beyond-most w ↦ rw w.witness-is (searched_witness _ _ _ _ _ (searched_on _ _ _ _ _ c.loop-k.invariant c.excess-beyond.ensures w.if-beyond-most.false) (omega arith))
+    ]
+
+pub returns-after-beyond-most-clause-none : goal.returns-after-beyond-most-clause-none
+returns-after-beyond-most-clause-none c =
+    elim c.if-beyond-most.branch [
+      | then-beyond-most w ↦ rw w.witness-is (searched_none _ _ c.args.levels _ _ (searched_higher _ _ _ _ _ c.loop-k.invariant c.excess-beyond.ensures w.if-beyond-most.true) (omega arith))
+      | else-beyond-most w ↦ rw w.witness-is (searched_none _ _ c.args.levels _ _ (searched_on _ _ _ _ _ c.loop-k.invariant c.excess-beyond.ensures w.if-beyond-most.false) (omega arith))
+    ]

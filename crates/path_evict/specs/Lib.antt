@@ -1,0 +1,3 @@
+pub mod Eviction
+pub mod Placement
+pub mod Rest
