@@ -4,3 +4,6 @@ pub mod Immediates
 pub mod FormLaws
 pub mod ListLaws
 pub mod Apart
+pub mod FieldLaws
+pub mod RowsByFields
+pub mod RowsEncoded
