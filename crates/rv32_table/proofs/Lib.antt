@@ -7,3 +7,6 @@ pub mod Apart
 pub mod FieldLaws
 pub mod RowsByFields
 pub mod RowsEncoded
+pub mod Existence
+pub mod TableLaws
+pub mod EncodedLaws
