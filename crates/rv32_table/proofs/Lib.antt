@@ -10,3 +10,4 @@ pub mod RowsEncoded
 pub mod Existence
 pub mod TableLaws
 pub mod EncodedLaws
+pub mod MeaningRows

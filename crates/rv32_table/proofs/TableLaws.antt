@@ -1,13 +1,14 @@
 -- The table is the same as the fields.
-use Rattle.std.proofs.Common.{◌≡◌, ℕ, ◌<◌, ◌^◌, refl, sym, ◌∙◌, ap, subst}
-use Rattle.std.specs.Prelude.{Option, Some, None, option_map, find, slice_get}
+use Rattle.std.proofs.Common.{◌≡◌, ℕ, ◌<◌, ◌^◌, refl, sym, ◌∙◌, ap, subst, arith, suc, List, [], ◌∷◌}
+use Rattle.std.specs.Prelude.{Option, Some, None, option_map, find, All}
+use Rattle.std.proofs.lemmas.List.Elements.{All-nil, All-cons}
 use Rattle.rv32_table.specs.Fields.{opcode_of}
 use Rattle.rv32_table.specs.Fits.{Fits}
 use Rattle.rv32_table.specs.ByFields.{by_opcode}
 use Rattle.rv32_table.specs.Encoded.{encoded}
 use Rattle.rv32_table.specs.Table.{Row, table, Matches, is_match, instruction_of, decoded}
 use Rattle.rv32_table.specs.declared.instruction.Instr.{Instr}
-use Rattle.rv32_table.proofs.ListLaws.{HasRow, find-each, find-none}
+use Rattle.rv32_table.proofs.ListLaws.{HasRow, EachRow, if-case, find-each, find-none}
 use Rattle.rv32_table.proofs.RowsByFields.{rows-by_opcode}
 use Rattle.rv32_table.proofs.RowsEncoded.{rows-encoded}
 use Rattle.rv32_table.proofs.Existence.{exists}
@@ -43,11 +44,30 @@ pub decoded-returns : (w : ℕ) (i : Instr) → w < 2 ^ 32 → decoded w ≡ Som
 unfolding decoded
 decoded-returns w i fits e = returns_from w fits (find (is_match w) table) i refl e
 
--- a word of a row is an instruction
-pub decoded-row : (w place : ℕ) (r : Row) → w < 2 ^ 32 → slice_get table place ≡ Some r → Matches w r → decoded w ≡ None → ⊥
+-- ---- a word is illegal exactly where it matches no row
+none-each : (word : ℕ) (rows : List Row) → find (is_match word) rows ≡ None → All (λ r. Matches word r → ⊥) rows
+none-each word [] e = All-nil (λ r. Matches word r → ⊥)
+none-each word (x ∷ xs) e =
+    All-cons (λ r. Matches word r → ⊥) x xs (λ m. find-none word (x ∷ xs) 0 x e refl m)
+    (if-case (All (λ r. Matches word r → ⊥) xs) (is_match word x) (Some x) (find (is_match word) xs) None e
+        (λ t same. absurd (cc)) (λ t rest. none-each word xs rest))
+
+each-none : (word : ℕ) (rows : List Row) → All (λ r. Matches word r → ⊥) rows → EachRow (λ r. Matches word r → ⊥) rows
+each-none word [] all = tt
+each-none word (x ∷ xs) all = (all 0 x (omega arith), each-none word xs (λ k d below. all (suc k) d (omega arith)))
+
+pub outside-decoded : (word : ℕ) → All (λ r. Matches word r → ⊥) table → decoded word ≡ None
 unfolding decoded
-decoded-row w place r fits stands matches none = find-none w table place r (no_map (find (is_match w) table) none) stands matches
+outside-decoded word all = from (find (is_match word) table) refl
   where
-    no_map : (found : Option Row) → option_map (λ (x : Row). instruction_of x.form w) found ≡ None → found ≡ None
+    from : (found : Option Row) → find (is_match word) table ≡ found → option_map (λ (r : Row). instruction_of r.form word) found ≡ None
+    from None e = refl
+    from (Some r) e = absurd (find-each (λ (x : Row). ⊥) word table r (each-none word table all) e)
+
+pub decoded-outside : (word : ℕ) → decoded word ≡ None → All (λ r. Matches word r → ⊥) table
+unfolding decoded
+decoded-outside word none = none-each word table (no_map (find (is_match word) table) none)
+  where
+    no_map : (found : Option Row) → option_map (λ (x : Row). instruction_of x.form word) found ≡ None → found ≡ None
     no_map None e = refl
     no_map (Some x) e = absurd (cc)

@@ -3,4 +3,4 @@ pub mod Fits
 pub mod Table
 pub mod ByFields
 pub mod Encoded
-
+pub mod Meaning
