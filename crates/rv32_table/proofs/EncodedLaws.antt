@@ -1,5 +1,5 @@
 -- The word of an instruction that fits is this instruction.
-use Rattle.std.proofs.Common.{◌≡◌, ℕ, ◌+◌, ◌*◌, ◌<◌, ◌^◌, refl, sym, ◌∙◌, ap, lit<, arith, true, false}
+use Rattle.std.proofs.Common.{◌≡◌, ℕ, ◌+◌, ◌*◌, ◌%◌, ◌<◌, ◌^◌, refl, sym, ◌∙◌, ap, lit<, arith, true, false}
 use Rattle.std.specs.Prelude.{ℤ, pos, Option, Some, None, option_map}
 use Rattle.rv32_table.specs.Fields.{opcode_of, rd_of, funct3_of, rs1_of, rs2_of, funct7_of, immediate_i, immediate_s, immediate_b, immediate_u, immediate_j, rest_of}
 use Rattle.rv32_table.specs.Fits.{Fits, IsImmediate, IsSigned, IsAmount, IsRest}
@@ -274,3 +274,82 @@ by_opcode-encoded (Fence rest) fits = fence-encoded rest fits
 by_opcode-encoded (FenceI rest) fits = fence_i-encoded rest fits
 by_opcode-encoded Ecall fits = refl
 by_opcode-encoded Ebreak fits = refl
+
+-- ---- such a word has 32 bits
+word_of-below : (opcode rd funct3 rs1 rs2 funct7 : ℕ) → AreFields opcode rd funct3 rs1 rs2 funct7
+    → word_of opcode rd funct3 rs1 rs2 funct7 < 2 ^ 32
+word_of-below opcode rd funct3 rs1 rs2 funct7 fits =
+    let h : HasFields (word_of opcode rd funct3 rs1 rs2 funct7) opcode rd funct3 rs1 rs2 funct7 =
+        word_of-fields opcode rd funct3 rs1 rs2 funct7 fits in
+    h.word_below
+
+-- so many bits are a field
+five : (z : ℤ) → part z 0 5 < 2 ^ 5
+five z = omega arith
+
+seven : (z : ℤ) → part z 5 7 < 2 ^ 7
+seven z = omega arith
+
+low_b : (z : ℤ) → part z 1 4 * 2 + part z 11 1 < 2 ^ 5
+low_b z = omega arith
+
+high_b : (z : ℤ) → part z 12 1 * 2 ^ 6 + part z 5 6 < 2 ^ 7
+high_b z = omega arith
+
+word_i-below : (opcode rd funct3 rs1 : ℕ) (imm : ℤ) → opcode < 2 ^ 7 → rd < 2 ^ 5 → funct3 < 2 ^ 3 → rs1 < 2 ^ 5
+    → word_i opcode rd funct3 rs1 imm < 2 ^ 32
+word_i-below opcode rd funct3 rs1 imm a b c d =
+    word_of-below opcode rd funct3 rs1 (part imm 0 5) (part imm 5 7)
+    (record { opcode_below = a; rd_below = b; funct3_below = c; rs1_below = d; rs2_below = five imm; funct7_below = seven imm })
+
+shift-below : (n m rd rs1 : ℕ) (imm : ℤ) → n < 2 ^ 3 → m < 2 ^ 7 → rd < 2 ^ 5 → rs1 < 2 ^ 5
+    → word_of 0x13 rd n rs1 (part imm 0 5) m < 2 ^ 32
+shift-below n m rd rs1 imm a b c d =
+    word_of-below 0x13 rd n rs1 (part imm 0 5) m
+    (record { opcode_below = lit< tt; rd_below = c; funct3_below = a; rs1_below = d; rs2_below = five imm; funct7_below = b })
+
+op_imm-below : (op : ImmOp) (rd rs1 : ℕ) (imm : ℤ) → rd < 32 → rs1 < 32 → encoded (OpImm op rd rs1 imm) < 2 ^ 32
+op_imm-below Addi rd rs1 imm a b = word_i-below 0x13 rd 0 rs1 imm (lit< tt) a (lit< tt) b
+op_imm-below Slti rd rs1 imm a b = word_i-below 0x13 rd 2 rs1 imm (lit< tt) a (lit< tt) b
+op_imm-below Sltiu rd rs1 imm a b = word_i-below 0x13 rd 3 rs1 imm (lit< tt) a (lit< tt) b
+op_imm-below Xori rd rs1 imm a b = word_i-below 0x13 rd 4 rs1 imm (lit< tt) a (lit< tt) b
+op_imm-below Ori rd rs1 imm a b = word_i-below 0x13 rd 6 rs1 imm (lit< tt) a (lit< tt) b
+op_imm-below Andi rd rs1 imm a b = word_i-below 0x13 rd 7 rs1 imm (lit< tt) a (lit< tt) b
+op_imm-below Slli rd rs1 imm a b = shift-below 1 0 rd rs1 imm (lit< tt) (lit< tt) a b
+op_imm-below Srli rd rs1 imm a b = shift-below 5 0 rd rs1 imm (lit< tt) (lit< tt) a b
+op_imm-below Srai rd rs1 imm a b = shift-below 5 32 rd rs1 imm (lit< tt) (lit< tt) a b
+
+upper-below : (opcode rd imm : ℕ) → opcode < 2 ^ 7 → rd < 2 ^ 5 → imm < 2 ^ 32 → imm % 2 ^ 12 ≡ 0
+    → word_u opcode rd imm < 2 ^ 32
+upper-below opcode rd imm a b c d = omega arith
+
+jal-below : (rd : ℕ) (offset : ℤ) → rd < 32 → word_j 0x6f rd offset < 2 ^ 32
+jal-below rd offset a = omega arith
+
+rest-below : (rest : ℕ) → IsRest rest → 4111 + rest < 2 ^ 32
+rest-below rest fits = omega arith
+
+pub encoded-below : (i : Instr) → Fits i → encoded i < 2 ^ 32
+encoded-below (Lui rd imm) fits = upper-below 0x37 rd imm (lit< tt) fits.0 fits.1.range fits.1.low
+encoded-below (Auipc rd imm) fits = upper-below 0x17 rd imm (lit< tt) fits.0 fits.1.range fits.1.low
+encoded-below (Jal rd offset) fits = jal-below rd offset fits.0
+encoded-below (Jalr rd rs1 imm) fits = word_i-below 0x67 rd 0 rs1 imm (lit< tt) fits.0 (lit< tt) fits.1
+encoded-below (Branch op rs1 rs2 offset) fits =
+    word_of-below 0x63 (part offset 1 4 * 2 + part offset 11 1) (branch_funct3 op) rs1 rs2 (part offset 12 1 * 2 ^ 6 + part offset 5 6)
+    (record { opcode_below = lit< tt; rd_below = low_b offset; funct3_below = branch_funct3-below op; rs1_below = fits.0; rs2_below = fits.1; funct7_below = high_b offset })
+encoded-below (Load op rd rs1 imm) fits = word_i-below 0x03 rd (load_funct3 op) rs1 imm (lit< tt) fits.0 (load_funct3-below op) fits.1
+encoded-below (Store op rs1 rs2 imm) fits =
+    word_of-below 0x23 (part imm 0 5) (store_funct3 op) rs1 rs2 (part imm 5 7)
+    (record { opcode_below = lit< tt; rd_below = five imm; funct3_below = store_funct3-below op; rs1_below = fits.0; rs2_below = fits.1; funct7_below = seven imm })
+encoded-below (OpImm op rd rs1 imm) fits = op_imm-below op rd rs1 imm fits.0 fits.1
+encoded-below (Op op rd rs1 rs2) fits =
+    word_of-below 0x33 rd (register_funct3 op) rs1 rs2 (register_funct7 op)
+    (record { opcode_below = lit< tt; rd_below = fits.0; funct3_below = register_funct3-below op; rs1_below = fits.1; rs2_below = fits.2; funct7_below = register_funct7-below op })
+encoded-below (Fence rest) fits = let below : 4111 + rest < 2 ^ 32 = rest-below rest fits in omega arith
+encoded-below (FenceI rest) fits = rest-below rest fits
+encoded-below Ecall fits = lit< tt
+encoded-below Ebreak fits = lit< tt
+
+-- the word of an instruction that fits is this instruction
+pub decoded-encoded : (i : Instr) → Fits i → decoded (encoded i) ≡ Some i
+decoded-encoded i fits = decoded-by_opcode (encoded i) (encoded-below i fits) ∙ by_opcode-encoded i fits

@@ -1,6 +1,9 @@
 //! From a word to its instruction.
 
-ghost use Rattle.std.specs.Prelude.{◌≡◌};
+ghost use Rattle.std.specs.Prelude.{◌≡◌, ◌↔◌, All, IfSome, None};
+ghost use Rattle.rv32_table.specs.Fits.{Fits};
+ghost use Rattle.rv32_table.specs.Table.{table, Matches, decoded};
+ghost use Rattle.rv32_table.specs.Encoded.{encoded};
 ghost use Rattle.rv32_table.specs.Fields.{opcode_of};
 ghost use Rattle.rv32_table.specs.ByFields.{by_opcode, jump_by_fields, branch_at, branch_by_fields, load_at, load_by_fields, store_at, store_by_fields, immediate_at, shift_at, op_imm_by_fields, register_at, plain_at, other_at, multiply_at, op_by_fields, fence_by_fields, system_by_fields, shift_by_fields, immediate_by_fields, plain_shift_at, sign_shift_at};
 
@@ -275,8 +278,19 @@ fn decode_system(word: u32) -> Option<Instr>
     }
 }
 
-/// The instruction that a word is, and None exactly where the word is illegal: it matches no row of the table.
+/// The instruction that a word is, and None exactly where the word is illegal: it matches no row of the instruction table.
+/// It fits, and its word is this one.
 pub fn decode(word: u32) -> Option<Instr>
+    ensures row { result ≡ decoded word }
+    ensures illegal { (result ≡ None) ↔ All (λ row. ¬ Matches word row) table }
+    ensures fits { IfSome result Fits }
+    ensures back { IfSome result (λ instr. encoded instr ≡ word) }
+{
+    decode_fields(word)
+}
+
+/// The instruction that a word is by its fields.
+fn decode_fields(word: u32) -> Option<Instr>
     ensures { result ≡ by_opcode (opcode_of word) word }
 {
     match opcode(word) {

@@ -2,6 +2,7 @@
 
 ghost use Rattle.std.specs.Prelude.{◌≡◌, ◌+◌, ◌*◌, ◌%◌, ◌^◌, ◌<◌, ◌≤◌};
 ghost use Rattle.rv32_table.specs.Fits.{Fits};
+ghost use Rattle.rv32_table.specs.Table.{decoded};
 ghost use Rattle.rv32_table.specs.Encoded.{encoded, part, word_of, word_i, word_s, word_b, word_u, word_j, word_op_imm, branch_funct3, load_funct3, store_funct3, immediate_funct3, shift_funct7, register_funct3, register_funct7};
 
 use crate::fields::field;
@@ -222,8 +223,17 @@ fn word_op(op: RegOp, rd: u8, rs1: u8, rs2: u8) -> u32
     word_of(OP, rd, register_funct3(op), rs1, rs2, register_funct7(op))
 }
 
-/// The word of an instruction that fits.
+/// The word of an instruction that fits, which [`crate::decode`] gives back.
 pub fn encode(instr: &Instr) -> u32
+    requires { Fits instr.now }
+    ensures word { result ≡ encoded instr.now }
+    ensures back { decoded result ≡ Some instr.now }
+{
+    encode_form(instr)
+}
+
+/// The word of an instruction, by its form.
+fn encode_form(instr: &Instr) -> u32
     requires { Fits instr.now }
     ensures { result ≡ encoded instr.now }
 {

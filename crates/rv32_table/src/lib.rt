@@ -14,9 +14,11 @@ mod encoding;
 
 mod fields;
 mod instruction;
+mod laws;
 mod opcode;
 
 pub use decoding::decode;
 pub use encoding::encode;
 
 pub use instruction::{BranchOp, ImmOp, Instr, LoadOp, RegOp, StoreOp};
+pub use laws::{at_most_one_row, decoded_is_encoded, encoded_is_decoded, outside_is_illegal};
