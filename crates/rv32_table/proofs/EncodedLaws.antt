@@ -139,7 +139,7 @@ branch-encoded : (op : BranchOp) (rs1 rs2 : ℕ) (offset : ℤ) → Fits (Branch
 branch-encoded op rs1 rs2 offset fits =
     let w : ℕ = word_b 0x63 (branch_funct3 op) rs1 rs2 offset in
     let h : HasB w 0x63 (branch_funct3 op) rs1 rs2 offset =
-        forth_b 0x63 (branch_funct3 op) rs1 rs2 offset (lit< tt) (branch_funct3-below op) fits.0 fits.1 fits.2 in
+    forth_b 0x63 (branch_funct3 op) rs1 rs2 offset (lit< tt) (branch_funct3-below op) fits.0 fits.1 fits.2 in
     by_branch w (branch_funct3 op) (record { opcode_is = h.opcode_is; funct3_is = h.funct3_is })
     ∙ ap (option_map (λ x. Branch x (rs1_of w) (rs2_of w) (immediate_b w))) (branch_at-branch_funct3 op)
     ∙ ap (λ (x : ℕ). Some (Branch op x (rs2_of w) (immediate_b w))) h.rs1_is
@@ -151,7 +151,7 @@ load-encoded : (op : LoadOp) (rd rs1 : ℕ) (imm : ℤ) → Fits (Load op rd rs1
 load-encoded op rd rs1 imm fits =
     let w : ℕ = word_i 0x03 rd (load_funct3 op) rs1 imm in
     let h : HasI w 0x03 rd (load_funct3 op) rs1 imm =
-        forth_i 0x03 rd (load_funct3 op) rs1 imm (lit< tt) fits.0 (load_funct3-below op) fits.1 fits.2 in
+    forth_i 0x03 rd (load_funct3 op) rs1 imm (lit< tt) fits.0 (load_funct3-below op) fits.1 fits.2 in
     by_load w (load_funct3 op) (record { opcode_is = h.opcode_is; funct3_is = h.funct3_is })
     ∙ ap (option_map (λ x. Load x (rd_of w) (rs1_of w) (immediate_i w))) (load_at-load_funct3 op)
     ∙ ap (λ (x : ℕ). Some (Load op x (rs1_of w) (immediate_i w))) h.rd_is
@@ -163,7 +163,7 @@ store-encoded : (op : StoreOp) (rs1 rs2 : ℕ) (imm : ℤ) → Fits (Store op rs
 store-encoded op rs1 rs2 imm fits =
     let w : ℕ = word_s 0x23 (store_funct3 op) rs1 rs2 imm in
     let h : HasS w 0x23 (store_funct3 op) rs1 rs2 imm =
-        forth_s 0x23 (store_funct3 op) rs1 rs2 imm (lit< tt) (store_funct3-below op) fits.0 fits.1 fits.2 in
+    forth_s 0x23 (store_funct3 op) rs1 rs2 imm (lit< tt) (store_funct3-below op) fits.0 fits.1 fits.2 in
     by_store w (store_funct3 op) (record { opcode_is = h.opcode_is; funct3_is = h.funct3_is })
     ∙ ap (option_map (λ x. Store x (rs1_of w) (rs2_of w) (immediate_s w))) (store_at-store_funct3 op)
     ∙ ap (λ (x : ℕ). Some (Store op x (rs2_of w) (immediate_s w))) h.rs1_is
@@ -192,8 +192,8 @@ shift-encoded : (op : ImmOp) (n m rd rs1 : ℕ) (imm : ℤ) → n < 2 ^ 3 → m 
 shift-encoded op n m rd rs1 imm below below_7 is a b c =
     let w : ℕ = word_of 0x13 rd n rs1 (part imm 0 5) m in
     let h : HasFields w 0x13 rd n rs1 (part imm 0 5) m =
-        word_of-fields 0x13 rd n rs1 (part imm 0 5) m
-        (record { opcode_below = lit< tt; rd_below = a; funct3_below = below; rs1_below = b; rs2_below = omega arith; funct7_below = below_7 }) in
+    word_of-fields 0x13 rd n rs1 (part imm 0 5) m
+    (record { opcode_below = lit< tt; rd_below = a; funct3_below = below; rs1_below = b; rs2_below = omega arith; funct7_below = below_7 }) in
     by_op_imm w n m (record { opcode_is = h.opcode_is; funct3_is = h.funct3_is; funct7_is = h.funct7_is })
     ∙ is w
     ∙ ap (λ (x : ℕ). Some (OpImm op x (rs1_of w) (pos (rs2_of w)))) h.rd_is
@@ -218,8 +218,8 @@ op-encoded : (op : RegOp) (rd rs1 rs2 : ℕ) → Fits (Op op rd rs1 rs2)
 op-encoded op rd rs1 rs2 fits =
     let w : ℕ = word_of 0x33 rd (register_funct3 op) rs1 rs2 (register_funct7 op) in
     let h : HasFields w 0x33 rd (register_funct3 op) rs1 rs2 (register_funct7 op) =
-        word_of-fields 0x33 rd (register_funct3 op) rs1 rs2 (register_funct7 op)
-        (record { opcode_below = lit< tt; rd_below = fits.0; funct3_below = register_funct3-below op; rs1_below = fits.1; rs2_below = fits.2; funct7_below = register_funct7-below op }) in
+    word_of-fields 0x33 rd (register_funct3 op) rs1 rs2 (register_funct7 op)
+    (record { opcode_below = lit< tt; rd_below = fits.0; funct3_below = register_funct3-below op; rs1_below = fits.1; rs2_below = fits.2; funct7_below = register_funct7-below op }) in
     by_op w (register_funct3 op) (register_funct7 op)
     (record { opcode_is = h.opcode_is; funct3_is = h.funct3_is; funct7_is = h.funct7_is })
     ∙ ap (option_map (λ x. Op x (rd_of w) (rs1_of w) (rs2_of w))) (register_at-register_funct3 op)
@@ -280,7 +280,7 @@ word_of-below : (opcode rd funct3 rs1 rs2 funct7 : ℕ) → AreFields opcode rd 
     → word_of opcode rd funct3 rs1 rs2 funct7 < 2 ^ 32
 word_of-below opcode rd funct3 rs1 rs2 funct7 fits =
     let h : HasFields (word_of opcode rd funct3 rs1 rs2 funct7) opcode rd funct3 rs1 rs2 funct7 =
-        word_of-fields opcode rd funct3 rs1 rs2 funct7 fits in
+    word_of-fields opcode rd funct3 rs1 rs2 funct7 fits in
     h.word_below
 
 -- so many bits are a field

@@ -40,7 +40,7 @@ pub at_funct7 : (word opcode funct3 funct7 : ℕ) → word < 2 ^ 32 → opcode <
     → bit_and word 0xfe00_707f ≡ funct7 * 2 ^ 25 + (funct3 * 2 ^ 12 + opcode) → AtFunct7 word opcode funct3 funct7
 at_funct7 word opcode funct3 funct7 fits a b matches =
     let same : funct7_of word * 2 ^ 25 + (funct3_of word * 2 ^ 12 + opcode_of word) ≡ funct7 * 2 ^ 25 + (funct3 * 2 ^ 12 + opcode) =
-        sym (and-funct7 word fits) ∙ matches in
+    sym (and-funct7 word fits) ∙ matches in
     record { opcode_is = omega arith; funct3_is = omega arith; funct7_is = omega arith }
 
 pub at_whole : (word value : ℕ) → word < 2 ^ 32 → bit_and word 0xffff_ffff ≡ value → word ≡ value
@@ -59,7 +59,7 @@ pub under_funct7 : (word opcode funct3 funct7 : ℕ) → word < 2 ^ 32 → AtFun
     → bit_and word 0xfe00_707f ≡ funct7 * 2 ^ 25 + (funct3 * 2 ^ 12 + opcode)
 under_funct7 word opcode funct3 funct7 fits h =
     let same : funct7_of word * 2 ^ 25 + (funct3_of word * 2 ^ 12 + opcode_of word) ≡ funct7 * 2 ^ 25 + (funct3 * 2 ^ 12 + opcode) =
-        omega arith in
+    omega arith in
     and-funct7 word fits ∙ same
 
 pub under_whole : (word value : ℕ) → word < 2 ^ 32 → word ≡ value → bit_and word 0xffff_ffff ≡ value

@@ -28,9 +28,9 @@ back_i w fits =
     let bound : bits w 20 12 < 4096 = omega arith in
     let cast : cast_unsigned w32 (immediate_i w) % 2 ^ 12 ≡ bits w 20 12 = cast-signed_12 (bits w 20 12) bound in
     let low : part (immediate_i w) 0 5 ≡ rs2_of w =
-        low_of_12 (cast_unsigned w32 (immediate_i w)) (bits w 20 12) cast ∙ (omega arith) in
+    low_of_12 (cast_unsigned w32 (immediate_i w)) (bits w 20 12) cast ∙ (omega arith) in
     let high : part (immediate_i w) 5 7 ≡ funct7_of w =
-        high_of_12 (cast_unsigned w32 (immediate_i w)) (bits w 20 12) cast ∙ (omega arith) in
+    high_of_12 (cast_unsigned w32 (immediate_i w)) (bits w 20 12) cast ∙ (omega arith) in
     ap (λ (a : ℕ). word_of (opcode_of w) (rd_of w) (funct3_of w) (rs1_of w) a (part (immediate_i w) 5 7)) low
     ∙ ap (λ (a : ℕ). word_of (opcode_of w) (rd_of w) (funct3_of w) (rs1_of w) (rs2_of w) a) high
     ∙ fields-word_of w fits
@@ -53,11 +53,11 @@ forth_i opcode rd funct3 rs1 imm a b c d range =
     let u : ℕ = cast_unsigned w32 imm in
     let w : ℕ = word_i opcode rd funct3 rs1 imm in
     let has : HasFields w opcode rd funct3 rs1 (part imm 0 5) (part imm 5 7) =
-        word_of-fields opcode rd funct3 rs1 (part imm 0 5) (part imm 5 7)
-        (record { opcode_below = a; rd_below = b; funct3_below = c; rs1_below = d; rs2_below = omega arith; funct7_below = omega arith }) in
+    word_of-fields opcode rd funct3 rs1 (part imm 0 5) (part imm 5 7)
+    (record { opcode_below = a; rd_below = b; funct3_below = c; rs1_below = d; rs2_below = omega arith; funct7_below = omega arith }) in
     let whole : bits w 20 12 ≡ u % 2 ^ 12 =
-        twelve_is w ∙ ap (λ (x : ℕ). x * 2 ^ 5 + rs2_of w) has.funct7_is
-        ∙ ap (λ (x : ℕ). part imm 5 7 * 2 ^ 5 + x) has.rs2_is ∙ both_of_12 u in
+    twelve_is w ∙ ap (λ (x : ℕ). x * 2 ^ 5 + rs2_of w) has.funct7_is
+    ∙ ap (λ (x : ℕ). part imm 5 7 * 2 ^ 5 + x) has.rs2_is ∙ both_of_12 u in
     record {
       opcode_is = has.opcode_is;
       rd_is = has.rd_is;
@@ -96,9 +96,9 @@ back_s w fits =
     let bound : bits w 25 7 * 2 ^ 5 + bits w 7 5 < 4096 = omega arith in
     let cast : cast_unsigned w32 (immediate_s w) % 2 ^ 12 ≡ bits w 25 7 * 2 ^ 5 + bits w 7 5 = cast-signed_12 v bound in
     let low : part (immediate_s w) 0 5 ≡ rd_of w =
-        low_of_12 (cast_unsigned w32 (immediate_s w)) (bits w 25 7 * 2 ^ 5 + bits w 7 5) cast ∙ (omega arith) in
+    low_of_12 (cast_unsigned w32 (immediate_s w)) (bits w 25 7 * 2 ^ 5 + bits w 7 5) cast ∙ (omega arith) in
     let high : part (immediate_s w) 5 7 ≡ funct7_of w =
-        high_of_12 (cast_unsigned w32 (immediate_s w)) (bits w 25 7 * 2 ^ 5 + bits w 7 5) cast ∙ (omega arith) in
+    high_of_12 (cast_unsigned w32 (immediate_s w)) (bits w 25 7 * 2 ^ 5 + bits w 7 5) cast ∙ (omega arith) in
     ap (λ (a : ℕ). word_of (opcode_of w) a (funct3_of w) (rs1_of w) (rs2_of w) (part (immediate_s w) 5 7)) low
     ∙ ap (λ (a : ℕ). word_of (opcode_of w) (rd_of w) (funct3_of w) (rs1_of w) (rs2_of w) a) high
     ∙ fields-word_of w fits
@@ -120,11 +120,11 @@ forth_s opcode funct3 rs1 rs2 imm a b c d range =
     let u : ℕ = cast_unsigned w32 imm in
     let w : ℕ = word_s opcode funct3 rs1 rs2 imm in
     let has : HasFields w opcode (part imm 0 5) funct3 rs1 rs2 (part imm 5 7) =
-        word_of-fields opcode (part imm 0 5) funct3 rs1 rs2 (part imm 5 7)
-        (record { opcode_below = a; rd_below = omega arith; funct3_below = b; rs1_below = c; rs2_below = d; funct7_below = omega arith }) in
+    word_of-fields opcode (part imm 0 5) funct3 rs1 rs2 (part imm 5 7)
+    (record { opcode_below = a; rd_below = omega arith; funct3_below = b; rs1_below = c; rs2_below = d; funct7_below = omega arith }) in
     let whole : bits w 25 7 * 2 ^ 5 + bits w 7 5 ≡ u % 2 ^ 12 =
-        ap (λ (x : ℕ). x * 2 ^ 5 + rd_of w) has.funct7_is
-        ∙ ap (λ (x : ℕ). part imm 5 7 * 2 ^ 5 + x) has.rd_is ∙ both_of_12 u in
+    ap (λ (x : ℕ). x * 2 ^ 5 + rd_of w) has.funct7_is
+    ∙ ap (λ (x : ℕ). part imm 5 7 * 2 ^ 5 + x) has.rd_is ∙ both_of_12 u in
     record {
       opcode_is = has.opcode_is;
       funct3_is = has.funct3_is;
@@ -183,11 +183,11 @@ back_b w fits =
     let z : ℤ = immediate_b w in
     let u : ℕ = cast_unsigned w32 (immediate_b w) in
     let low : part (immediate_b w) 1 4 * 2 + part (immediate_b w) 11 1 ≡ rd_of w =
-        ap (λ (x : ℕ). x * 2 + part (immediate_b w) 11 1) (low_of_13 _ _ _ _ _ (is_thirteen w))
-        ∙ ap (λ (x : ℕ). bits w 8 4 * 2 + x) (next_of_13 _ _ _ _ _ (is_thirteen w)) ∙ low_field w in
+    ap (λ (x : ℕ). x * 2 + part (immediate_b w) 11 1) (low_of_13 _ _ _ _ _ (is_thirteen w))
+    ∙ ap (λ (x : ℕ). bits w 8 4 * 2 + x) (next_of_13 _ _ _ _ _ (is_thirteen w)) ∙ low_field w in
     let high : part (immediate_b w) 12 1 * 2 ^ 6 + part (immediate_b w) 5 6 ≡ funct7_of w =
-        ap (λ (x : ℕ). x * 2 ^ 6 + part (immediate_b w) 5 6) (top_of_13 _ _ _ _ _ (is_thirteen w))
-        ∙ ap (λ (x : ℕ). bits w 31 1 * 2 ^ 6 + x) (middle_of_13 _ _ _ _ _ (is_thirteen w)) ∙ high_field w in
+    ap (λ (x : ℕ). x * 2 ^ 6 + part (immediate_b w) 5 6) (top_of_13 _ _ _ _ _ (is_thirteen w))
+    ∙ ap (λ (x : ℕ). bits w 31 1 * 2 ^ 6 + x) (middle_of_13 _ _ _ _ _ (is_thirteen w)) ∙ high_field w in
     ap (λ (a : ℕ). word_of (opcode_of w) a (funct3_of w) (rs1_of w) (rs2_of w) (part (immediate_b w) 12 1 * 2 ^ 6 + part (immediate_b w) 5 6)) low
     ∙ ap (λ (a : ℕ). word_of (opcode_of w) (rd_of w) (funct3_of w) (rs1_of w) (rs2_of w) a) high
     ∙ fields-word_of w fits
@@ -215,7 +215,7 @@ even_of_13 u top next middle low h = omega arith
 pub IsOffset-immediate_b : (w : ℕ) → IsOffset 13 (immediate_b w)
 IsOffset-immediate_b w =
     let range : IsSigned 13 (immediate_b w) =
-        IsSigned-signed_13 (thirteen (bits w 31 1) (bits w 7 1) (bits w 25 6) (bits w 8 4)) (omega arith) in
+    IsSigned-signed_13 (thirteen (bits w 31 1) (bits w 7 1) (bits w 25 6) (bits w 8 4)) (omega arith) in
     record {
       range = range;
       even = even_number (immediate_b w) (even_of_13 _ _ _ _ _ (is_thirteen w)) (wider (immediate_b w) range);
@@ -248,12 +248,12 @@ forth_b opcode funct3 rs1 rs2 offset a b c d fits =
     let low : ℕ = part offset 1 4 * 2 + part offset 11 1 in
     let high : ℕ = part offset 12 1 * 2 ^ 6 + part offset 5 6 in
     let has : HasFields w opcode low funct3 rs1 rs2 high =
-        word_of-fields opcode low funct3 rs1 rs2 high
-        (record { opcode_below = a; rd_below = omega arith; funct3_below = b; rs1_below = c; rs2_below = d; funct7_below = omega arith }) in
+    word_of-fields opcode low funct3 rs1 rs2 high
+    (record { opcode_below = a; rd_below = omega arith; funct3_below = b; rs1_below = c; rs2_below = d; funct7_below = omega arith }) in
     let even : u % 2 ≡ 0 = even_bits offset fits.even (wider offset fits.range) in
     let whole : thirteen (bits w 31 1) (bits w 7 1) (bits w 25 6) (bits w 8 4) ≡ u % 2 ^ 13 =
-        bits_of_both w (part offset 12 1) (part offset 11 1) (part offset 5 6) (part offset 1 4)
-        (omega arith) (omega arith) has.rd_is has.funct7_is ∙ all_of_13 u even in
+    bits_of_both w (part offset 12 1) (part offset 11 1) (part offset 5 6) (part offset 1 4)
+    (omega arith) (omega arith) has.rd_is has.funct7_is ∙ all_of_13 u even in
     record {
       opcode_is = has.opcode_is;
       funct3_is = has.funct3_is;
@@ -318,7 +318,7 @@ back_j w fits =
 pub IsOffset-immediate_j : (w : ℕ) → IsOffset 21 (immediate_j w)
 IsOffset-immediate_j w =
     let range : IsSigned 21 (immediate_j w) =
-        IsSigned-signed_21 (twenty_one (bits w 31 1) (bits w 12 8) (bits w 20 1) (bits w 21 10)) (omega arith) in
+    IsSigned-signed_21 (twenty_one (bits w 31 1) (bits w 12 8) (bits w 20 1) (bits w 21 10)) (omega arith) in
     record {
       range = range;
       even = even_number (immediate_j w) (even_of_21 _ _ _ _ _ (is_twenty_one w)) range;
@@ -371,12 +371,12 @@ forth_j opcode rd offset a b fits =
     let u : ℕ = cast_unsigned w32 offset in
     let w : ℕ = word_j opcode rd offset in
     let has : HasPartsJ w opcode rd (part offset 12 8) (part offset 11 1) (part offset 1 10) (part offset 20 1) =
-        parts_j opcode rd (part offset 12 8) (part offset 11 1) (part offset 1 10) (part offset 20 1)
-        (record { opcode_below = a; rd_below = b; middle_below = omega arith; next_below = omega arith; low_below = omega arith; top_below = omega arith }) in
+    parts_j opcode rd (part offset 12 8) (part offset 11 1) (part offset 1 10) (part offset 20 1)
+    (record { opcode_below = a; rd_below = b; middle_below = omega arith; next_below = omega arith; low_below = omega arith; top_below = omega arith }) in
     let even : u % 2 ≡ 0 = even_bits offset fits.even fits.range in
     let whole : twenty_one (bits w 31 1) (bits w 12 8) (bits w 20 1) (bits w 21 10) ≡ u % 2 ^ 21 =
-        twenty_one_same w (part offset 20 1) (part offset 12 8) (part offset 11 1) (part offset 1 10)
-        has.top_is has.middle_is has.next_is has.low_is ∙ all_of_21 u even in
+    twenty_one_same w (part offset 20 1) (part offset 12 8) (part offset 11 1) (part offset 1 10)
+    has.top_is has.middle_is has.next_is has.low_is ∙ all_of_21 u even in
     record {
       opcode_is = has.opcode_is;
       rd_is = has.rd_is;

@@ -34,9 +34,9 @@ cast-signed_12 value below = by_order value 2048
 pub IsSigned-signed_12 : (value : ℕ) → value < 4096 → IsSigned 12 (signed 12 value)
 IsSigned-signed_12 value below = by_order value 2048
     (λ low. let e : signed 12 value ≡ pos value = signed-low_12 value low in
-        record { low = omega (arith, ints, e); high = omega (arith, ints, e) })
+    record { low = omega (arith, ints, e); high = omega (arith, ints, e) })
     (λ high. let e : signed 12 value ≡ negsuc (4095 - value) = signed-high_12 value high below in
-        record { low = omega (arith, ints, e); high = omega (arith, ints, e) })
+    record { low = omega (arith, ints, e); high = omega (arith, ints, e) })
 
 -- a number of 12 bits is that of its low 12 bits
 pub signed-cast_12 : (number : ℤ) → IsSigned 12 number → signed 12 (cast_unsigned w32 number % 2 ^ 12) ≡ number
@@ -70,9 +70,9 @@ cast-signed_13 value below = by_order value 4096
 pub IsSigned-signed_13 : (value : ℕ) → value < 8192 → IsSigned 13 (signed 13 value)
 IsSigned-signed_13 value below = by_order value 4096
     (λ low. let e : signed 13 value ≡ pos value = signed-low_13 value low in
-        record { low = omega (arith, ints, e); high = omega (arith, ints, e) })
+    record { low = omega (arith, ints, e); high = omega (arith, ints, e) })
     (λ high. let e : signed 13 value ≡ negsuc (8191 - value) = signed-high_13 value high below in
-        record { low = omega (arith, ints, e); high = omega (arith, ints, e) })
+    record { low = omega (arith, ints, e); high = omega (arith, ints, e) })
 
 -- a number of 13 bits is that of its low 13 bits
 pub signed-cast_13 : (number : ℤ) → IsSigned 13 number → signed 13 (cast_unsigned w32 number % 2 ^ 13) ≡ number
@@ -106,9 +106,9 @@ cast-signed_21 value below = by_order value 1048576
 pub IsSigned-signed_21 : (value : ℕ) → value < 2097152 → IsSigned 21 (signed 21 value)
 IsSigned-signed_21 value below = by_order value 1048576
     (λ low. let e : signed 21 value ≡ pos value = signed-low_21 value low in
-        record { low = omega (arith, ints, e); high = omega (arith, ints, e) })
+    record { low = omega (arith, ints, e); high = omega (arith, ints, e) })
     (λ high. let e : signed 21 value ≡ negsuc (2097151 - value) = signed-high_21 value high below in
-        record { low = omega (arith, ints, e); high = omega (arith, ints, e) })
+    record { low = omega (arith, ints, e); high = omega (arith, ints, e) })
 
 -- a number of 21 bits is that of its low 21 bits
 pub signed-cast_21 : (number : ℤ) → IsSigned 21 number → signed 21 (cast_unsigned w32 number % 2 ^ 21) ≡ number

@@ -43,7 +43,7 @@ find-none word (x ∷ xs) zero r e stands matches =
     if-case ⊥ (is_match word x) (Some x) (find (is_match word) xs) None e
     (λ t same. cc)
     (λ t rest. let row : x ≡ r = cc in
-        let test : is_match word x ≡ true = eq-eqb (bit_and word x.mask) x.value (subst (Matches word) (sym row) matches) in cc)
+    let test : is_match word x ≡ true = eq-eqb (bit_and word x.mask) x.value (subst (Matches word) (sym row) matches) in cc)
 find-none word (x ∷ xs) (suc n) r e stands matches =
     if-case ⊥ (is_match word x) (Some x) (find (is_match word) xs) None e
     (λ t same. cc)

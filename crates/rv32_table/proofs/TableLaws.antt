@@ -36,7 +36,7 @@ returns_from : (w : ℕ) → w < 2 ^ 32 → (found : Option Row) (i : Instr) →
 returns_from w fits None i e f = absurd (cc)
 returns_from w fits (Some r) i e f =
     let both : Fits (instruction_of r.form w) × (encoded (instruction_of r.form w) ≡ w) =
-        find-each (λ (x : Row). Fits (instruction_of x.form w) × (encoded (instruction_of x.form w) ≡ w)) w table r (rows-encoded w fits) e in
+    find-each (λ (x : Row). Fits (instruction_of x.form w) × (encoded (instruction_of x.form w) ≡ w)) w table r (rows-encoded w fits) e in
     let same : instruction_of r.form w ≡ i = cc in
     subst (Returns w) same (record { fits = both.0; word_is = both.1 })
 
@@ -50,7 +50,7 @@ none-each word [] e = All-nil (λ r. Matches word r → ⊥)
 none-each word (x ∷ xs) e =
     All-cons (λ r. Matches word r → ⊥) x xs (λ m. find-none word (x ∷ xs) 0 x e refl m)
     (if-case (All (λ r. Matches word r → ⊥) xs) (is_match word x) (Some x) (find (is_match word) xs) None e
-        (λ t same. absurd (cc)) (λ t rest. none-each word xs rest))
+    (λ t same. absurd (cc)) (λ t rest. none-each word xs rest))
 
 each-none : (word : ℕ) (rows : List Row) → All (λ r. Matches word r → ⊥) rows → EachRow (λ r. Matches word r → ⊥) rows
 each-none word [] all = tt

@@ -8,7 +8,8 @@ ghost use Rattle.rv32_table.specs.Fields.{opcode_of};
 ghost use Rattle.rv32_table.specs.ByFields.{by_opcode, jump_by_fields, branch_at, branch_by_fields, load_at, load_by_fields, store_at, store_by_fields, immediate_at, shift_at, op_imm_by_fields, register_at, plain_at, other_at, multiply_at, op_by_fields, fence_by_fields, system_by_fields, shift_by_fields, immediate_by_fields, plain_shift_at, sign_shift_at};
 
 use crate::fields::{
-    funct3, funct7, immediate_b, immediate_i, immediate_j, immediate_s, immediate_u, opcode, rd, rest, rs1, rs2,
+    funct3, funct7, immediate_b, immediate_i, immediate_j, immediate_s, immediate_u, opcode, rd,
+    rest, rs1, rs2,
 };
 use crate::instruction::{BranchOp, ImmOp, Instr, LoadOp, RegOp, StoreOp};
 use crate::opcode::{

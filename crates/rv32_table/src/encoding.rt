@@ -209,7 +209,14 @@ fn word_op_imm(op: ImmOp, rd: u8, rs1: u8, imm: i32) -> u32
         return word_i(OP_IMM, rd, immediate_funct3(op), rs1, imm);
     }
     let (rd, rs1, amount) = (u32::from(rd), u32::from(rs1), part(imm, 0, 5));
-    word_of(OP_IMM, rd, immediate_funct3(op), rs1, amount, shift_funct7(op))
+    word_of(
+        OP_IMM,
+        rd,
+        immediate_funct3(op),
+        rs1,
+        amount,
+        shift_funct7(op),
+    )
 }
 
 /// The word of an operation on registers.

@@ -114,13 +114,26 @@ pub enum RegOp {
 #[derive(Clone, Copy, Debug, PartialEq, Eq)]
 pub enum Instr {
     /// Puts an immediate, whose low twelve bits are zero, into rd.
-    Lui { rd: u8, imm: u32 },
+    Lui {
+        rd: u8,
+        imm: u32,
+    },
     /// Puts pc plus an immediate, whose low twelve bits are zero, into rd.
-    Auipc { rd: u8, imm: u32 },
+    Auipc {
+        rd: u8,
+        imm: u32,
+    },
     /// Jumps to pc plus an even offset from -2^20 to 2^20 - 2.
-    Jal { rd: u8, offset: i32 },
+    Jal {
+        rd: u8,
+        offset: i32,
+    },
     /// Jumps to rs1 plus an immediate from -2^11 to 2^11 - 1.
-    Jalr { rd: u8, rs1: u8, imm: i32 },
+    Jalr {
+        rd: u8,
+        rs1: u8,
+        imm: i32,
+    },
     /// Branches to pc plus an even offset from -2^12 to 2^12 - 2.
     Branch {
         op: BranchOp,
@@ -157,9 +170,13 @@ pub enum Instr {
         rs2: u8,
     },
     /// Orders accesses to memory. `rest` is the word without its opcode and funct3.
-    Fence { rest: u32 },
+    Fence {
+        rest: u32,
+    },
     /// Orders stores before fetches. `rest` is the word without its opcode and funct3.
-    FenceI { rest: u32 },
+    FenceI {
+        rest: u32,
+    },
     /// Calls the environment.
     Ecall,
     /// Calls the debugger.
@@ -208,7 +225,8 @@ impl ImmOp {
     {
         match self {
             ImmOp::Slli | ImmOp::Srli | ImmOp::Srai => true,
-            ImmOp::Addi | ImmOp::Slti | ImmOp::Sltiu | ImmOp::Xori | ImmOp::Ori | ImmOp::Andi => false,
+            ImmOp::Addi | ImmOp::Slti | ImmOp::Sltiu | ImmOp::Xori | ImmOp::Ori | ImmOp::Andi =>
+                false,
         }
     }
 
@@ -236,7 +254,10 @@ impl Instr {
             Instr::Jal { rd, offset } => rd < 32 && is_offset_21(offset),
             Instr::Jalr { rd, rs1, imm } => rd < 32 && rs1 < 32 && is_signed_12(imm),
             Instr::Branch {
-                rs1, rs2, offset, ..
+                rs1,
+                rs2,
+                offset,
+                ..
             } => rs1 < 32 && rs2 < 32 && is_offset_13(offset),
             Instr::Load { rd, rs1, imm, .. } => rd < 32 && rs1 < 32 && is_signed_12(imm),
             Instr::Store { rs1, rs2, imm, .. } => rs1 < 32 && rs2 < 32 && is_signed_12(imm),

@@ -11,14 +11,14 @@
 
 mod decoding;
 mod encoding;
-
 mod fields;
 mod instruction;
 mod laws;
 mod opcode;
+#[cfg(test)]
+mod tests;
 
 pub use decoding::decode;
 pub use encoding::encode;
-
 pub use instruction::{BranchOp, ImmOp, Instr, LoadOp, RegOp, StoreOp};
 pub use laws::{at_most_one_row, decoded_is_encoded, encoded_is_decoded, outside_is_illegal};
