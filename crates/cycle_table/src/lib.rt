@@ -41,13 +41,8 @@ pub fn cost(instr: &Instr, taken: bool, moved: u64) -> u64
         Instr::Lui { .. } | Instr::Auipc { .. } | Instr::OpImm { .. } => PLAIN,
         Instr::Fence { .. } | Instr::FenceI { .. } | Instr::Ebreak => PLAIN,
         Instr::Jal { .. } | Instr::Jalr { .. } => JUMP,
-        Instr::Branch { .. } => {
-            if taken {
-                JUMP
-            } else {
-                PLAIN
-            }
-        }
+        Instr::Branch { .. } if taken => JUMP,
+        Instr::Branch { .. } => PLAIN,
         Instr::Load { .. } | Instr::Store { .. } => ACCESS,
         Instr::Op { op, .. } => register_cost(op),
         Instr::Ecall => CALL + moved,

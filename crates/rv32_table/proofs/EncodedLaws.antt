@@ -1,12 +1,12 @@
 -- The word of an instruction that fits is this instruction.
-use Rattle.std.proofs.Common.{◌≡◌, ℕ, ◌+◌, ◌*◌, ◌%◌, ◌<◌, ◌^◌, refl, sym, ◌∙◌, ap, lit<, arith, true, false}
-use Rattle.std.specs.Prelude.{ℤ, pos, Option, Some, None, option_map}
-use Rattle.rv32_table.specs.Fields.{opcode_of, rd_of, funct3_of, rs1_of, rs2_of, funct7_of, immediate_i, immediate_s, immediate_b, immediate_u, immediate_j, rest_of}
-use Rattle.rv32_table.specs.Fits.{Fits, IsImmediate, IsSigned, IsAmount, IsRest}
-use Rattle.rv32_table.specs.ByFields.{by_opcode, branch_at, load_at, store_at, immediate_at, shift_at, register_at}
-use Rattle.rv32_table.specs.Encoded.{encoded, part, word_of, word_i, word_s, word_b, word_u, word_j, branch_funct3, load_funct3, store_funct3, immediate_funct3, shift_funct7, register_funct3, register_funct7}
+use Rattle.std.proofs.Common.{◌≡◌, ℕ, ◌+◌, ◌*◌, ◌%◌, ◌<◌, ◌^◌, refl, ◌∙◌, ap, lit<, arith}
+use Rattle.std.specs.Prelude.{ℤ, pos, Some, option_map}
+use Rattle.rv32_table.specs.Fields.{opcode_of, rd_of, rs1_of, rs2_of, funct7_of, immediate_i, immediate_s, immediate_b, immediate_u, immediate_j}
+use Rattle.rv32_table.specs.Fits.{Fits, IsSigned, IsAmount, IsRest}
+use Rattle.rv32_table.specs.ByFields.{by_opcode, branch_at, load_at, store_at, register_at}
+use Rattle.rv32_table.specs.Encoded.{encoded, part, word_of, word_i, word_s, word_b, word_u, word_j, branch_funct3, load_funct3, store_funct3, register_funct3, register_funct7}
 use Rattle.rv32_table.specs.Table.{decoded}
-use Rattle.rv32_table.proofs.FieldLaws.{AtFunct3, AtFunct7, any_funct7, op_imm_with, by_lui, by_auipc, by_jal, by_jalr, by_branch, by_load, by_store, by_op_imm, by_op, by_fence}
+use Rattle.rv32_table.proofs.FieldLaws.{any_funct7, op_imm_with, by_lui, by_auipc, by_jal, by_jalr, by_branch, by_load, by_store, by_op_imm, by_op, by_fence}
 use Rattle.rv32_table.proofs.FormLaws.{HasI, HasS, HasB, HasU, HasJ, HasRest, forth_i, forth_s, forth_b, forth_u, forth_j, forth_rest, part-amount}
 use Rattle.rv32_table.proofs.WordLaws.{AreFields, HasFields, word_of-fields}
 use Rattle.rv32_table.proofs.TableLaws.{decoded-by_opcode}

@@ -1,12 +1,12 @@
 -- A word that is an instruction by its fields matches a row of the table.
-use Rattle.std.proofs.Common.{◌≡◌, ℕ, ◌+◌, ◌*◌, ◌<◌, ◌^◌, refl, true, arith}
-use Rattle.std.specs.Prelude.{◌==◌, bit_and, Option, Some, None, option_map, slice_get}
+use Rattle.std.proofs.Common.{◌≡◌, ℕ, ◌+◌, ◌*◌, ◌<◌, ◌^◌, refl, true}
+use Rattle.std.specs.Prelude.{◌==◌, Option, Some, None, option_map, slice_get}
 use Rattle.std.proofs.lemmas.Bool.{eqb-true}
 use Rattle.rv32_table.specs.Fields.{opcode_of, funct3_of, funct7_of}
-use Rattle.rv32_table.specs.ByFields.{by_opcode, branch_at, load_at, store_at, immediate_at, shift_at, plain_shift_at, sign_shift_at, register_at, plain_at, other_at, multiply_at, jump_by_fields, op_imm_by_fields, shift_by_fields, fence_by_fields, system_by_fields}
-use Rattle.rv32_table.specs.Table.{Form, FormR, FormI, FormShift, FormS, FormB, FormU, FormJ, FormFence, FormWhole, Row, row, table, Matches}
+use Rattle.rv32_table.specs.ByFields.{by_opcode, branch_at, load_at, store_at, immediate_at, shift_at, plain_shift_at, sign_shift_at, register_at, plain_at, other_at, multiply_at, jump_by_fields, op_imm_by_fields, fence_by_fields, system_by_fields}
+use Rattle.rv32_table.specs.Table.{Form, FormR, FormI, FormShift, FormS, FormB, FormU, FormJ, FormFence, FormWhole, row, table}
 use Rattle.rv32_table.proofs.ListLaws.{HasRow, if-case}
-use Rattle.rv32_table.proofs.FieldLaws.{AtFunct3, AtFunct7, under_opcode, under_funct3, under_funct7, under_whole}
+use Rattle.rv32_table.proofs.FieldLaws.{under_opcode, under_funct3, under_funct7, under_whole}
 use Rattle.rv32_table.specs.declared.instruction.BranchOp.{BranchOp}
 use Rattle.rv32_table.specs.declared.instruction.BranchOp.TheVariants.{Beq, Bne, Blt, Bge, Bltu, Bgeu}
 use Rattle.rv32_table.specs.declared.instruction.LoadOp.{LoadOp}

@@ -1,12 +1,12 @@
 -- Each form both ways: a word is that of its fields and its immediate, and the word of fields and an immediate has them.
-use Rattle.std.proofs.Common.{◌≡◌, ℕ, ◌+◌, ◌-◌, ◌*◌, ◌/◌, ◌%◌, ◌^◌, ◌<◌, ◌≤◌, refl, sym, ◌∙◌, ap, arith}
+use Rattle.std.proofs.Common.{◌≡◌, ℕ, ◌+◌, ◌*◌, ◌/◌, ◌%◌, ◌^◌, ◌<◌, ◌∙◌, ap, arith}
 use Rattle.std.specs.Prelude.{ℤ, pos, negsuc, int_rem}
 use Rattle.std.specs.Int.{w32, cast_unsigned}
 use Rattle.std.proofs.lemmas.Int.{ints}
 use Rattle.rv32_table.specs.Fields.{bits, signed, opcode_of, rd_of, funct3_of, rs1_of, rs2_of, funct7_of, immediate_i, immediate_s, immediate_b, immediate_u, immediate_j, rest_of}
 use Rattle.rv32_table.specs.Fits.{IsSigned, IsOffset, IsAmount, IsUpper, IsRest}
 use Rattle.rv32_table.specs.Encoded.{part, word_of, word_i, word_s, word_b, word_u, word_j}
-use Rattle.rv32_table.proofs.WordLaws.{AreFields, HasFields, word_of-fields, fields-word_of}
+use Rattle.rv32_table.proofs.WordLaws.{HasFields, word_of-fields, fields-word_of}
 use Rattle.rv32_table.proofs.Immediates.{cast-signed_12, cast-signed_13, cast-signed_21, IsSigned-signed_12, IsSigned-signed_13, IsSigned-signed_21, signed-cast_12, signed-cast_13, signed-cast_21}
 
 -- the halves of twelve bits

@@ -1,13 +1,12 @@
 -- The immediates of each form: from bits to the number and back.
-use Rattle.std.proofs.Common.{◌≡◌, ℕ, ◌+◌, ◌-◌, ◌*◌, ◌/◌, ◌%◌, ◌^◌, ◌<◌, ◌≤◌, refl, sym, ◌∙◌, ap, arith, true, false, zero, suc, inl, inr}
-use Rattle.std.specs.Prelude.{ℤ, pos, negsuc, ◌-ℤ◌, ◌≤ℤ◌, ◌<ℤ◌, neg_ℤ, nat_lt, int_rem}
+use Rattle.std.proofs.Common.{◌≡◌, ℕ, ◌-◌, ◌%◌, ◌^◌, ◌<◌, ◌≤◌, refl, ◌∙◌, ap, arith, false, suc, inl, inr}
+use Rattle.std.specs.Prelude.{ℤ, pos, negsuc, ◌-ℤ◌, nat_lt}
 use Rattle.std.specs.Int.{w32, cast_unsigned}
 use Rattle.std.proofs.lemmas.Int.{ints}
 use Rattle.std.proofs.lemmas.Bool.{cases_lt}
 use Rattle.std.proofs.lemmas.Bool.Decides.{nat_tests}
-use Rattle.rv32_table.specs.Fields.{signed, bits, rd_of, rs2_of, funct7_of, immediate_i, immediate_s, immediate_b, immediate_j, immediate_u, rest_of, opcode_of, funct3_of}
-use Rattle.rv32_table.specs.Fits.{IsSigned, IsOffset, IsUpper, IsRest}
-use Rattle.rv32_table.specs.Encoded.{part}
+use Rattle.rv32_table.specs.Fields.{signed}
+use Rattle.rv32_table.specs.Fits.{IsSigned}
 
 by_order : {P : Type 0} (a b : ℕ) → (a < b → P) → (b ≤ a → P) → P
 by_order a b f g = elim (cases_lt a b) [ inl below ↦ f below | inr above ↦ g above ]

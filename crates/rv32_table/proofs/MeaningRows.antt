@@ -1,5 +1,5 @@
 -- Rows of the manual on what operations answer, checked by computing.
-use Rattle.std.proofs.Common.{◌≡◌, ℕ, refl}
+use Rattle.std.proofs.Common.{◌≡◌, refl}
 use Rattle.std.specs.Prelude.{pos, negsuc, true, false}
 use Rattle.rv32_table.specs.Meaning.{register_meaning, immediate_meaning, branch_meaning, load_meaning, target_of, jump_target}
 use Rattle.rv32_table.specs.declared.instruction.BranchOp.TheVariants.{Bge, Bgeu, Blt, Bltu}

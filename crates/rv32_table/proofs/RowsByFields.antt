@@ -1,9 +1,9 @@
 -- What each row of the table is by the fields.
-use Rattle.std.proofs.Common.{◌≡◌, ℕ, ◌<◌, ◌^◌, refl, ◌∙◌, lit<}
+use Rattle.std.proofs.Common.{◌≡◌, ℕ, ◌<◌, ◌^◌, lit<}
 use Rattle.std.specs.Prelude.{Some}
 use Rattle.rv32_table.specs.Fields.{opcode_of, funct7_of}
 use Rattle.rv32_table.specs.ByFields.{by_opcode}
-use Rattle.rv32_table.specs.Table.{Row, table, Matches, instruction_of}
+use Rattle.rv32_table.specs.Table.{table, Matches, instruction_of}
 use Rattle.rv32_table.proofs.ListLaws.{EachRow}
 use Rattle.rv32_table.proofs.FieldLaws.{at_opcode, at_funct3, at_funct7, at_whole, any_funct7, by_lui, by_auipc, by_jal, by_jalr, by_branch, by_load, by_store, by_op_imm, by_op, by_fence, by_ecall, by_ebreak}
 

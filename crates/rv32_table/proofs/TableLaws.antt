@@ -1,5 +1,5 @@
 -- The table is the same as the fields.
-use Rattle.std.proofs.Common.{◌≡◌, ℕ, ◌<◌, ◌^◌, refl, sym, ◌∙◌, ap, subst, arith, suc, List, [], ◌∷◌}
+use Rattle.std.proofs.Common.{◌≡◌, ℕ, ◌<◌, ◌^◌, refl, sym, ◌∙◌, subst, arith, suc, List, [], ◌∷◌}
 use Rattle.std.specs.Prelude.{Option, Some, None, option_map, find, All}
 use Rattle.std.proofs.lemmas.List.Elements.{All-nil, All-cons}
 use Rattle.rv32_table.specs.Fields.{opcode_of}

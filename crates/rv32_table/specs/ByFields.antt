@@ -1,6 +1,6 @@
 -- The same by cases on the fields of a word: opcode, funct3, funct7.
 use Rattle.std.specs.Prelude.{ℕ, pos, ◌==◌, if◌then◌else◌, Option, Some, None, option_map}
-use Rattle.rv32_table.specs.Fields.{opcode_of, rd_of, funct3_of, rs1_of, rs2_of, funct7_of, immediate_i, immediate_s, immediate_b, immediate_u, immediate_j, rest_of}
+use Rattle.rv32_table.specs.Fields.{rd_of, funct3_of, rs1_of, rs2_of, funct7_of, immediate_i, immediate_s, immediate_b, immediate_u, immediate_j, rest_of}
 use Rattle.rv32_table.specs.declared.instruction.BranchOp.{BranchOp}
 use Rattle.rv32_table.specs.declared.instruction.BranchOp.TheVariants.{Beq, Bne, Blt, Bge, Bltu, Bgeu}
 use Rattle.rv32_table.specs.declared.instruction.LoadOp.{LoadOp}

@@ -1,4 +1,4 @@
-use Rattle.std.proofs.Common.{ℕ, ◌∙◌, ap}
+use Rattle.std.proofs.Common.{◌∙◌, ap}
 use Rattle.rv32_table.specs.Table.{decoded}
 use Rattle.rv32_table.proofs.EncodedLaws.{decoded-encoded}
 use Rattle.rv32_table.proofs.encoding.encode.Goals as goal

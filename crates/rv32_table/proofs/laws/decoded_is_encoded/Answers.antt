@@ -1,4 +1,3 @@
-use Rattle.std.proofs.Common.{ℕ}
 use Rattle.rv32_table.proofs.TableLaws.{Returns, decoded-returns}
 use Rattle.rv32_table.proofs.laws.decoded_is_encoded.Goals as goal
 
