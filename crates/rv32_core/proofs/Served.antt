@@ -1,34 +1,59 @@
 -- Where the bytes are told, a chain of steps of a plan is the plan served by their list, and a step is the flat machine's.
-use Rattle.std.proofs.Common.{◌≡◌, ℕ, ◌-◌, Bool, true, false, List, [], Result, Ok, Option, Some, refl, sym, ap, ◌∙◌, cond}
+use Rattle.std.proofs.Common.{◌≡◌, ℕ, ◌-◌, ◌≤◌, Bool, true, false, if◌then◌else◌, List, [], Result, Ok, Option, Some, length, refl, sym, ap, ◌∙◌, arith}
+use Rattle.std.proofs.lemmas.Grind.{common_steps}
 use Rattle.std.specs.Int.{from_le_bytes, w32}
 use Rattle.request_plan.specs.Plan.{Plan, Done as Outcome, Ask, Ends}
 use Rattle.request_plan.specs.Play.{served}
+use Rattle.request_plan.proofs.Served.{served-bind}
 use Rattle.rv32_core.specs.Access.{Access, Load, Store, IsAnswer, TellsLoad, TellsStore, access_bytes, slice_of}
-use Rattle.rv32_core.specs.Machine.{Machine, is_inside, effect_of}
-use Rattle.rv32_core.specs.FlatMachine.{FlatStep, effected, flat_step}
-use Rattle.rv32_core.specs.StepPlan.{effect_plan, step_plan}
+use Rattle.rv32_core.specs.Machine.{Machine, IsEffect, is_inside, effect_of}
+use Rattle.rv32_core.specs.FlatMachine.{FlatStep, going_on, call_cost, after_read, after_write, effected, flat_step}
+use Rattle.rv32_core.specs.StepPlan.{effect_plan, step_plan, TellsStep}
+use Rattle.rv32_core.specs.Transfer.{pieces, stores_plan, loads_plan}
 use Rattle.rv32_core.specs.declared.effect.Effect.{Effect}
-use Rattle.rv32_core.specs.declared.effect.Effect.TheVariants.{Sets, Exits, Traps}
+use Rattle.rv32_core.specs.declared.effect.Effect.TheVariants.{Sets, Answers, Reads, Writes, Exits, Traps}
 use Rattle.rv32_core.specs.declared.outcome.Done.{Done}
 use Rattle.rv32_core.specs.declared.outcome.TrapKind.TheVariants.{FetchFault}
+use Rattle.rv32_core.proofs.EffectLaws.{is_buffer-above, effect_of-fine}
+use Rattle.rv32_core.proofs.TransferLaws.{served-stores_plan, served-loads_plan}
 
 -- the machine and the answer of a flat step, and its bytes
 abbrev pub parts_of : FlatStep → (Machine × Done) × List ℕ
 parts_of step = ((step.machine, step.done), step.memory)
 
+-- so many bytes of a list that has them
+pub length-slice_of : (list : List ℕ) (offset count : ℕ) → count ≤ length list - offset → length (slice_of list offset count) ≡ count
+length-slice_of list offset count fits = grind (arith, common_steps)
+
 -- an effect's plan is served by a list of bytes to what the effect makes of it
-pub served-effect_plan : (start : ℕ) (machine : Machine) (memory : List ℕ) (effect : Effect)
-    → served (access_bytes start) (effect_plan machine effect) memory ≡ parts_of (effected machine memory effect)
-served-effect_plan start machine memory (Sets index value) = refl
-served-effect_plan start machine memory (Exits status) = refl
-served-effect_plan start machine memory (Traps kind) = refl
+pub served-effect_plan : (machine : Machine) (memory : List ℕ) (effect : Effect) → IsEffect machine effect
+    → served (access_bytes machine.core.base) (effect_plan machine effect) memory ≡ parts_of (effected machine memory effect)
+served-effect_plan machine memory (Sets index value) fine = refl
+served-effect_plan machine memory (Answers value) fine = refl
+served-effect_plan machine memory (Reads address count) fine =
+    let base = machine.core.base in
+    let bytes : List ℕ = slice_of machine.files.input machine.files.position count in
+    let all : length bytes ≡ count = length-slice_of machine.files.input machine.files.position count fine.1 in
+    served-bind (access_bytes base) (λ _. machine) (stores_plan bytes (pieces address count))
+    (λ _. Outcome (after_read machine count, going_on (call_cost count))) memory
+    ∙ ap (λ (r : Unit {0} × List ℕ). let end : (Machine × Done) × List ℕ = ((after_read machine count, going_on (call_cost count)), r.1) in end)
+    (served-stores_plan base address count bytes memory all (is_buffer-above machine.core address count fine.0))
+served-effect_plan machine memory (Writes address count) fine =
+    let base = machine.core.base in
+    served-bind (access_bytes base) (λ _. machine) (loads_plan machine.files.output (pieces address count))
+    (λ output. Outcome (after_write machine output count, going_on (call_cost count))) memory
+    ∙ ap (λ (r : List ℕ × List ℕ). let end : (Machine × Done) × List ℕ = ((after_write machine (r.0) count, going_on (call_cost count)), r.1) in end)
+    (served-loads_plan base address count machine.files.output memory (is_buffer-above machine.core address count fine.0))
+served-effect_plan machine memory (Exits status) fine = refl
+served-effect_plan machine memory (Traps kind) fine = refl
 
 -- the two ways of a fetch
 served-fetch : (machine : Machine) (memory : List ℕ) (fits : Bool)
-    → served (access_bytes machine.core.base) (cond fits (Ask (Load machine.core.pc 4) machine (λ bytes. effect_plan machine (effect_of machine.core (from_le_bytes w32 bytes)))) (effect_plan machine (Traps FetchFault))) memory
-    ≡ parts_of (cond fits (effected machine memory (effect_of machine.core (from_le_bytes w32 (slice_of memory (machine.core.pc - machine.core.base) 4)))) (effected machine memory (Traps FetchFault)))
+    → served (access_bytes machine.core.base) (if fits then Ask (Load machine.core.pc 4) machine (λ bytes. effect_plan machine (effect_of machine (from_le_bytes w32 bytes))) else effect_plan machine (Traps FetchFault)) memory
+    ≡ parts_of (if fits then effected machine memory (effect_of machine (from_le_bytes w32 (slice_of memory (machine.core.pc - machine.core.base) 4))) else effected machine memory (Traps FetchFault))
 served-fetch machine memory true =
-    served-effect_plan machine.core.base machine memory (effect_of machine.core (from_le_bytes w32 (slice_of memory (machine.core.pc - machine.core.base) 4)))
+    let word : ℕ = from_le_bytes w32 (slice_of memory (machine.core.pc - machine.core.base) 4) in
+    served-effect_plan machine memory (effect_of machine word) (effect_of-fine machine word)
 served-fetch machine memory false = refl
 
 -- a step's plan is served by a list of bytes to the step of the flat machine
@@ -79,10 +104,8 @@ module _ {S E : Type 0} (step : S → Access → Result (List ℕ) E → S → T
       )
 
   -- where the bytes are told after a step, it is the flat machine's step on what was told before
-  pub told_step : (machine next : Machine) (s t : S) (done : Done)
-      → base s ≡ machine.core.base → Ends step (step_plan machine) s t (next, done) → (after : List ℕ) → told t ≡ Some after
-      → (before : List ℕ) × (told s ≡ Some before)
-      × (flat_step machine before ≡ record { machine = next; memory = after; done = done })
+  pub told_step : (machine next : Machine) (s t : S) (done : Done) → base s ≡ machine.core.base
+      → Ends step (step_plan machine) s t (next, done) → TellsStep machine (told s) next (told t) done
   told_step machine next s t done same h after e =
       let r = Ends-told (machine.core.base) (step_plan machine) s t (next, done) same h after e in
       (r.0, r.1, flat_step-is machine (r.0) ((next, done), after) r.2)

@@ -14,6 +14,11 @@ pub record IsInLine (base size address count : ℕ) : Type 0 where
   pub below : address + count ≤ base + size
   pub in_line : address % 64 + count ≤ 64
 
+-- What is asked for lies inside the memory, and inside one line.
+abbrev pub IsAccess : ℕ → ℕ → Access → Type 0
+IsAccess base size (Load address count) = IsInLine base size address count
+IsAccess base size (Store address bytes) = IsInLine base size address (length bytes)
+
 -- A load is answered by as many bytes as it asks for, and a store by none.
 abbrev pub IsAnswer : Access → List ℕ → Type 0
 IsAnswer (Load address count) bytes = (length bytes ≡ count) × All (λ b. b < 256) bytes

@@ -3,3 +3,4 @@ pub mod FlatMachine
 pub mod FlatRun
 pub mod Machine
 pub mod StepPlan
+pub mod Transfer

@@ -1,8 +1,8 @@
 -- The state of a machine without its memory, and what an instruction does.
-use Rattle.std.specs.Prelude.{◌≡◌, ℕ, ◌+◌, ◌-◌, ◌/◌, ◌%◌, ◌^◌, ◌<◌, ◌≤◌, nat_le, nat_lt, Bool, ◌&&◌, ◌==◌, if◌then◌else◌, List, length, replicate, slice_index, slice_set}
+use Rattle.std.specs.Prelude.{◌≡◌, ℕ, ◌+◌, ◌-◌, ◌*◌, ◌/◌, ◌%◌, ◌^◌, ◌<◌, ◌≤◌, nat_le, nat_lt, min, Bool, IsTrue, ◌&&◌, ◌||◌, ◌==◌, if◌then◌else◌, List, length, replicate, slice_index, slice_set}
 use Rattle.rv32_core.specs.declared.effect.Effect.{Effect}
-use Rattle.rv32_core.specs.declared.effect.Effect.TheVariants.{Sets, Exits, Traps}
-use Rattle.rv32_core.specs.declared.outcome.TrapKind.TheVariants.{NotYet}
+use Rattle.rv32_core.specs.declared.effect.Effect.TheVariants.{Sets, Answers, Reads, Writes, Exits, Traps}
+use Rattle.rv32_core.specs.declared.outcome.TrapKind.TheVariants.{OutputLimit, NotYet}
 
 -- The program counter, the 32 registers, where the memory begins and how long it is, the first break and the break.
 pub record CoreState : Type 0 where
@@ -73,6 +73,14 @@ bits word low count = word / 2 ^ low % 2 ^ count
 abbrev pub sign_extended : ℕ → ℕ → ℕ
 sign_extended count value = if nat_lt value (2 ^ (count - 1)) then value else value + (2 ^ 32 - 2 ^ count)
 
+-- LUI: opcode 0110111. (2.4)
+abbrev pub is_lui : ℕ → Bool
+is_lui word = bits word 0 7 == 0b011_0111
+
+-- Bits 31 to 12 of the word, with twelve zero bits below. (2.4)
+abbrev pub lui_value : ℕ → ℕ
+lui_value word = bits word 12 20 * 2 ^ 12
+
 -- ADDI: opcode 0010011, funct3 0. (2.4)
 abbrev pub is_addi : ℕ → Bool
 is_addi word = (bits word 0 7 == 0b001_0011) && (bits word 12 3 == 0)
@@ -85,18 +93,66 @@ addi_value core word = (register core (bits word 15 5) + sign_extended 12 (bits 
 abbrev pub is_ecall : ℕ → Bool
 is_ecall word = word == 0x0000_0073
 
+-- the answer -9 of a host call that names a file which isn't there, modulo 2^32
+abbrev pub bad_file : ℕ
+bad_file = 2 ^ 32 - 9
+
+-- the answer -14 of a host call whose buffer isn't in the memory, modulo 2^32
+abbrev pub bad_buffer : ℕ
+bad_buffer = 2 ^ 32 - 14
+
+-- how many bytes of the input weren't read yet
+abbrev pub bytes_left : FilesState → ℕ
+bytes_left files = length files.input - files.position
+
+-- so many bytes from an address on are none, or all in the memory
+abbrev pub is_buffer : CoreState → ℕ → ℕ → Bool
+is_buffer core address count = (count == 0) || is_inside core address count
+
+-- Host call 63, read: from the file x10, which is 0, into the x12 bytes at x11.
+abbrev pub read_of : Machine → Effect
+read_of machine =
+    let core = machine.core in
+    if register core 10 == 0
+    then (if is_buffer core (register core 11) (register core 12)
+    then Reads (register core 11) (min (register core 12) (bytes_left machine.files))
+    else Answers bad_buffer)
+    else Answers bad_file
+
+-- Host call 64, write: to the file x10, which is 1 or 2, the x12 bytes at x11.
+abbrev pub write_of : Machine → Effect
+write_of machine =
+    let core = machine.core in
+    if (register core 10 == 1) || (register core 10 == 2)
+    then (if is_buffer core (register core 11) (register core 12)
+    then (if nat_le (length machine.files.output + register core 12) machine.files.limit
+    then Writes (register core 11) (register core 12)
+    else Traps OutputLimit)
+    else Answers bad_buffer)
+    else Answers bad_file
+
 -- An ECALL asks for the host call whose number is in x17. Call 93 ends the program with the low byte of x10.
-abbrev pub call_of : CoreState → Effect
-call_of core = if register core 17 == 93 then Exits (register core 10 % 256) else Traps NotYet
+abbrev pub call_of : Machine → Effect
+call_of machine =
+    let core = machine.core in
+    if register core 17 == 63 then read_of machine
+    else (if register core 17 == 64 then write_of machine
+    else (if register core 17 == 93 then Exits (register core 10 % 256) else Traps NotYet))
 
 -- what a word does
-abbrev pub effect_of : CoreState → ℕ → Effect
-effect_of core word =
-    if is_addi word then Sets (bits word 7 5) (addi_value core word)
-    else (if is_ecall word then call_of core else Traps NotYet)
+abbrev pub effect_of : Machine → ℕ → Effect
+effect_of machine word =
+    if is_lui word then Sets (bits word 7 5) (lui_value word)
+    else (if is_addi word then Sets (bits word 7 5) (addi_value machine.core word)
+    else (if is_ecall word then call_of machine else Traps NotYet))
 
--- an effect names a register that there is
-abbrev pub IsEffect : Effect → Type 0
-IsEffect (Sets index value) = index < 32
-IsEffect (Exits status) = Unit {0}
-IsEffect (Traps kind) = Unit {0}
+-- An effect names a register that there is, a buffer that there is, and bytes that there are or room that there is.
+abbrev pub IsEffect : Machine → Effect → Type 0
+IsEffect machine (Sets index value) = index < 32
+IsEffect machine (Answers value) = Unit {0}
+IsEffect machine (Reads address count) =
+    IsTrue (is_buffer machine.core address count) × (count ≤ bytes_left machine.files)
+IsEffect machine (Writes address count) =
+    IsTrue (is_buffer machine.core address count) × (length machine.files.output + count ≤ machine.files.limit)
+IsEffect machine (Exits status) = Unit {0}
+IsEffect machine (Traps kind) = Unit {0}

@@ -1,8 +1,14 @@
 //! The input that a program reads, and the output that it writes.
 
-ghost use Rattle.std.specs.Prelude.{◌≡◌, [], IfOk};
+ghost use Rattle.std.specs.Prelude.{◌≡◌, ◌+◌, ◌≤◌, nat_le, [], length, IfOk, IfErr, OnOk, OnErr};
+ghost use Rattle.request_plan.specs.Plan.{Ends, Stops};
+ghost use Rattle.rv32_core.specs.Access.{slice_of};
+ghost use Rattle.rv32_core.specs.Machine.{bytes_left};
+ghost use Rattle.rv32_core.specs.Transfer.{IsRange, pieces, stores_plan, loads_plan};
 
+use crate::memory::Bytes;
 use crate::outcome::NoMemory;
+use crate::transfer::{load_all, store_all};
 use std::alloc::Global;
 use std::marker::Model;
 
@@ -23,7 +29,8 @@ impl Model for Files {
 
     ghost view = { λ f. record { input = f.input.items; position = f.position; output = f.output.items; limit = f.limit } };
 
-    ghost invariant = { λ f. (f.position ≤ length f.input.items) × (length f.output.items ≤ f.limit) × (f.limit ≤ vec_capacity f.output) };
+    ghost invariant = { λ f. (f.position ≤ length f.input.items) × (length f.output.items ≤ f.limit)
+        × (f.limit ≤ vec_capacity f.output) };
 }
 
 impl Files {
@@ -57,5 +64,71 @@ impl Files {
         ensures { result.items ≡ self.output }
     {
         self.output
+    }
+
+    /// How many bytes of the input weren't read yet.
+    pub(crate) fn bytes_left(&self) -> usize
+        ensures { result ≡ bytes_left self.now }
+    {
+        self.input.len() - self.position
+    }
+
+    /// Whether the output has room for `count` bytes more.
+    pub(crate) fn has_room(&self, count: u32) -> bool
+        ensures { result ≡ nat_le (length self.now.output + count) self.now.limit }
+    {
+        count as usize <= self.limit - self.output.len()
+    }
+
+    /// Stores the next `count` bytes of the input in the memory. Where a store is stopped, nothing counts as read.
+    pub(crate) fn read<B: Bytes>(
+        &mut self,
+        memory: &mut B,
+        address: u32,
+        count: u32,
+    ) -> Result<(), B::Stop>
+        requires range { IsRange (B.base memory.old) (B.size memory.old) address count }
+        requires left { count ≤ bytes_left self.old }
+        ensures ok { OnOk result (Ends B.step
+            (stores_plan (slice_of self.old.input self.old.position count) (pieces address count))
+            memory.old memory.new tt) }
+        ensures err { IfErr result (λ stop. Stops B.step
+            (stores_plan (slice_of self.old.input self.old.position count) (pieces address count))
+            memory.old memory.new stop tt) }
+        ensures after { OnOk result (self.new ≡ record self.old { position = self.old.position + count }) }
+        ensures unchanged { OnErr result (self.new ≡ self.old) }
+        ensures base { B.base memory.new ≡ B.base memory.old }
+        ensures size { B.size memory.new ≡ B.size memory.old }
+    {
+        let end = self.position + count as usize;
+        store_all(memory, address, &self.input[self.position..end])?;
+        self.position = end;
+        Ok(())
+    }
+
+    /// Appends `count` bytes of the memory to the output. Where a load is stopped, the output is as it was.
+    pub(crate) fn write<B: Bytes>(
+        &mut self,
+        memory: &mut B,
+        address: u32,
+        count: u32,
+    ) -> Result<(), B::Stop>
+        requires range { IsRange (B.base memory.old) (B.size memory.old) address count }
+        requires room { length self.old.output + count ≤ self.old.limit }
+        ensures ok { OnOk result (Ends B.step (loads_plan self.old.output (pieces address count))
+            memory.old memory.new self.new.output) }
+        ensures err { IfErr result (λ stop. Stops B.step (loads_plan self.old.output (pieces address count))
+            memory.old memory.new stop tt) }
+        ensures after { OnOk result (self.new ≡ record self.old { output = self.new.output }) }
+        ensures unchanged { OnErr result (self.new ≡ self.old) }
+        ensures base { B.base memory.new ≡ B.base memory.old }
+        ensures size { B.size memory.new ≡ B.size memory.old }
+    {
+        let before = self.output.len();
+        if let Err(stop) = load_all(memory, &mut self.output, address, count) {
+            self.output.truncate(before);
+            return Err(stop);
+        }
+        Ok(())
     }
 }

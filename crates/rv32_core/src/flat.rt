@@ -44,7 +44,14 @@ impl FlatBytes {
 
 impl Bytes for FlatBytes {
     ghost use Rattle.std.specs.Prelude.{Some, length};
-    ghost use Rattle.rv32_core.specs.Access.{FlatAccess, FlatAccess-base, FlatAccess-size, FlatAccess-answers, FlatAccess-load, FlatAccess-store};
+    ghost use Rattle.rv32_core.specs.Access.{
+      FlatAccess,
+      FlatAccess-base,
+      FlatAccess-size,
+      FlatAccess-answers,
+      FlatAccess-load,
+      FlatAccess-store,
+    };
     ghost use Rattle.rv32_core.specs.declared.flat.Never.{Never};
 
     type Stop = Never;

@@ -1,16 +1,19 @@
 //! The core: registers, program counter, and the step.
 
-ghost use Rattle.std.specs.Prelude.{◌≡◌, ℕ, ◌+◌, ◌*◌, ◌%◌, ◌^◌, ◌<◌, ◌≤◌, List, length, replicate, slice_set, Option, Some, IfOk, IfErr, OnErr, IsTrue};
+ghost use Rattle.std.specs.Prelude.{◌≡◌, ◌+◌, ◌%◌, ◌^◌, ◌<◌, ◌≤◌, IfOk, IfErr, OnErr};
 ghost use Rattle.request_plan.specs.Plan.{Ends, Stops};
-ghost use Rattle.rv32_core.specs.Machine.{IsMemory, IsEffect, bits, sign_extended, core_at_start, effect_of, call_of, with_register, is_inside};
-ghost use Rattle.rv32_core.specs.FlatMachine.{flat_step, trap_at};
-ghost use Rattle.rv32_core.specs.StepPlan.{machine_of, step_plan};
+ghost use Rattle.rv32_core.specs.Machine.{IsMemory, IsEffect, bits, sign_extended, core_at_start, effect_of, call_of, read_of, write_of, with_register, is_inside, is_buffer};
+ghost use Rattle.rv32_core.specs.FlatMachine.{going_on, call_cost, trap_at};
+ghost use Rattle.rv32_core.specs.StepPlan.{machine_of, effect_plan, step_plan, TellsStep};
 
 use crate::console::Files;
 use crate::effect::Effect;
 use crate::memory::Bytes;
 use crate::outcome::{Done, Ended, TrapKind};
 use std::marker::Model;
+
+/// The opcode of LUI.
+const LUI: u32 = 0b011_0111;
 
 /// The opcode of the instructions with a register and an immediate.
 const OP_IMM: u32 = 0b001_0011;
@@ -21,8 +24,20 @@ const ADDI: u32 = 0;
 /// The word of ECALL.
 const ECALL: u32 = 0x0000_0073;
 
+/// The host call that reads the input.
+const READ: u32 = 63;
+
+/// The host call that writes to the output.
+const WRITE: u32 = 64;
+
 /// The host call that ends the program.
 const EXIT: u32 = 93;
+
+/// A host call's answer -9, modulo 2^32: it names a file that isn't there.
+const BAD_FILE: u32 = 4_294_967_287;
+
+/// A host call's answer -14, modulo 2^32: its buffer isn't in the memory.
+const BAD_BUFFER: u32 = 4_294_967_282;
 
 /// The cycles of an instruction that does nothing but set a register.
 const PLAIN_COST: u64 = 1;
@@ -46,9 +61,23 @@ impl Model for Core {
 
     ghost Value = { CoreState };
 
-    ghost view = { λ c. record { pc = c.pc; registers = c.registers; base = c.base; size = c.size; first_break = c.first_break; break_now = c.break_now } };
+    ghost view = { λ c. record {
+      pc = c.pc;
+      registers = c.registers;
+      base = c.base;
+      size = c.size;
+      first_break = c.first_break;
+      break_now = c.break_now;
+    } };
 
-    ghost invariant = { λ c. IsCore (record { pc = c.pc; registers = c.registers; base = c.base; size = c.size; first_break = c.first_break; break_now = c.break_now }) };
+    ghost invariant = { λ c. IsCore (record {
+      pc = c.pc;
+      registers = c.registers;
+      base = c.base;
+      size = c.size;
+      first_break = c.first_break;
+      break_now = c.break_now;
+    }) };
 }
 
 /// So many bits of a word, from the bit `low` on.
@@ -103,11 +132,13 @@ impl Core {
     pub fn step<B: Bytes>(&mut self, bytes: &mut B, files: &mut Files) -> Result<Done, B::Stop>
         requires base { B.base bytes.old ≡ self.old.base }
         requires size { B.size bytes.old ≡ self.old.size }
-        ensures ok { IfOk result (λ done. Ends B.step (step_plan (machine_of self.old files.old)) bytes.old bytes.new (machine_of self.new files.new, done)) }
-        ensures err { IfErr result (λ stop. Stops B.step (step_plan (machine_of self.old files.old)) bytes.old bytes.new stop (machine_of self.new files.new)) }
+        ensures ok { IfOk result (λ done. Ends B.step (step_plan (machine_of self.old files.old))
+            bytes.old bytes.new (machine_of self.new files.new, done)) }
+        ensures err { IfErr result (λ stop. Stops B.step (step_plan (machine_of self.old files.old))
+            bytes.old bytes.new stop (machine_of self.new files.new)) }
         ensures unchanged { OnErr result (machine_of self.new files.new ≡ machine_of self.old files.old) }
-        ensures told { IfOk result (λ done. (after : List ℕ) → B.told bytes.new ≡ Some after → (before : List ℕ) × (B.told bytes.old ≡ Some before)
-            × (flat_step (machine_of self.old files.old) before ≡ record { machine = machine_of self.new files.new; memory = after; done = done })) }
+        ensures told { IfOk result (λ done. TellsStep (machine_of self.old files.old) (B.told bytes.old)
+            (machine_of self.new files.new) (B.told bytes.new) done) }
         ensures same_base { self.new.base ≡ self.old.base }
         ensures same_size { self.new.size ≡ self.old.size }
         ensures bytes_base { B.base bytes.new ≡ B.base bytes.old }
@@ -120,8 +151,10 @@ impl Core {
     fn follow<B: Bytes>(&mut self, bytes: &mut B, files: &mut Files) -> Result<Done, B::Stop>
         requires base { B.base bytes.old ≡ self.old.base }
         requires size { B.size bytes.old ≡ self.old.size }
-        ensures ok { IfOk result (λ done. Ends B.step (step_plan (machine_of self.old files.old)) bytes.old bytes.new (machine_of self.new files.new, done)) }
-        ensures err { IfErr result (λ stop. Stops B.step (step_plan (machine_of self.old files.old)) bytes.old bytes.new stop (machine_of self.new files.new)) }
+        ensures ok { IfOk result (λ done. Ends B.step (step_plan (machine_of self.old files.old))
+            bytes.old bytes.new (machine_of self.new files.new, done)) }
+        ensures err { IfErr result (λ stop. Stops B.step (step_plan (machine_of self.old files.old))
+            bytes.old bytes.new stop (machine_of self.new files.new)) }
         ensures unchanged { OnErr result (machine_of self.new files.new ≡ machine_of self.old files.old) }
         ensures same_base { self.new.base ≡ self.old.base }
         ensures same_size { self.new.size ≡ self.old.size }
@@ -133,13 +166,41 @@ impl Core {
         }
         let mut word = [0u8; 4];
         bytes.load(self.pc, &mut word)?;
-        match self.execute(u32::from_le_bytes(word)) {
-            Effect::Sets { register, value } => {
-                self.set_register(register, value);
-                Ok(Done {
-                    ended: Ended::No,
-                    cost: PLAIN_COST,
-                })
+        let effect = self.execute(files, u32::from_le_bytes(word));
+        self.perform(bytes, files, effect)
+    }
+
+    /// What an effect asks for, and what it leaves.
+    fn perform<B: Bytes>(
+        &mut self,
+        bytes: &mut B,
+        files: &mut Files,
+        effect: Effect,
+    ) -> Result<Done, B::Stop>
+        requires base { B.base bytes.old ≡ self.old.base }
+        requires size { B.size bytes.old ≡ self.old.size }
+        requires below { self.old.base + self.old.size < 2 ^ 32 }
+        requires effect { IsEffect (machine_of self.old files.old) effect }
+        ensures ok { IfOk result (λ done. Ends B.step (effect_plan (machine_of self.old files.old) effect)
+            bytes.old bytes.new (machine_of self.new files.new, done)) }
+        ensures err { IfErr result (λ stop. Stops B.step (effect_plan (machine_of self.old files.old) effect)
+            bytes.old bytes.new stop (machine_of self.new files.new)) }
+        ensures unchanged { OnErr result (machine_of self.new files.new ≡ machine_of self.old files.old) }
+        ensures same_base { self.new.base ≡ self.old.base }
+        ensures same_size { self.new.size ≡ self.old.size }
+        ensures bytes_base { B.base bytes.new ≡ B.base bytes.old }
+        ensures bytes_size { B.size bytes.new ≡ B.size bytes.old }
+    {
+        match effect {
+            Effect::Sets { register, value } => Ok(self.set_register(register, value, PLAIN_COST)),
+            Effect::Answers { value } => Ok(self.answer(value, 0)),
+            Effect::Reads { address, count } => {
+                files.read(bytes, address, count)?;
+                Ok(self.answer(count, count))
+            }
+            Effect::Writes { address, count } => {
+                files.write(bytes, address, count)?;
+                Ok(self.answer(count, count))
             }
             Effect::Exits { status } => Ok(Done {
                 ended: Ended::Exit { status },
@@ -150,19 +211,25 @@ impl Core {
     }
 
     /// What a word does.
-    fn execute(&self, word: u32) -> Effect
-        ensures is { result ≡ effect_of self.now word }
-        ensures fits { IsEffect result }
+    fn execute(&self, files: &Files, word: u32) -> Effect
+        ensures { result ≡ effect_of (machine_of self.now files.now) word }
     {
+        let register = field(word, 7, 5) as u8;
+        if field(word, 0, 7) == LUI {
+            return Effect::Sets {
+                register,
+                value: field(word, 12, 20) << 12,
+            };
+        }
         if field(word, 0, 7) == OP_IMM && field(word, 12, 3) == ADDI {
             let source = self.registers[field(word, 15, 5) as usize];
             return Effect::Sets {
-                register: field(word, 7, 5) as u8,
+                register,
                 value: source.wrapping_add(sign_extend_12(field(word, 20, 12))),
             };
         }
         if word == ECALL {
-            return self.call();
+            return self.call(files);
         }
         Effect::Traps {
             kind: TrapKind::NotYet,
@@ -170,29 +237,84 @@ impl Core {
     }
 
     /// What the host call does whose number is in x17.
-    fn call(&self) -> Effect
-        ensures is { result ≡ call_of self.now }
-        ensures fits { IsEffect result }
+    fn call(&self, files: &Files) -> Effect
+        ensures { result ≡ call_of (machine_of self.now files.now) }
     {
-        if self.registers[17] == EXIT {
-            return Effect::Exits {
+        match self.registers[17] {
+            READ => self.read(files),
+            WRITE => self.write(files),
+            EXIT => Effect::Exits {
                 status: (self.registers[10] % 256) as u8,
-            };
-        }
-        Effect::Traps {
-            kind: TrapKind::NotYet,
+            },
+            _ => Effect::Traps {
+                kind: TrapKind::NotYet,
+            },
         }
     }
 
-    /// Sets a register, x0 never, and goes on to the next instruction.
-    fn set_register(&mut self, register: u8, value: u32)
+    /// What the host call to read does: from the file x10 into the x12 bytes at x11.
+    fn read(&self, files: &Files) -> Effect
+        ensures { result ≡ read_of (machine_of self.now files.now) }
+    {
+        let (file, address, count) = (self.registers[10], self.registers[11], self.registers[12]);
+        if file != 0 {
+            return Effect::Answers { value: BAD_FILE };
+        }
+        if !self.is_buffer(address, count) {
+            return Effect::Answers { value: BAD_BUFFER };
+        }
+        let count = files.bytes_left().min(count as usize) as u32;
+        Effect::Reads { address, count }
+    }
+
+    /// What the host call to write does: to the file x10 the x12 bytes at x11.
+    fn write(&self, files: &Files) -> Effect
+        ensures { result ≡ write_of (machine_of self.now files.now) }
+    {
+        let (file, address, count) = (self.registers[10], self.registers[11], self.registers[12]);
+        if file != 1 && file != 2 {
+            return Effect::Answers { value: BAD_FILE };
+        }
+        if !self.is_buffer(address, count) {
+            return Effect::Answers { value: BAD_BUFFER };
+        }
+        if !files.has_room(count) {
+            return Effect::Traps {
+                kind: TrapKind::OutputLimit,
+            };
+        }
+        Effect::Writes { address, count }
+    }
+
+    /// Sets a register, x0 never, and goes on to the next instruction, at a cost.
+    fn set_register(&mut self, register: u8, value: u32, cost: u64) -> Done
         requires { register < 32 }
-        ensures { self.new ≡ with_register self.old register value }
+        ensures core { self.new ≡ with_register self.old register value }
+        ensures done { result ≡ going_on cost }
     {
         if register != 0 {
             self.registers[register as usize] = value;
         }
         self.pc = self.pc.wrapping_add(4);
+        Done {
+            ended: Ended::No,
+            cost,
+        }
+    }
+
+    /// Answers a host call that moved so many bytes.
+    fn answer(&mut self, value: u32, moved: u32) -> Done
+        ensures core { self.new ≡ with_register self.old 10 value }
+        ensures done { result ≡ going_on (call_cost moved) }
+    {
+        self.set_register(10, value, HOST_CALL_COST + u64::from(moved))
+    }
+
+    /// Whether so many bytes from an address on are none, or all in the memory.
+    fn is_buffer(&self, address: u32, count: u32) -> bool
+        ensures { result ≡ is_buffer self.now address count }
+    {
+        count == 0 || self.is_inside(address, count)
     }
 
     /// Whether so many bytes from an address on are all in the memory.
@@ -213,3 +335,6 @@ impl Core {
         }
     }
 }
+
+#[cfg(test)]
+mod tests;

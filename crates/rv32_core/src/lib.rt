@@ -5,8 +5,8 @@
 //! `specs/FlatMachine.antt`, and a run of so many steps is `flat_run` of `specs/FlatRun.antt`. Sections that the
 //! definitions name are those of the RISC-V unprivileged manual.
 //!
-//! The instructions are ADDI and ECALL; ECALL knows the host call 93, exit. Every other word and every other host call
-//! is the trap [`TrapKind::NotYet`].
+//! The instructions are ADDI, LUI and ECALL; ECALL knows the host calls 63, read, 64, write, and 93, exit. Every other
+//! word and every other host call is the trap [`TrapKind::NotYet`].
 #![tactic(auto)]
 
 mod console;
@@ -15,8 +15,7 @@ mod flat;
 mod hart;
 mod memory;
 mod outcome;
-#[cfg(test)]
-mod tests;
+mod transfer;
 
 pub use console::Files;
 pub use flat::{FlatBytes, Never};

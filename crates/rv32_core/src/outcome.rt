@@ -5,6 +5,8 @@
 pub enum TrapKind {
     /// The four bytes at pc aren't all in the memory.
     FetchFault,
+    /// A host call to write would make the output longer than its limit.
+    OutputLimit,
     /// The word is no instruction that the machine knows, or asks for a host call that it doesn't know.
     NotYet,
 }

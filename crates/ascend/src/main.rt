@@ -1,0 +1,38 @@
+//! The program `ascend`: its words, the machine's files and standard output, and its exit status.
+#![tactic(auto)]
+
+mod std_host;
+
+use crate::std_host::StdHost;
+use std::process::ExitCode;
+use std::rt::{Env, Files};
+use std::{env, io};
+
+/// The status where a call of the host fails.
+const HOST: u8 = 5;
+
+/// The status where there is no memory.
+const NO_MEMORY: u8 = 11;
+
+/// The words that the program was given, without its own name.
+fn words<R: Env + AllocGlobal>(rt: &R) -> io::Result<Vec<String>> {
+    let mut words = Vec::new(rt.alloc());
+    for word in env::args(rt)?.skip(1) {
+        words.push(word)?;
+    }
+    Ok(words)
+}
+
+fn run<R: Files + Print + Env + AllocGlobal>(rt: &R) -> u8 {
+    let words = match words(rt) {
+        Ok(words) => words,
+        Err(error) if error.kind() == io::ErrorKind::OutOfMemory => return NO_MEMORY,
+        Err(_) => return HOST,
+    };
+    let mut host = StdHost::new(rt);
+    ascend_top::ascend(rt.alloc(), words.as_slice(), &mut host)
+}
+
+fn main(rt: HostRuntime) -> ExitCode {
+    ExitCode::from(run(&rt))
+}

@@ -1,0 +1,5 @@
+pub mod EndLaws
+pub mod FlatLaws
+pub mod RunLaws
+pub mod StepLaws
+pub mod WordLaws

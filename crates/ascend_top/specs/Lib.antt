@@ -1,0 +1,5 @@
+pub mod Command
+pub mod Endings
+pub mod Flat
+pub mod Texts
+pub mod Words

@@ -1,0 +1,42 @@
+-- What a command prints. Each text is a line, or two, each ended by a line feed.
+use Rattle.std.specs.Prelude.{ℕ, List, [], ◌∷◌, ◌++◌, Option, Some, None, codes}
+use Rattle.std.specs.Fmt.{decimal}
+use Rattle.rv32_core.specs.declared.outcome.TrapKind.{TrapKind}
+use Rattle.rv32_core.specs.declared.outcome.TrapKind.TheVariants.{FetchFault, OutputLimit, NotYet}
+use Rattle.rv32_core.specs.FlatRun.{FlatRun, FlatEnding, Exited, Trapped, Budget}
+use Rattle.ascend_top.specs.Words.{name_text}
+use Rattle.ascend_top.specs.declared.ending.Refusal.{Refusal}
+use Rattle.ascend_top.specs.declared.ending.Refusal.TheVariants.{Usage, Elf, KeyLength, TooLong, Host, NoMemory}
+
+-- a line with this text
+abbrev pub line : List ℕ → List ℕ
+line text = text ++ 10 ∷ []
+
+-- the kind of a trap, as it is printed
+abbrev pub kind_text : TrapKind → List ℕ
+kind_text FetchFault = codes "FetchFault"
+kind_text OutputLimit = codes "OutputLimit"
+kind_text NotYet = codes "NotYet"
+
+-- the ending, as it is printed
+abbrev pub ending_text : FlatEnding → List ℕ
+ending_text (Exited status) = codes "end exit " ++ decimal status
+ending_text (Trapped kind pc) = codes "end trap " ++ kind_text kind ++ codes " " ++ decimal pc
+ending_text Budget = codes "end budget"
+
+-- the report of an ending and the number of finished instructions
+abbrev pub report_of : FlatEnding → ℕ → List ℕ
+report_of ending instructions = line (ending_text ending) ++ line (codes "instructions " ++ decimal instructions)
+
+-- the report of a run
+abbrev pub report_text : FlatRun → List ℕ
+report_text run = report_of run.ending run.instructions
+
+-- what is printed of a refusal, if anything is
+abbrev pub refusal_text : Refusal → Option (List ℕ)
+refusal_text (Usage word) = Some (line (codes "usage word " ++ decimal word))
+refusal_text (Elf fault) = Some (line (codes "elf NotYet"))
+refusal_text (KeyLength length) = Some (line (codes "key length " ++ decimal length))
+refusal_text (TooLong name) = Some (line (codes "long " ++ name_text name))
+refusal_text Host = None
+refusal_text NoMemory = None
