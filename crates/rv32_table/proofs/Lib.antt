@@ -1,0 +1,13 @@
+pub mod Masks
+pub mod WordLaws
+pub mod Immediates
+pub mod FormLaws
+pub mod ListLaws
+pub mod Apart
+pub mod FieldLaws
+pub mod RowsByFields
+pub mod RowsEncoded
+pub mod Existence
+pub mod TableLaws
+pub mod EncodedLaws
+pub mod MeaningRows

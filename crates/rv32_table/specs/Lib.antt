@@ -1,0 +1,6 @@
+pub mod Fields
+pub mod Fits
+pub mod Table
+pub mod ByFields
+pub mod Encoded
+pub mod Meaning

@@ -1,0 +1,113 @@
+-- The instruction table. (RISC-V unprivileged manual, RV32/64G Instruction Set Listings: RV32I 2.1, M 2.0, Zifencei 2.0)
+use Rattle.std.specs.Prelude.{◌≡◌, ℕ, ℤ, pos, Bool, ◌==◌, List, [], ◌∷◌, Option, option_map, find, bit_and}
+use Rattle.rv32_table.specs.Fields.{rd_of, rs1_of, rs2_of, immediate_i, immediate_s, immediate_b, immediate_u, immediate_j, rest_of}
+use Rattle.rv32_table.specs.declared.instruction.BranchOp.TheVariants.{Beq, Bne, Blt, Bge, Bltu, Bgeu}
+use Rattle.rv32_table.specs.declared.instruction.LoadOp.TheVariants.{Lb, Lh, Lw, Lbu, Lhu}
+use Rattle.rv32_table.specs.declared.instruction.StoreOp.TheVariants.{Sb, Sh, Sw}
+use Rattle.rv32_table.specs.declared.instruction.ImmOp.TheVariants.{Addi, Slti, Sltiu, Xori, Ori, Andi, Slli, Srli, Srai}
+use Rattle.rv32_table.specs.declared.instruction.RegOp.TheVariants.{Add, Sub, Sll, Slt, Sltu, Xor, Srl, Sra, Or, And, Mul, Mulh, Mulhsu, Mulhu, Div, Divu, Rem, Remu}
+use Rattle.rv32_table.specs.declared.instruction.Instr.{Instr}
+use Rattle.rv32_table.specs.declared.instruction.Instr.TheVariants.{Lui, Auipc, Jal, Jalr, Branch, Load, Store, OpImm, Op, Fence, FenceI, Ecall, Ebreak}
+
+-- A form, and the instruction that it makes of the fields of a word in the order of the manual's assembler: of rd, rs1
+-- and rs2; of rd, rs1 and an immediate; of rs1, rs2 and an immediate; of rd and an immediate.
+pub data Form : Type 0 where
+  FormR : (ℕ → ℕ → ℕ → Instr) → Form
+  FormI : (ℕ → ℕ → ℤ → Instr) → Form
+  FormShift : (ℕ → ℕ → ℤ → Instr) → Form
+  FormS : (ℕ → ℕ → ℤ → Instr) → Form
+  FormB : (ℕ → ℕ → ℤ → Instr) → Form
+  FormU : (ℕ → ℕ → Instr) → Form
+  FormJ : (ℕ → ℤ → Instr) → Form
+  FormFence : (ℕ → Instr) → Form
+  FormWhole : Instr → Form
+
+-- the instruction that a word is in a form
+abbrev pub instruction_of : Form → ℕ → Instr
+instruction_of (FormR make) word = make (rd_of word) (rs1_of word) (rs2_of word)
+instruction_of (FormI make) word = make (rd_of word) (rs1_of word) (immediate_i word)
+instruction_of (FormShift make) word = make (rd_of word) (rs1_of word) (pos (rs2_of word))
+instruction_of (FormS make) word = make (rs1_of word) (rs2_of word) (immediate_s word)
+instruction_of (FormB make) word = make (rs1_of word) (rs2_of word) (immediate_b word)
+instruction_of (FormU make) word = make (rd_of word) (immediate_u word)
+instruction_of (FormJ make) word = make (rd_of word) (immediate_j word)
+instruction_of (FormFence make) word = make (rest_of word)
+instruction_of (FormWhole instr) word = instr
+
+-- A row: the bits that are fixed, what they are, and the form and the name of the instruction. The meaning of a name
+-- stands in Meaning.
+pub record Row : Type 0 where
+  pub mask : ℕ
+  pub value : ℕ
+  pub form : Form
+
+abbrev pub row : ℕ → ℕ → Form → Row
+row mask value form = record { mask = mask; value = value; form = form }
+
+-- The table. Its rows to EBREAK are those of RV32I, Base Integer Instruction Set 2.1.
+unfoldable pub table : List Row
+table =
+    row 0x0000_007f 0x0000_0037 (FormU Lui)
+    ∷ row 0x0000_007f 0x0000_0017 (FormU Auipc)
+    ∷ row 0x0000_007f 0x0000_006f (FormJ Jal)
+    ∷ row 0x0000_707f 0x0000_0067 (FormI Jalr)
+    ∷ row 0x0000_707f 0x0000_0063 (FormB (Branch Beq))
+    ∷ row 0x0000_707f 0x0000_1063 (FormB (Branch Bne))
+    ∷ row 0x0000_707f 0x0000_4063 (FormB (Branch Blt))
+    ∷ row 0x0000_707f 0x0000_5063 (FormB (Branch Bge))
+    ∷ row 0x0000_707f 0x0000_6063 (FormB (Branch Bltu))
+    ∷ row 0x0000_707f 0x0000_7063 (FormB (Branch Bgeu))
+    ∷ row 0x0000_707f 0x0000_0003 (FormI (Load Lb))
+    ∷ row 0x0000_707f 0x0000_1003 (FormI (Load Lh))
+    ∷ row 0x0000_707f 0x0000_2003 (FormI (Load Lw))
+    ∷ row 0x0000_707f 0x0000_4003 (FormI (Load Lbu))
+    ∷ row 0x0000_707f 0x0000_5003 (FormI (Load Lhu))
+    ∷ row 0x0000_707f 0x0000_0023 (FormS (Store Sb))
+    ∷ row 0x0000_707f 0x0000_1023 (FormS (Store Sh))
+    ∷ row 0x0000_707f 0x0000_2023 (FormS (Store Sw))
+    ∷ row 0x0000_707f 0x0000_0013 (FormI (OpImm Addi))
+    ∷ row 0x0000_707f 0x0000_2013 (FormI (OpImm Slti))
+    ∷ row 0x0000_707f 0x0000_3013 (FormI (OpImm Sltiu))
+    ∷ row 0x0000_707f 0x0000_4013 (FormI (OpImm Xori))
+    ∷ row 0x0000_707f 0x0000_6013 (FormI (OpImm Ori))
+    ∷ row 0x0000_707f 0x0000_7013 (FormI (OpImm Andi))
+    ∷ row 0xfe00_707f 0x0000_1013 (FormShift (OpImm Slli))
+    ∷ row 0xfe00_707f 0x0000_5013 (FormShift (OpImm Srli))
+    ∷ row 0xfe00_707f 0x4000_5013 (FormShift (OpImm Srai))
+    ∷ row 0xfe00_707f 0x0000_0033 (FormR (Op Add))
+    ∷ row 0xfe00_707f 0x4000_0033 (FormR (Op Sub))
+    ∷ row 0xfe00_707f 0x0000_1033 (FormR (Op Sll))
+    ∷ row 0xfe00_707f 0x0000_2033 (FormR (Op Slt))
+    ∷ row 0xfe00_707f 0x0000_3033 (FormR (Op Sltu))
+    ∷ row 0xfe00_707f 0x0000_4033 (FormR (Op Xor))
+    ∷ row 0xfe00_707f 0x0000_5033 (FormR (Op Srl))
+    ∷ row 0xfe00_707f 0x4000_5033 (FormR (Op Sra))
+    ∷ row 0xfe00_707f 0x0000_6033 (FormR (Op Or))
+    ∷ row 0xfe00_707f 0x0000_7033 (FormR (Op And))
+    ∷ row 0x0000_707f 0x0000_000f (FormFence Fence)
+    ∷ row 0xffff_ffff 0x0000_0073 (FormWhole Ecall)
+    ∷ row 0xffff_ffff 0x0010_0073 (FormWhole Ebreak)
+    -- Zifencei, Instruction-Fetch Fence 2.0
+    ∷ row 0x0000_707f 0x0000_100f (FormFence FenceI)
+    -- M, Integer Multiplication and Division 2.0
+    ∷ row 0xfe00_707f 0x0200_0033 (FormR (Op Mul))
+    ∷ row 0xfe00_707f 0x0200_1033 (FormR (Op Mulh))
+    ∷ row 0xfe00_707f 0x0200_2033 (FormR (Op Mulhsu))
+    ∷ row 0xfe00_707f 0x0200_3033 (FormR (Op Mulhu))
+    ∷ row 0xfe00_707f 0x0200_4033 (FormR (Op Div))
+    ∷ row 0xfe00_707f 0x0200_5033 (FormR (Op Divu))
+    ∷ row 0xfe00_707f 0x0200_6033 (FormR (Op Rem))
+    ∷ row 0xfe00_707f 0x0200_7033 (FormR (Op Remu))
+    ∷ []
+
+-- the bits of a word that a row fixes are what it says
+abbrev pub Matches : ℕ → Row → Type 0
+Matches word r = bit_and word r.mask ≡ r.value
+
+-- the same as a test
+abbrev pub is_match : ℕ → Row → Bool
+is_match word r = bit_and word r.mask == r.value
+
+-- The instruction that a word is, by the row that it matches. It is illegal, none, where there is no such row.
+unfoldable pub decoded : ℕ → Option Instr
+decoded word = option_map (λ (r : Row). instruction_of r.form word) (find (is_match word) table)
