@@ -1,5 +1,5 @@
 -- The image of a file without faults is one of the memory that it was asked for.
-use Rattle.std.proofs.Common.{◌≡◌, ℕ, ◌+◌, ◌-◌, ◌*◌, ◌/◌, ◌%◌, ◌≤◌, ◌<◌, inl, inr, List, [], ◌∷◌, ◌++◌, length, get_or, suc, take, drop, refl, ap, ◌∙◌, subst, sym, arith, Bool, true, add-one, drop-cons, zero-add, map}
+use Rattle.std.proofs.Common.{◌≡◌, ℕ, ◌+◌, ◌*◌, ◌/◌, ◌%◌, ◌≤◌, ◌<◌, inl, inr, List, ◌∷◌, ◌++◌, length, get_or, suc, take, drop, refl, ap, ◌∙◌, subst, sym, arith, Bool, true, add-one, drop-cons, zero-add, map}
 use Rattle.std.specs.List.{filter, find, list_any, range_with_len, Contains, All}
 use Rattle.std.specs.List.Sorted.{IsStrictlyIncreasing}
 use Rattle.std.proofs.lemmas.Bool.{cases_lt, cases_eq}

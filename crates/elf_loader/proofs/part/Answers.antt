@@ -1,5 +1,5 @@
 -- In a readable file the headers can be read, and so can the parts of its segments.
-use Rattle.std.proofs.Common.{rules, ◌≡◌, ◌+◌, ◌≤◌, ◌<◌, length, arith, ap, sym, subst}
+use Rattle.std.proofs.Common.{rules, ◌+◌, ◌≤◌, length, arith, sym, subst}
 use Rattle.elf_loader.specs.Faults.{IsLoad}
 use Rattle.elf_loader.proofs.Clear.{readable_table, readable_within}
 use Rattle.elf_loader.proofs.part.Goals as goal

@@ -1,5 +1,5 @@
 -- The greatest end with one header more.
-use Rattle.std.proofs.Common.{ℕ, ◌≤◌, ◌+◌, ◌∙◌, arith}
+use Rattle.std.proofs.Common.{◌≤◌, ◌+◌, ◌∙◌, arith}
 use Rattle.elf_loader.specs.Layout.{end_of}
 use Rattle.elf_loader.proofs.Laid.{end_step, ends_inside}
 use Rattle.elf_loader.proofs.image.greatest_end.Goals as goal

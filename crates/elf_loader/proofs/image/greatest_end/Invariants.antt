@@ -1,5 +1,5 @@
 -- The greatest end so far.
-use Rattle.std.proofs.Common.{ℕ, ◌+◌, ◌≤◌, ◌≡◌}
+use Rattle.std.proofs.Common.{◌+◌, ◌≤◌, ◌≡◌}
 use Rattle.elf_loader.specs.Elf.{first_headers}
 use Rattle.elf_loader.specs.Layout.{greatest_end}
 use Rattle.elf_loader.proofs.image.greatest_end.Given as goal

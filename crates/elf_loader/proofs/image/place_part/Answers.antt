@@ -1,5 +1,5 @@
 -- The file part stands in its place.
-use Rattle.std.proofs.Common.{rules, ◌≡◌, ◌+◌, ◌-◌, ◌≤◌, length, arith}
+use Rattle.std.proofs.Common.{rules, ◌-◌}
 use Rattle.elf_loader.proofs.Placed.{placed_part}
 use Rattle.elf_loader.proofs.image.place_part.Goals as goal
 

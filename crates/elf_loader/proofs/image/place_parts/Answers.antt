@@ -1,5 +1,5 @@
 -- One part more is in its place.
-use Rattle.std.proofs.Common.{ℕ, ◌≡◌, subst, arith, sym}
+use Rattle.std.proofs.Common.{◌≡◌, subst, arith}
 use Rattle.elf_loader.specs.Elf.{header_count}
 use Rattle.elf_loader.specs.Layout.{IsPlaced}
 use Rattle.elf_loader.proofs.Laid.{inside_at, laid_bytes, laid_more, sound_at, IsLaidOutTo}

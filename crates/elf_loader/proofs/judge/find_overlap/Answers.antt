@@ -1,5 +1,5 @@
 -- The segment of this index is the next that overlaps none of lower index.
-use Rattle.std.proofs.Common.{ℕ, ◌≡◌, ◌<◌, inl, inr, arith, subst}
+use Rattle.std.proofs.Common.{◌≡◌, inl, inr, arith, subst}
 use Rattle.std.proofs.lemmas.Bool.{cases_lt}
 use Rattle.elf_loader.specs.Faults.{OverlapsLower}
 use Rattle.elf_loader.proofs.judge.find_overlap.Goals as goal

@@ -1,6 +1,6 @@
 -- The first fault is of the first kind that the program headers have.
-use Rattle.std.proofs.Common.{ℕ, ◌≡◌, ◌≤◌, ◌<◌, ◌+◌, ◌%◌, subst, sym, IsTrue}
-use Rattle.elf_loader.proofs.Clear.{first_entry, first_overlap, judged, other_entry, right_entry, NoneSoFar}
+use Rattle.std.proofs.Common.{◌≡◌, ◌≤◌, ◌<◌, ◌+◌, ◌%◌, subst, sym, IsTrue}
+use Rattle.elf_loader.proofs.Clear.{first_entry, first_overlap, judged, other_entry, right_entry}
 use Rattle.elf_loader.proofs.judge.judge_segments.Goals as goal
 
 pub returns-in-Some-find_overlap-clause-first : goal.returns-in-Some-find_overlap-clause-first
