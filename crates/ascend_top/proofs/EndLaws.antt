@@ -1,8 +1,8 @@
 -- How a command ends, after its steps and the print of a refusal's text.
-use Rattle.std.proofs.Common.{◌≡◌, ◌⊎◌, ℕ, ◌<◌, ◌≤◌, List, [], ◌∷◌, ◌++◌, Option, Some, None, Result, Ok, Err, IsSome, option_map, length, take, refl, sym, ap, subst, ◌∙◌, inl, inr, arith, append_assoc, append-nil}
-use Rattle.asc_outside.specs.Host.{HostCall, Prints, HostState, Files, Rose, OthersStay}
+use Rattle.std.proofs.Common.{◌≡◌, ◌⊎◌, ℕ, ◌<◌, ◌≤◌, List, ◌++◌, Option, Some, None, Result, Ok, Err, IsSome, option_map, length, take, refl, sym, ap, subst, ◌∙◌, inl, inr, arith, append_assoc, append-nil}
+use Rattle.asc_outside.specs.Host.{HostCall, HostState, Files, Rose, OthersStay}
 use Rattle.elf_loader.specs.Faults.{IsFault}
-use Rattle.ascend_top.specs.Command.{Completes, Runs, IsCause, HasAsked, StepsEnd, Reports, Refuses, CommandEnds, AsksMore, PrintsMore, PrintsText, Unprinted, step_calls, print_calls, last_calls}
+use Rattle.ascend_top.specs.Command.{Completes, Runs, HasAsked, StepsEnd, Reports, Refuses, CommandEnds, AsksMore, PrintsMore, PrintsText, Unprinted, step_calls, print_calls}
 use Rattle.ascend_top.specs.Endings.{status_of, status_of_ending, status_of_flat}
 use Rattle.ascend_top.specs.Flat.{memory_base, memory_size, flat_ending, run_of}
 use Rattle.ascend_top.specs.Texts.{refusal_text}
@@ -12,7 +12,7 @@ use Rattle.ascend_top.specs.declared.ending.Ending.TheVariants.{Exit, Trap, Budg
 use Rattle.ascend_top.specs.declared.ending.Refusal.{Refusal}
 use Rattle.ascend_top.specs.declared.ending.Refusal.TheVariants.{Usage, Elf, KeyLength, TooLong, Host, NoMemory}
 use Rattle.ascend_top.specs.declared.words.Name.TheVariants.{Key, Elf as ElfName, Output}
-use Rattle.ascend_top.proofs.StepLaws.{asks_none, others_same, rose_later}
+use Rattle.ascend_top.proofs.StepLaws.{rose_later}
 
 -- some calls, and then others
 asks_both : (old mid new : Option (List HostCall)) (calls more : List HostCall) → AsksMore old calls mid → AsksMore mid more new → AsksMore old (calls ++ more) new

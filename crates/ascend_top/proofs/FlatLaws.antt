@@ -1,8 +1,8 @@
 -- What the steps of a core over told bytes make of a flat run.
-use Rattle.std.proofs.Common.{◌≡◌, ℕ, ◌+◌, ◌<◌, ◌≤◌, List, Option, Some, refl, sym, ap, subst, ◌∙◌}
+use Rattle.std.proofs.Common.{◌≡◌, ℕ, ◌+◌, ◌<◌, ◌≤◌, List, Option, Some, refl, sym, ap, ◌∙◌}
 use Rattle.rv32_core.specs.Machine.{Machine}
 use Rattle.rv32_core.specs.FlatMachine.{FlatStep, flat_step}
-use Rattle.rv32_core.specs.FlatRun.{FlatRun, FlatEnding, Exited, Trapped, Budget}
+use Rattle.rv32_core.specs.FlatRun.{FlatRun}
 use Rattle.rv32_core.specs.declared.outcome.Done.{Done}
 use Rattle.rv32_core.specs.declared.outcome.Ended.{Ended}
 use Rattle.rv32_core.specs.declared.outcome.Ended.TheVariants.{No, Exit, Trap}

@@ -5,7 +5,7 @@ use Rattle.elf_loader.specs.Elf.{entry_of}
 use Rattle.elf_loader.specs.Layout.{first_break}
 use Rattle.elf_loader.specs.declared.image.Image.{Image}
 use Rattle.rv32_core.specs.FlatRun.{FlatRun}
-use Rattle.ascend_top.specs.Command.{HasKey, IsElf, StepsEnd, Reports, AsksMore, PrintsMore}
+use Rattle.ascend_top.specs.Command.{IsElf, StepsEnd, Reports, AsksMore, PrintsMore}
 use Rattle.ascend_top.specs.Flat.{IsImageOf, IsOutcome, memory_base, memory_size, budget, flat_run_over, run_of}
 use Rattle.ascend_top.specs.Texts.{report_text}
 use Rattle.ascend_top.specs.Words.{RunValues}

@@ -1,10 +1,10 @@
 -- How the steps of a command compose.
-use Rattle.std.proofs.Common.{◌≡◌, ◌≢◌, ℕ, ◌+◌, ◌-◌, ◌^◌, ◌<◌, ◌≤◌, min, List, [], ◌∷◌, ◌++◌, Option, Some, None, Result, Ok, Err, OnOk, IfSome, IfErr, IsErrOf, length, take, drop, option_map, zero, suc, refl, sym, ap, subst, ◌∙◌, arith, rules, append_assoc, append-nil}
+use Rattle.std.proofs.Common.{◌≡◌, ℕ, ◌≤◌, List, [], ◌∷◌, ◌++◌, Option, Some, None, Result, Err, IfSome, IfErr, take, drop, option_map, zero, suc, refl, sym, ap, subst, ◌∙◌, arith, append_assoc, append-nil}
 use Rattle.asc_outside.specs.Host.{HostCall, Reads, Writes, Prints, HostState, Files, Rose, IsLonger, OthersStay, asked_after}
 use Rattle.std.specs.Option.{is_some}
 use Rattle.asc_outside.specs.declared.host.HostFault.{HostFault}
 use Rattle.asc_outside.specs.declared.host.HostFault.TheVariants.{Failed, TooLong as TooLongFile, NoMemory as OutOfMemory}
-use Rattle.ascend_top.specs.Command.{HasKey, IsElf, Runs, IsCause, HasAsked, Reached, StepsEnd, Reports, ReadsOn, AsksMore, PrintsMore, Unprinted, step_calls, elf_limit}
+use Rattle.ascend_top.specs.Command.{HasKey, StepsEnd, Reports, ReadsOn, AsksMore, PrintsMore, Unprinted, elf_limit}
 use Rattle.rv32_core.specs.FlatRun.{FlatRun}
 use Rattle.ascend_top.specs.Endings.{refusal_of}
 use Rattle.ascend_top.specs.Flat.{EndsAs, flat_ending, output_of}
@@ -12,8 +12,8 @@ use Rattle.ascend_top.specs.Texts.{report_of, refusal_text}
 use Rattle.ascend_top.specs.Words.{RunValues}
 use Rattle.ascend_top.specs.declared.ending.Ending.{Ending}
 use Rattle.ascend_top.specs.declared.ending.Refusal.{Refusal}
-use Rattle.ascend_top.specs.declared.ending.Refusal.TheVariants.{Usage, Elf, KeyLength, TooLong, Host, NoMemory}
-use Rattle.ascend_top.specs.declared.words.Name.TheVariants.{Key, Elf as ElfName, Output}
+use Rattle.ascend_top.specs.declared.ending.Refusal.TheVariants.{NoMemory}
+use Rattle.ascend_top.specs.declared.words.Name.TheVariants.{Elf as ElfName, Output}
 
 -- what holds of the value that is there
 pub at_some : {A : Type 0} (P : A → Type 0) (o : Option A) (x : A) → IfSome o P → o ≡ Some x → P x

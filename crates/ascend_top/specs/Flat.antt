@@ -1,5 +1,5 @@
 -- The flat run of a program file, over the empty input.
-use Rattle.std.specs.Prelude.{◌≡◌, ◌≤◌, ℕ, List, [], length}
+use Rattle.std.specs.Prelude.{◌≡◌, ℕ, List, []}
 use Rattle.elf_loader.specs.Elf.{entry_of}
 use Rattle.elf_loader.specs.Faults.{IsFaultless}
 use Rattle.elf_loader.specs.Layout.{image_bytes, first_break}

@@ -171,9 +171,16 @@ fn each_call_fails_in_turn(rt: HostRuntime) -> Result<(), Fail> {
     ] {
         let mut host = host(alloc, &[number], 32, hello.as_slice())?;
         let words = words(alloc, "run elf=a key=k output=o")?;
-        assert_eq!(rt; ascend(alloc, words.as_slice(), &mut host), status, "call {number}");
+        assert_eq!(rt;
+            ascend(alloc, words.as_slice(), &mut host),
+            status,
+            "call {number}"
+        );
         assert!(rt; host.printed() == printed.as_bytes(), "call {number}");
-        assert!(rt; host.file("o") == output.map(str::as_bytes), "call {number}");
+        assert!(rt;
+            host.file("o") == output.map(str::as_bytes),
+            "call {number}"
+        );
     }
     let mut host = host(alloc, &[2], 31, hello.as_slice())?;
     let words = words(alloc, "run elf=a key=k output=o")?;
@@ -188,49 +195,100 @@ fn host_calls_answer(rt: HostRuntime) -> Result<(), Fail> {
     let rows: [(&str, &[u32], u8, usize, &str); 7] = [
         (
             "a read at the input's end",
-            &[0x0000_0513, 0x0001_05b7, 0x0040_0613, 0x03f0_0893, 0x0000_0073, 0x05d0_0893, 0x0000_0073],
+            &[
+                0x0000_0513,
+                0x0001_05b7,
+                0x0040_0613,
+                0x03f0_0893,
+                0x0000_0073,
+                0x05d0_0893,
+                0x0000_0073,
+            ],
             0,
             0,
             "end exit 0\ninstructions 7\n",
         ),
         (
             "a read of no bytes",
-            &[0xffff_f5b7, 0x03f0_0893, 0x0000_0073, 0x05d0_0893, 0x0000_0073],
+            &[
+                0xffff_f5b7,
+                0x03f0_0893,
+                0x0000_0073,
+                0x05d0_0893,
+                0x0000_0073,
+            ],
             0,
             0,
             "end exit 0\ninstructions 5\n",
         ),
         (
             "a read past the memory, -14",
-            &[0x0010_05b7, 0xfff5_8593, 0x0020_0613, 0x03f0_0893, 0x0000_0073, 0x05d0_0893, 0x0000_0073],
+            &[
+                0x0010_05b7,
+                0xfff5_8593,
+                0x0020_0613,
+                0x03f0_0893,
+                0x0000_0073,
+                0x05d0_0893,
+                0x0000_0073,
+            ],
             0,
             0,
             "end exit 242\ninstructions 7\n",
         ),
         (
             "a read of file 7, -9",
-            &[0x0070_0513, 0x03f0_0893, 0x0000_0073, 0x05d0_0893, 0x0000_0073],
+            &[
+                0x0070_0513,
+                0x03f0_0893,
+                0x0000_0073,
+                0x05d0_0893,
+                0x0000_0073,
+            ],
             0,
             0,
             "end exit 247\ninstructions 5\n",
         ),
         (
             "a write to file 3, -9",
-            &[0x0030_0513, 0x0400_0893, 0x0000_0073, 0x05d0_0893, 0x0000_0073],
+            &[
+                0x0030_0513,
+                0x0400_0893,
+                0x0000_0073,
+                0x05d0_0893,
+                0x0000_0073,
+            ],
             0,
             0,
             "end exit 247\ninstructions 5\n",
         ),
         (
             "a write from past the memory, -14",
-            &[0x0010_0513, 0x0010_05b7, 0xfff5_8593, 0x0020_0613, 0x0400_0893, 0x0000_0073, 0x05d0_0893, 0x0000_0073],
+            &[
+                0x0010_0513,
+                0x0010_05b7,
+                0xfff5_8593,
+                0x0020_0613,
+                0x0400_0893,
+                0x0000_0073,
+                0x05d0_0893,
+                0x0000_0073,
+            ],
             0,
             0,
             "end exit 242\ninstructions 8\n",
         ),
         (
             "a write of the whole memory, and one of a byte more than the limit",
-            &[0x0010_0513, 0x0010_0637, 0x0400_0893, 0x0000_0073, 0x0020_0513, 0x0010_0613, 0x0000_0073],
+            &[
+                0x0010_0513,
+                0x0010_0637,
+                0x0400_0893,
+                0x0000_0073,
+                0x0020_0513,
+                0x0010_0613,
+                0x0000_0073,
+            ],
             1,
             1_048_576,
             "end trap OutputLimit 65560\ninstructions 6\n",
@@ -240,9 +298,17 @@ fn host_calls_answer(rt: HostRuntime) -> Result<(), Fail> {
         let file = elf(alloc, program, "")?;
         let mut host = host(alloc, &[], 32, file.as_slice())?;
         let words = words(alloc, "run elf=a key=k output=o")?;
-        assert_eq!(rt; ascend(alloc, words.as_slice(), &mut host), status, "{name}");
+        assert_eq!(rt;
+            ascend(alloc, words.as_slice(), &mut host),
+            status,
+            "{name}"
+        );
         assert!(rt; host.printed() == printed.as_bytes(), "{name}");
-        assert_eq!(rt; host.file("o").map_or(0, |output| output.len()), written, "{name}");
+        assert_eq!(rt;
+            host.file("o").map_or(0, |output| output.len()),
+            written,
+            "{name}"
+        );
     }
     Ok(())
 }

@@ -101,9 +101,9 @@ first_of : (base size : ℕ) (file : List ℕ) (fault : ElfFault) → IsClearBef
 first_of base size file fault clear lower present = record {
   present = present;
   first = λ other precedes. elim precedes [
-      | inl earlier ↦ clear other earlier
-      | inr same ↦ subst (λ f. ¬ IsFault base size file f) (same_kind other fault same.0) (lower (index_of other) same.1)
-    ];
+    | inl earlier ↦ clear other earlier
+    | inr same ↦ subst (λ f. ¬ IsFault base size file f) (same_kind other fault same.0) (lower (index_of other) same.1)
+  ];
 }
 
 -- two faults that are named first are the same
@@ -112,19 +112,19 @@ pub one_first : (base size : ℕ) (file : List ℕ) (one other : ElfFault) → I
 one_first base size file one other first second = elim (cases_lt (place_of one) (place_of other)) [
   | inl earlier ↦ absurd (second.first one (inl earlier) first.present)
   | inr from ↦ elim (cases_lt (place_of other) (place_of one)) [
-      | inl later ↦ absurd (first.first other (inl later) second.present)
-      | inr to ↦
-          let same : place_of one ≡ place_of other = omega arith in
-          elim (cases_lt (index_of one) (index_of other)) [
-            | inl lower ↦ absurd (second.first one (inr (same, lower)) first.present)
-            | inr not_lower ↦ elim (cases_lt (index_of other) (index_of one)) [
-                | inl higher ↦ absurd (first.first other (inr (sym same, higher)) second.present)
-                | inr not_higher ↦
-                    let index : index_of one ≡ index_of other = omega arith in
-                    sym (same_kind one other same) ∙ ap (at_place (place_of other)) index ∙ at_own_place other
-              ]
+    | inl later ↦ absurd (first.first other (inl later) second.present)
+    | inr to ↦
+        let same : place_of one ≡ place_of other = omega arith in
+        elim (cases_lt (index_of one) (index_of other)) [
+          | inl lower ↦ absurd (second.first one (inr (same, lower)) first.present)
+          | inr not_lower ↦ elim (cases_lt (index_of other) (index_of one)) [
+            | inl higher ↦ absurd (first.first other (inr (sym same, higher)) second.present)
+            | inr not_higher ↦
+                let index : index_of one ≡ index_of other = omega arith in
+                sym (same_kind one other same) ∙ ap (at_place (place_of other)) index ∙ at_own_place other
           ]
-    ]
+        ]
+  ]
 ]
 
 -- none of the program headers has one of these faults
@@ -188,12 +188,12 @@ pub other_entry : (base size : ℕ) (file : List ℕ) →
     ¬ ((entry_of file % 4 ≡ 0) × (base ≤ entry_of file) × (entry_of file < base + size)) → HasOtherEntry base size file
 other_entry base size file wrong = elim (cases_eq (entry_of file % 4) 0) [
   | inl aligned ↦ elim (cases_lt (entry_of file) base) [
-      | inl early ↦ inr (inl early)
-      | inr from ↦ elim (cases_lt (entry_of file) (base + size)) [
-          | inl below ↦ absurd (wrong (aligned, from, below))
-          | inr late ↦ inr (inr late)
-        ]
+    | inl early ↦ inr (inl early)
+    | inr from ↦ elim (cases_lt (entry_of file) (base + size)) [
+      | inl below ↦ absurd (wrong (aligned, from, below))
+      | inr late ↦ inr (inr late)
     ]
+  ]
   | inr odd ↦ inl odd
 ]
 

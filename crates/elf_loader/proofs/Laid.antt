@@ -85,9 +85,12 @@ both_cover file one other x sound whole first second =
     let a : one.kind ≡ 1 = load_of one.kind one.address one.file_size x first in
     let b : other.kind ≡ 1 = load_of other.kind other.address other.file_size x second in
     let s = shared one.kind one.address one.file_size one.memory_size other.kind other.address other.file_size other.memory_size x
-    (part_fits file one a sound) (part_fits file other b whole) first second in
-    (a, b, common_meets one.address one.memory_size other.address other.memory_size x
-    s.2 s.3 s.4 s.5)
+    (part_fits file one a sound) (part_fits file other b whole) first second in (
+      a,
+      b,
+      common_meets one.address one.memory_size other.address other.memory_size x
+          s.2 s.3 s.4 s.5,
+    )
 
 -- at most one segment covers an address
 apart : (base size : ℕ) (file : List ℕ) (k index x : ℕ) → IsFaultless base size file → k < index → index < header_count file →
@@ -101,7 +104,7 @@ apart base size file k index x faultless lower below first = by_test (covers (he
         k,
         lower,
         both_cover file (header_at file index) (header_at file k) x
-        (λ bad. faultless (Segment index) (below, bad)) (λ bad. faultless (Segment k) (omega arith, bad)) second first,
+            (λ bad. faultless (Segment index) (below, bad)) (λ bad. faultless (Segment k) (omega arith, bad)) second first,
       ),
     ))
     by_test false second = refl
@@ -112,15 +115,15 @@ pub laid_more : (base size : ℕ) (file : List ℕ) (index : ℕ) (old new : Lis
 laid_more base size file index old new faultless below laid placed = record {
   len = placed.len ∙ laid.len;
   part = λ k place before within covered. elim (cases_lt k index) [
-      | inl lower ↦
-          placed.rest place (omega (arith, laid.len))
-          (apart base size file k index (base + place) faultless lower below covered)
-          ∙ laid.part k place lower within covered
-      | inr not ↦
-          let same : k ≡ index = omega arith in
-          subst (λ j. covers (header_at file j) (base + place) ≡ true → get_or new place 0 ≡ byte_at file (header_at file j) (base + place))
-          (sym same) (placed.part place (omega (arith, laid.len))) covered
-    ];
+    | inl lower ↦
+        placed.rest place (omega (arith, laid.len))
+        (apart base size file k index (base + place) faultless lower below covered)
+        ∙ laid.part k place lower within covered
+    | inr not ↦
+        let same : k ≡ index = omega arith in
+        subst (λ j. covers (header_at file j) (base + place) ≡ true → get_or new place 0 ≡ byte_at file (header_at file j) (base + place))
+        (sym same) (placed.part place (omega (arith, laid.len))) covered
+  ];
   blank = λ place within free.
       placed.rest place (omega (arith, laid.len)) (free index (omega arith))
       ∙ laid.blank place within (λ k lower. free k (omega arith));
@@ -229,8 +232,7 @@ end_step base size file index end next header faultless below same is greatest t
     let inside : next ≤ base + size =
     subst (λ n. n ≤ base + size) (sym is)
     (cond_to base size (end_of header) (takes_memory header)
-    (ends_inside base size file index header faultless below same)) in
-    (
+    (ends_inside base size file index header faultless below same)) in (
       ap (λ e. max e next) greatest ∙ ap (max (greatest_end base (first_headers file index))) own ∙ sym (end_more base file index),
       omega arith,
     )

@@ -90,12 +90,12 @@ placed {start} {offset} {file} {part} {old} {new} base header p load there long 
       byte_within p place (omega arith) (omega arith)
       ∙ ap (λ n. get_or file n 0) (let same : offset + (place - start) ≡ header.offset + (base + place - header.address) = omega arith in same);
   rest = λ place within uncovered. elim (cases_lt place start) [
-      | inl early ↦ old_before p place early
-      | inr later ↦
-          let behind : header.address + header.file_size ≤ base + place =
-          beyond header.kind header.address header.file_size (base + place) load uncovered (omega arith) in
-          old_behind p place (omega arith)
-    ];
+    | inl early ↦ old_before p place early
+    | inr later ↦
+        let behind : header.address + header.file_size ≤ base + place =
+        beyond header.kind header.address header.file_size (base + place) load uncovered (omega arith) in
+        old_behind p place (omega arith)
+  ];
 }
 
 pub placed_part : (base : ℕ) (file : List ℕ) (header : ProgramHeader) (start : ℕ) (part old new : List ℕ) →

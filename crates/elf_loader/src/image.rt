@@ -69,12 +69,7 @@ fn place_parts(bytes: &mut [u8], file: &[u8], base: u32, size: u32)
 }
 
 /// The memory's bytes: zeros, with each segment's file part in its place.
-pub fn lay_out(
-    alloc: Global,
-    file: &[u8],
-    base: u32,
-    size: u32,
-) -> Result<Vec<u8>, AllocError>
+pub fn lay_out(alloc: Global, file: &[u8], base: u32, size: u32) -> Result<Vec<u8>, AllocError>
     requires table { HasTable file.now }
     requires faultless { IsFaultless base size file.now }
     ensures { IfOk result (λ bytes. bytes.items ≡ image_bytes base size file.now) }
@@ -99,12 +94,7 @@ fn is_marked(file: &[u8], base: u32, line: u32) -> bool
 
 /// The numbers of the lines that have a byte of a segment's file part.
 #[tactic(auto, unfolding(crate::specs::Layout::marked_lines))]
-pub fn mark_lines(
-    alloc: Global,
-    file: &[u8],
-    base: u32,
-    size: u32,
-) -> Result<Vec<u32>, AllocError>
+pub fn mark_lines(alloc: Global, file: &[u8], base: u32, size: u32) -> Result<Vec<u32>, AllocError>
     requires { HasTable file.now }
     ensures { IfOk result (λ lines. lines.items ≡ marked_lines base size file.now) }
 {

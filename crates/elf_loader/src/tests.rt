@@ -9,10 +9,15 @@ const SIZE: u32 = 1_048_576;
 const WORDS: [u32; 2] = [0x05d0_0893, 0x0000_0073];
 
 const NULL: u32 = 0;
+
 const LOAD: u32 = 1;
+
 const DYNAMIC: u32 = 2;
+
 const INTERPRETER: u32 = 3;
+
 const NOTE: u32 = 4;
+
 const RISCV_ATTRIBUTES: u32 = 0x7000_0003;
 
 /// A program header: p_type, p_offset, p_vaddr, p_filesz, p_memsz.
@@ -32,7 +37,16 @@ fn file_of(alloc: Global, headers: &[Header]) -> Result<Vec<u8>, AllocError> {
         file.extend_from_slice(&u16::to_le_bytes(half))?;
     }
     for (kind, offset, address, file_size, memory_size) in headers {
-        for word in [*kind, *offset, *address, *address, *file_size, *memory_size, 7, 4096] {
+        for word in [
+            *kind,
+            *offset,
+            *address,
+            *address,
+            *file_size,
+            *memory_size,
+            7,
+            4096,
+        ] {
             file.extend_from_slice(&u32::to_le_bytes(word))?;
         }
     }
@@ -97,7 +111,10 @@ fn judges_each_field(rt: HostRuntime) -> Result<(), Fail> {
         assert_eq!(rt; file.len(), 92);
         assert!(rt; at < file.len());
         file[at] = value;
-        assert!(rt; parse(rt.alloc(), &file, 0, SIZE).err() == fault, "byte {at}");
+        assert!(rt;
+            parse(rt.alloc(), &file, 0, SIZE).err() == fault,
+            "byte {at}"
+        );
     }
     Ok(())
 }
@@ -124,7 +141,10 @@ fn names_the_first_of_two_faults(rt: HostRuntime) -> Result<(), Fail> {
         assert!(rt; at < file.len() && other < file.len());
         file[at] = value;
         file[other] = other_value;
-        assert!(rt; parse(rt.alloc(), &file, 0, SIZE).err() == Some(fault), "bytes {at} and {other}");
+        assert!(rt;
+            parse(rt.alloc(), &file, 0, SIZE).err() == Some(fault),
+            "bytes {at} and {other}"
+        );
     }
     Ok(())
 }
@@ -138,7 +158,10 @@ fn refuses_every_prefix(rt: HostRuntime) -> Result<(), Fail> {
             52..=83 => ElfFault::Table,
             _ => ElfFault::Segment { index: 0 },
         };
-        assert!(rt; parse(rt.alloc(), &whole[..len], 0, SIZE).err() == Some(fault), "{len} bytes");
+        assert!(rt;
+            parse(rt.alloc(), &whole[..len], 0, SIZE).err() == Some(fault),
+            "{len} bytes"
+        );
     }
     let mut longer = elf(rt.alloc(), 65_536, 8, 8)?;
     longer.extend_from_slice(&[0, 0])?;
@@ -154,11 +177,23 @@ fn judges_headers_by_kind_and_index(rt: HostRuntime) -> Result<(), Fail> {
         ("none", &[], None),
         (
             "others passed over",
-            &[(NOTE, 9, 9, 9, 1), (LOAD, 148, 65_536, 8, 8), (RISCV_ATTRIBUTES, 1 << 31, 0, 9, 0)],
+            &[
+                (NOTE, 9, 9, 9, 1),
+                (LOAD, 148, 65_536, 8, 8),
+                (RISCV_ATTRIBUTES, 1 << 31, 0, 9, 0),
+            ],
             None,
         ),
-        ("a byte shared", &[(LOAD, 116, 65_536, 0, 100), (LOAD, 116, 65_635, 0, 65)], Some(ElfFault::Overlap { index: 1 })),
-        ("side by side", &[(LOAD, 116, 65_536, 0, 100), (LOAD, 116, 65_636, 0, 64)], None),
+        (
+            "a byte shared",
+            &[(LOAD, 116, 65_536, 0, 100), (LOAD, 116, 65_635, 0, 65)],
+            Some(ElfFault::Overlap { index: 1 }),
+        ),
+        (
+            "side by side",
+            &[(LOAD, 116, 65_536, 0, 100), (LOAD, 116, 65_636, 0, 64)],
+            None,
+        ),
         (
             "falling",
             &[(LOAD, 116, 65_635, 0, 65), (LOAD, 116, 65_536, 0, 100)],
@@ -166,23 +201,63 @@ fn judges_headers_by_kind_and_index(rt: HostRuntime) -> Result<(), Fail> {
         ),
         (
             "no neighbours",
-            &[(LOAD, 116, 0, 0, 64), (LOAD, 116, 128, 0, 64), (LOAD, 116, 32, 0, 64)],
+            &[
+                (LOAD, 116, 0, 0, 64),
+                (LOAD, 116, 128, 0, 64),
+                (LOAD, 116, 32, 0, 64),
+            ],
             Some(ElfFault::Overlap { index: 2 }),
         ),
         (
             "one inside another",
-            &[(LOAD, 116, 64, 0, 8), (NULL, 0, 0, 0, 0), (LOAD, 116, 0, 0, 128)],
+            &[
+                (LOAD, 116, 64, 0, 8),
+                (NULL, 0, 0, 0, 0),
+                (LOAD, 116, 0, 0, 128),
+            ],
             Some(ElfFault::Overlap { index: 2 }),
         ),
-        ("no memory shares nothing", &[(LOAD, 116, 64, 0, 8), (LOAD, 116, 66, 0, 0)], None),
-        ("another kind shares nothing", &[(LOAD, 116, 64, 0, 8), (DYNAMIC, 116, 64, 0, 8)], None),
+        (
+            "no memory shares nothing",
+            &[(LOAD, 116, 64, 0, 8), (LOAD, 116, 66, 0, 0)],
+            None,
+        ),
+        (
+            "another kind shares nothing",
+            &[(LOAD, 116, 64, 0, 8), (DYNAMIC, 116, 64, 0, 8)],
+            None,
+        ),
         ("at the end", &[(LOAD, 84, 1_048_476, 0, 100)], None),
-        ("past the end", &[(LOAD, 84, 1_048_476, 0, 101)], Some(ElfFault::Outside { index: 0 })),
-        ("past the last address", &[(LOAD, 84, 0xffff_fff0, 0, 0x20)], Some(ElfFault::Outside { index: 0 })),
-        ("no memory is nowhere", &[(LOAD, 84, 0xffff_fff0, 0, 0)], None),
-        ("bytes without memory", &[(LOAD, 84, 64, 1, 0)], Some(ElfFault::Segment { index: 0 })),
-        ("no bytes past the file", &[(LOAD, 93, 64, 0, 0)], Some(ElfFault::Segment { index: 0 })),
-        ("past the last offset", &[(LOAD, 0xffff_ffff, 64, 2, 2)], Some(ElfFault::Segment { index: 0 })),
+        (
+            "past the end",
+            &[(LOAD, 84, 1_048_476, 0, 101)],
+            Some(ElfFault::Outside { index: 0 }),
+        ),
+        (
+            "past the last address",
+            &[(LOAD, 84, 0xffff_fff0, 0, 0x20)],
+            Some(ElfFault::Outside { index: 0 }),
+        ),
+        (
+            "no memory is nowhere",
+            &[(LOAD, 84, 0xffff_fff0, 0, 0)],
+            None,
+        ),
+        (
+            "bytes without memory",
+            &[(LOAD, 84, 64, 1, 0)],
+            Some(ElfFault::Segment { index: 0 }),
+        ),
+        (
+            "no bytes past the file",
+            &[(LOAD, 93, 64, 0, 0)],
+            Some(ElfFault::Segment { index: 0 }),
+        ),
+        (
+            "past the last offset",
+            &[(LOAD, 0xffff_ffff, 64, 2, 2)],
+            Some(ElfFault::Segment { index: 0 }),
+        ),
         (
             "an interpreter before a segment",
             &[(LOAD, 999, 64, 1, 1), (INTERPRETER, 0, 0, 0, 0)],
@@ -195,17 +270,29 @@ fn judges_headers_by_kind_and_index(rt: HostRuntime) -> Result<(), Fail> {
         ),
         (
             "one outside before an overlap",
-            &[(LOAD, 148, 64, 0, 8), (LOAD, 148, 64, 0, 8), (LOAD, 148, SIZE, 0, 1)],
+            &[
+                (LOAD, 148, 64, 0, 8),
+                (LOAD, 148, 64, 0, 8),
+                (LOAD, 148, SIZE, 0, 1),
+            ],
             Some(ElfFault::Outside { index: 2 }),
         ),
         (
             "the least index outside",
-            &[(LOAD, 148, 0, 0, 1), (LOAD, 148, SIZE, 0, 1), (LOAD, 148, SIZE, 0, 1)],
+            &[
+                (LOAD, 148, 0, 0, 1),
+                (LOAD, 148, SIZE, 0, 1),
+                (LOAD, 148, SIZE, 0, 1),
+            ],
             Some(ElfFault::Outside { index: 1 }),
         ),
         (
             "the least index of a segment",
-            &[(LOAD, 148, 0, 0, 1), (LOAD, 148, 4, 2, 1), (LOAD, 148, 8, 2, 1)],
+            &[
+                (LOAD, 148, 0, 0, 1),
+                (LOAD, 148, 4, 2, 1),
+                (LOAD, 148, 8, 2, 1),
+            ],
             Some(ElfFault::Segment { index: 1 }),
         ),
     ];
@@ -276,7 +363,10 @@ fn lays_many_segments_out(rt: HostRuntime) -> Result<(), Fail> {
     assert_eq!(rt; image.marked.as_slice(), [16, 1024, 1025].as_slice());
     assert_eq!(rt; image.heap, 65_616);
     assert_eq!(rt; image.bytes.len(), SIZE as usize);
-    assert_eq!(rt; &image.bytes[1024..1029], [0x93, 0x08, 0xd0, 0x05, 0].as_slice());
+    assert_eq!(rt;
+        &image.bytes[1024..1029],
+        [0x93, 0x08, 0xd0, 0x05, 0].as_slice()
+    );
     assert_eq!(rt;
         &image.bytes[65_591..65_603],
         [0, 0x93, 0x08, 0, 0, 0, 0, 0x73, 0, 0, 0, 0].as_slice()

@@ -1,4 +1,4 @@
-use Rattle.std.proofs.Common.{subst, sym, ◌≡◌, Result}
+use Rattle.std.proofs.Common.{subst, ◌≡◌, Result}
 use Rattle.ascend_top.specs.Command.{CommandEnds, Refuses}
 use Rattle.ascend_top.specs.Endings.{status_of, status_of_refusal}
 use Rattle.ascend_top.specs.Words.{run_values}

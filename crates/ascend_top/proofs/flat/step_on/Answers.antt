@@ -1,6 +1,5 @@
 use Rattle.std.proofs.Common.{arith, ◌∙◌, sym}
 use Rattle.rv32_core.specs.StepPlan.{machine_of}
-use Rattle.rv32_core.proofs.FlatRunLaws.{runs_on_from_start}
 use Rattle.ascend_top.proofs.FlatLaws.{goes_on, exits, traps, runs_out}
 use Rattle.ascend_top.proofs.flat.step_on.Goals as goal
 

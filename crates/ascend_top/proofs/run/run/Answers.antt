@@ -1,4 +1,4 @@
-use Rattle.std.proofs.Common.{ap, sym, ◌∙◌, Err}
+use Rattle.std.proofs.Common.{◌∙◌}
 use Rattle.std.proofs.lemmas.Result.{err_from_is_err_and}
 use Rattle.ascend_top.specs.Words.{run_values}
 use Rattle.ascend_top.proofs.RunLaws.{takes_reported, reports_of}

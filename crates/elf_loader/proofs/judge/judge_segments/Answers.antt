@@ -24,7 +24,7 @@ returns-then-not-is_entry-clause-first c =
       inside = c.in_default-find_outside.ensures.none;
     })
     c.in_default-find_overlap.ensures.none
-    (other_entry c.args.base c.args.size c.args.file.now (λ right.     (let inside : IsTrue c.is_entry.result =
+    (other_entry c.args.base c.args.size c.args.file.now (λ right. (let inside : IsTrue c.is_entry.result =
     c.is_entry.ensures.1
     (subst (λ n. (n % 4 ≡ 0) × (c.args.base ≤ n) × (n < c.args.base + c.args.size)) (sym c.entry.ensures) right) in
     let no : ⊥ = cc in
