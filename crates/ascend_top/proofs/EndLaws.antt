@@ -1,7 +1,7 @@
 -- How a command ends, after its steps and the print of a refusal's text.
 use Rattle.std.proofs.Common.{◌≡◌, ◌⊎◌, ℕ, ◌<◌, ◌≤◌, List, ◌++◌, Option, Some, None, Result, Ok, Err, IsSome, option_map, length, take, refl, sym, ap, subst, ◌∙◌, inl, inr, arith, append_assoc, append-nil}
 use Rattle.asc_outside.specs.Host.{HostCall, HostState, Files, Rose, OthersStay}
-use Rattle.elf_loader.specs.Faults.{IsAccepted}
+use Rattle.elf_loader.specs.Faults.{IsFault}
 use Rattle.ascend_top.specs.Command.{Completes, Runs, HasAsked, StepsEnd, Reports, Refuses, CommandEnds, AsksMore, PrintsMore, PrintsText, Unprinted, step_calls, print_calls}
 use Rattle.ascend_top.specs.Endings.{status_of, status_of_ending, status_of_flat}
 use Rattle.ascend_top.specs.Flat.{memory_base, memory_size, flat_ending, run_of}
@@ -115,6 +115,6 @@ completes given status (Err (TooLong ElfName)) old new is ends files elf told ru
 completes given status (Err (Elf fault)) old new is ends files elf told runs safe =
     let cause = (ends.cause files told).1 in
     let same = one_file files given.elf cause.0 elf (cause.1).0 (runs.elf).0 in
-    absurd (cause.2 (subst (λ file. IsAccepted memory_base memory_size file) (sym same) runs.accepted))
+    absurd (runs.faultless fault (subst (λ file. IsFault memory_base memory_size file fault) same (cause.2).present))
 completes given status (Err (TooLong Output)) old new is ends files elf told runs safe = absurd (ends.cause files told)
 completes given status (Err (Usage word)) old new is ends files elf told runs safe = absurd (ends.cause files told)

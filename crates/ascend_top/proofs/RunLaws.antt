@@ -35,7 +35,7 @@ pub takes_reported : (given : RunValues) (image : Image) (outcome : FlatOutcome)
 takes_reported given image outcome before old new loaded same ran others later asked = record {
   cause = λ files told key.
       let found = loaded files (sym same ∙ told) in
-      (found.0, record { key = key; elf = found.1; accepted = (found.2).accepted }, (outcome_of found.0 image outcome found.2 ran).ending);
+      (found.0, record { key = key; elf = found.1; faultless = (found.2).faultless }, (outcome_of found.0 image outcome found.2 ran).ending);
   fault = λ e. absurd (let no : ⊥ = cc in no);
   quiet = tt;
   others = others;

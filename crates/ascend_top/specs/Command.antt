@@ -1,7 +1,7 @@
 -- What the command `run` does with its host, step by step: the key file, the ELF file, the run, the output file, the report.
 use Rattle.std.specs.Prelude.{◌≡◌, ◌⊎◌, ℕ, ◌≤◌, ◌<◌, List, [], ◌∷◌, ◌++◌, Option, Some, None, Result, Ok, Err, IfErr, OnOk, IfSome, IsSome, option_map, length, take, drop, zero, suc}
 use Rattle.asc_outside.specs.Host.{HostCall, Reads, Writes, Prints, HostState, Files, Rose, IsLonger, OthersStay}
-use Rattle.elf_loader.specs.Faults.{IsAccepted}
+use Rattle.elf_loader.specs.Faults.{IsFaultless, IsFirstFault}
 use Rattle.rv32_core.specs.FlatRun.{FlatRun}
 use Rattle.ascend_top.specs.Endings.{status_of_flat}
 use Rattle.ascend_top.specs.Flat.{memory_base, memory_size, run_of, output_of, flat_ending}
@@ -32,7 +32,7 @@ IsElf files given elf = (files given.elf ≡ Some elf) × (length elf ≤ elf_li
 pub record Runs (files : Files) (given : RunValues) (file : List ℕ) : Type 0 where
   pub key : HasKey files given
   pub elf : IsElf files given file
-  pub accepted : IsAccepted memory_base memory_size file
+  pub faultless : IsFaultless memory_base memory_size file
 
 -- Why a command ends so over these files. A step is reached where those before it were done.
 abbrev pub IsCause : Files → RunValues → Result Ending Refusal → Type 0
@@ -42,7 +42,7 @@ IsCause files given (Err (KeyLength count)) =
 IsCause files given (Err (TooLong Key)) = IsLonger files given.key key_length
 IsCause files given (Err (TooLong ElfName)) = HasKey files given × IsLonger files given.elf elf_limit
 IsCause files given (Err (Elf fault)) =
-    HasKey files given × ((elf : List ℕ) × IsElf files given elf × (¬ IsAccepted memory_base memory_size elf))
+    HasKey files given × ((elf : List ℕ) × IsElf files given elf × IsFirstFault memory_base memory_size elf fault)
 IsCause files given (Err Host) = Unit {0}
 IsCause files given (Err NoMemory) = Unit {0}
 IsCause files given (Err (TooLong Output)) = ⊥

@@ -1,7 +1,7 @@
 -- The flat run of a program file, over the empty input.
 use Rattle.std.specs.Prelude.{◌≡◌, ℕ, List, []}
 use Rattle.elf_loader.specs.Elf.{entry_of}
-use Rattle.elf_loader.specs.Faults.{IsAccepted}
+use Rattle.elf_loader.specs.Faults.{IsFaultless}
 use Rattle.elf_loader.specs.Layout.{image_bytes, first_break}
 use Rattle.elf_loader.specs.declared.image.Image.{Image}
 use Rattle.rv32_core.specs.FlatRun.{FlatRun, FlatEnding, Exited, Trapped, Budget, flat_run, machine_at_start}
@@ -54,9 +54,9 @@ pub record EndsAs (run : FlatRun) (instructions : ℕ) (end : Ending) (output : 
 abbrev pub IsOutcome : FlatRun → FlatOutcome → Type 0
 IsOutcome run outcome = EndsAs run outcome.instructions outcome.ending outcome.output.items
 
--- an image is that of an accepted file
+-- an image is that of a file without faults
 pub record IsImageOf (file : List ℕ) (image : Image) : Type 0 where
-  pub accepted : IsAccepted memory_base memory_size file
+  pub faultless : IsFaultless memory_base memory_size file
   pub bytes : image.bytes.items ≡ image_bytes memory_base memory_size file
   pub entry : image.entry ≡ entry_of file
   pub heap : image.heap ≡ first_break memory_base memory_size file

@@ -1,6 +1,8 @@
 -- What a command prints. Each text is a line, or two, each ended by a line feed.
 use Rattle.std.specs.Prelude.{ℕ, List, [], ◌∷◌, ◌++◌, Option, Some, None, codes}
 use Rattle.std.specs.Fmt.{decimal}
+use Rattle.elf_loader.specs.declared.fault.ElfFault.{ElfFault}
+use Rattle.elf_loader.specs.declared.fault.ElfFault.TheVariants.{Short, Magic, Class, Order, Version, FileType, Machine, Compressed, HeaderSize, Table, Interp, Segment, Outside, Overlap, Entry, NoMemory as NoElfMemory}
 use Rattle.rv32_core.specs.declared.outcome.TrapKind.{TrapKind}
 use Rattle.rv32_core.specs.declared.outcome.TrapKind.TheVariants.{FetchFault, OutputLimit, NotYet}
 use Rattle.rv32_core.specs.FlatRun.{FlatRun, FlatEnding, Exited, Trapped, Budget}
@@ -32,10 +34,29 @@ report_of ending instructions = line (ending_text ending) ++ line (codes "instru
 abbrev pub report_text : FlatRun → List ℕ
 report_text run = report_of run.ending run.instructions
 
+-- the fault of an ELF file, as it is printed: its name, and the index of the program header where it has one
+abbrev pub fault_text : ElfFault → List ℕ
+fault_text Short = codes "Short"
+fault_text Magic = codes "Magic"
+fault_text Class = codes "Class"
+fault_text Order = codes "Order"
+fault_text Version = codes "Version"
+fault_text FileType = codes "FileType"
+fault_text Machine = codes "Machine"
+fault_text Compressed = codes "Compressed"
+fault_text HeaderSize = codes "HeaderSize"
+fault_text Table = codes "Table"
+fault_text Interp = codes "Interp"
+fault_text (Segment index) = codes "Segment " ++ decimal index
+fault_text (Outside index) = codes "Outside " ++ decimal index
+fault_text (Overlap index) = codes "Overlap " ++ decimal index
+fault_text Entry = codes "Entry"
+fault_text NoElfMemory = codes "NoMemory"
+
 -- what is printed of a refusal, if anything is
 abbrev pub refusal_text : Refusal → Option (List ℕ)
 refusal_text (Usage word) = Some (line (codes "usage word " ++ decimal word))
-refusal_text (Elf fault) = Some (line (codes "elf NotYet"))
+refusal_text (Elf fault) = Some (line (codes "elf " ++ fault_text fault))
 refusal_text (KeyLength length) = Some (line (codes "key length " ++ decimal length))
 refusal_text (TooLong name) = Some (line (codes "long " ++ name_text name))
 refusal_text Host = None

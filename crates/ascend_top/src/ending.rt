@@ -34,7 +34,7 @@ impl Ending {
 pub(crate) enum Refusal {
     /// The word with this number, counted from 1, breaks a rule.
     Usage { word: u64 },
-    /// The file of this name isn't a program for this machine.
+    /// The ELF file has this fault, which is named first of all that it has.
     Elf(ElfFault),
     /// The key file has this many bytes, fewer than a key.
     KeyLength { length: usize },

@@ -30,7 +30,7 @@ use std::alloc::Global;
 /// |---|---|
 /// | 0, 1, 9 | the output file was written and the report printed of a run that ended by exit, by a trap, with its budget |
 /// | 2 | the words aren't `run` with `elf=`, `key=` and `output=` |
-/// | 3 | the ELF file isn't accepted |
+/// | 3 | the ELF file has a fault, the first of which is printed |
 /// | 4 | the key file has fewer than 32 bytes |
 /// | 5 | a call of the host failed |
 /// | 11 | there is no memory |

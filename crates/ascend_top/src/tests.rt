@@ -114,7 +114,7 @@ fn runs_and_refuses(rt: HostRuntime) -> Result<(), Fail> {
         (line, 31, exit.as_slice(), 4, "key length 31\n", None),
         (line, 0, exit.as_slice(), 4, "key length 0\n", None),
         (line, 33, exit.as_slice(), 13, "long key\n", None),
-        (line, 32, short.as_slice(), 3, "elf NotYet\n", None),
+        (line, 32, short.as_slice(), 3, "elf Short\n", None),
         (line, 32, long.as_slice(), 13, "long elf\n", None),
         ("run elf=b key=k output=o", 32, exit.as_slice(), 5, "", None),
         ("run elf=a key=b output=o", 32, exit.as_slice(), 5, "", None),

@@ -1,5 +1,6 @@
+pub mod Clear
 pub mod Covered
+pub mod Laid
 pub mod Numbers
 pub mod Placed
-pub mod Single
 pub mod Whole

@@ -60,6 +60,10 @@ header_from file at = record {
 abbrev pub header_at : List ℕ → ℕ → ProgramHeader
 header_at file index = header_from file (header_offset file + 32 * index)
 
--- all program headers, in the table's order
+-- the program headers of the indices below a number, in the table's order
+abbrev pub first_headers : List ℕ → ℕ → List ProgramHeader
+first_headers file count = map (header_at file) (range_with_len 0 count)
+
+-- all program headers
 abbrev pub headers : List ℕ → List ProgramHeader
-headers file = map (header_at file) (range_with_len 0 (header_count file))
+headers file = first_headers file (header_count file)

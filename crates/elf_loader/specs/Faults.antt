@@ -2,6 +2,8 @@
 -- (System V gABI, "ELF Header" and "Program Header"; RISC-V psABI, "File Header").
 use Rattle.std.specs.Prelude.{◌≡◌, ◌≢◌, ◌⊎◌, ℕ, ◌+◌, ◌*◌, ◌%◌, ◌<◌, ◌≤◌, List, length, slice_index, false, nat_eq, bit_and, IsTrue}
 use Rattle.std.specs.List.{starts_with}
+use Rattle.elf_loader.specs.declared.fault.ElfFault.{ElfFault}
+use Rattle.elf_loader.specs.declared.fault.ElfFault.TheVariants.{Short, Magic, Class, Order, Version, FileType, Machine, Compressed, HeaderSize, Table, Interp, Segment, Outside, Overlap, Entry, NoMemory}
 use Rattle.elf_loader.specs.declared.header.ProgramHeader.{ProgramHeader}
 use Rattle.elf_loader.specs.Elf.{magic, file_type, machine_of, entry_of, header_offset, flags_of, header_size, header_count, header_at}
 use Rattle.elf_loader.specs.Layout.{meets}
@@ -66,40 +68,101 @@ IsOutside base size header =
     × ((header.address < base) ⊎ (base + size < header.address + header.memory_size))
 
 -- two PT_LOADs that both take a byte of memory
-abbrev pub Overlap : ProgramHeader → ProgramHeader → Type 0
-Overlap one other =
+abbrev pub ShareMemory : ProgramHeader → ProgramHeader → Type 0
+ShareMemory one other =
     IsLoad one × IsLoad other × IsTrue (meets one.address one.memory_size other.address other.memory_size)
+
+-- a PT_LOAD takes a byte of memory that one of lower index takes too
+abbrev pub OverlapsLower : List ℕ → ℕ → Type 0
+OverlapsLower file index = (lower : ℕ) × (lower < index) × ShareMemory (header_at file index) (header_at file lower)
 
 -- e_entry isn't a multiple of four in the memory
 abbrev pub HasOtherEntry : ℕ → ℕ → List ℕ → Type 0
 HasOtherEntry base size file =
     (entry_of file % 4 ≢ 0) ⊎ ((entry_of file < base) ⊎ (base + size ≤ entry_of file))
 
--- the ELF header is that of a program for 32-bit RISC-V without compressed instructions
-pub record IsProgram (file : List ℕ) : Type 0 where
-  pub long : ¬ IsShort file
-  pub magic : ¬ HasOtherMagic file
-  pub class : ¬ HasOtherClass file
-  pub order : ¬ HasOtherOrder file
-  pub version : ¬ HasOtherVersion file
-  pub file_type : ¬ HasOtherType file
-  pub machine : ¬ HasOtherMachine file
-  pub uncompressed : ¬ IsCompressed file
+-- the file has this fault, of this index where it has one
+abbrev pub IsFault : ℕ → ℕ → List ℕ → ElfFault → Type 0
+IsFault base size file Short = IsShort file
+IsFault base size file Magic = HasOtherMagic file
+IsFault base size file Class = HasOtherClass file
+IsFault base size file Order = HasOtherOrder file
+IsFault base size file Version = HasOtherVersion file
+IsFault base size file FileType = HasOtherType file
+IsFault base size file Machine = HasOtherMachine file
+IsFault base size file Compressed = IsCompressed file
+IsFault base size file HeaderSize = HasOtherHeaderSize file
+IsFault base size file Table = HasNoTable file
+IsFault base size file Interp = (index : ℕ) × (index < header_count file) × IsInterpreter (header_at file index)
+IsFault base size file (Segment index) = (index < header_count file) × IsBadSegment file (header_at file index)
+IsFault base size file (Outside index) = (index < header_count file) × IsOutside base size (header_at file index)
+IsFault base size file (Overlap index) = (index < header_count file) × OverlapsLower file index
+IsFault base size file Entry = HasOtherEntry base size file
+IsFault base size file NoMemory = ⊥
 
 -- the file has no fault
-pub record IsFaultless (base size : ℕ) (file : List ℕ) : Type 0 where
-  pub program : IsProgram file
-  pub header_size : ¬ HasOtherHeaderSize file
-  pub table : ¬ HasNoTable file
-  pub static : (index : ℕ) → index < header_count file → ¬ IsInterpreter (header_at file index)
-  pub segments : (index : ℕ) → index < header_count file → ¬ IsBadSegment file (header_at file index)
-  pub inside : (index : ℕ) → index < header_count file → ¬ IsOutside base size (header_at file index)
-  pub apart : (index lower : ℕ) → index < header_count file → lower < index →
-      ¬ Overlap (header_at file index) (header_at file lower)
-  pub entry : ¬ HasOtherEntry base size file
+abbrev pub IsFaultless : ℕ → ℕ → List ℕ → Type 0
+IsFaultless base size file = (fault : ElfFault) → ¬ IsFault base size file fault
 
--- the files that are accepted: they have no fault, and one program header alone, which is a PT_LOAD
-pub record IsAccepted (base size : ℕ) (file : List ℕ) : Type 0 where
-  pub faultless : IsFaultless base size file
-  pub single : header_count file ≡ 1
-  pub load : IsLoad (header_at file 0)
+-- the place of a fault in the order of the kinds
+abbrev pub place_of : ElfFault → ℕ
+place_of Short = 0
+place_of Magic = 1
+place_of Class = 2
+place_of Order = 3
+place_of Version = 4
+place_of FileType = 5
+place_of Machine = 6
+place_of Compressed = 7
+place_of HeaderSize = 8
+place_of Table = 9
+place_of Interp = 10
+place_of (Segment index) = 11
+place_of (Outside index) = 12
+place_of (Overlap index) = 13
+place_of Entry = 14
+place_of NoMemory = 15
+
+-- the index of the program header that is at fault, and 0 where the fault names none
+abbrev pub index_of : ElfFault → ℕ
+index_of Short = 0
+index_of Magic = 0
+index_of Class = 0
+index_of Order = 0
+index_of Version = 0
+index_of FileType = 0
+index_of Machine = 0
+index_of Compressed = 0
+index_of HeaderSize = 0
+index_of Table = 0
+index_of Interp = 0
+index_of (Segment index) = index
+index_of (Outside index) = index
+index_of (Overlap index) = index
+index_of Entry = 0
+index_of NoMemory = 0
+
+-- a fault is named before another: its kind comes before, or it is of the same kind and has the lower index
+abbrev pub Precedes : ElfFault → ElfFault → Type 0
+Precedes one other =
+    (place_of one < place_of other) ⊎ ((place_of one ≡ place_of other) × (index_of one < index_of other))
+
+-- of all that the file has this fault is named first
+pub record IsFirstFault (base size : ℕ) (file : List ℕ) (fault : ElfFault) : Type 0 where
+  pub present : IsFault base size file fault
+  pub first : (other : ElfFault) → Precedes other fault → ¬ IsFault base size file other
+
+-- the file has no fault of a kind before that of this one
+abbrev pub IsClearBefore : ℕ → ℕ → List ℕ → ElfFault → Type 0
+IsClearBefore base size file kind = (fault : ElfFault) → place_of fault < place_of kind → ¬ IsFault base size file fault
+
+-- the file has no fault up to Segment, none of which depends on the memory: its program headers stand in it, and so do
+-- the file parts of its segments
+abbrev pub IsReadable : List ℕ → Type 0
+IsReadable file = (base size : ℕ) → IsClearBefore base size file (Outside 0)
+
+-- the ELF header and all program headers are in the file
+pub record HasTable (file : List ℕ) : Type 0 where
+  pub long : 52 ≤ length file
+  pub few : header_count file ≤ 256
+  pub within : header_offset file + 32 * header_count file ≤ length file

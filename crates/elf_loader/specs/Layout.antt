@@ -1,5 +1,5 @@
 -- The memory that a file describes (System V gABI, "Program Loading").
-use Rattle.std.specs.Prelude.{ℕ, ◌+◌, ◌-◌, ◌*◌, ◌/◌, min, max, Bool, ◌&&◌, ◌==◌, nat_lt, nat_le, ◌≡◌, ◌<◌, length, if◌then◌else◌, Option, None, Some, List, map, filter, slice_index}
+use Rattle.std.specs.Prelude.{ℕ, ◌+◌, ◌-◌, ◌*◌, ◌/◌, min, max, Bool, true, false, ◌&&◌, ◌==◌, nat_lt, nat_le, ◌≡◌, ◌<◌, length, Option, None, Some, List, map, filter, slice_index}
 use Rattle.std.specs.List.{find, fold, list_any, range_with_len}
 use Rattle.std.specs.Int.{next_multiple_of}
 use Rattle.elf_loader.specs.declared.header.ProgramHeader.{ProgramHeader}
@@ -18,10 +18,14 @@ abbrev pub covers : ProgramHeader → ℕ → Bool
 covers header address =
     is_load header && nat_le header.address address && nat_lt address (header.address + header.file_size)
 
+-- the byte of the segment that has the address
+abbrev pub byte_at : List ℕ → ProgramHeader → ℕ → ℕ
+byte_at file header address = slice_index file (header.offset + (address - header.address))
+
 -- the byte of the file part that has the address; a byte that no file part has is 0
 unfoldable pub byte_of : List ℕ → ℕ → Option ProgramHeader → ℕ
 byte_of file address None = 0
-byte_of file address (Some header) = slice_index file (header.offset + (address - header.address))
+byte_of file address (Some header) = byte_at file header address
 
 unfoldable pub image_byte : List ℕ → ℕ → ℕ
 image_byte file address = byte_of file address (find (λ header. covers header address) (headers file))
@@ -43,18 +47,22 @@ marked_lines base size file =
 abbrev pub takes_memory : ProgramHeader → Bool
 takes_memory header = is_load header && nat_lt 0 header.memory_size
 
--- the greatest end of a PT_LOAD that takes memory, and `base` where there is none
-unfoldable pub last_end : ℕ → List ℕ → ℕ
-last_end base file =
-    fold max base (map (λ header. header.address + header.memory_size) (filter takes_memory (headers file)))
+-- the end of a segment in the memory
+abbrev pub end_of : ProgramHeader → ℕ
+end_of header = header.address + header.memory_size
 
--- where the heap begins: the least multiple of 16 not below that end, but at most the memory's end
+-- the greatest end of these that are PT_LOADs and take memory, and `base` where there is none
+abbrev pub greatest_end : ℕ → List ProgramHeader → ℕ
+greatest_end base some = fold max base (map end_of (filter takes_memory some))
+
+-- where the heap begins: the least multiple of 16 not below any end of a segment that takes memory, but at most the memory's end
 unfoldable pub first_break : ℕ → ℕ → List ℕ → ℕ
-first_break base size file = min (next_multiple_of (last_end base file) 16) (base + size)
+first_break base size file = min (next_multiple_of (greatest_end base (headers file)) 16) (base + size)
 
--- the bytes are the memory of `size` bytes from `base` on that has this segment alone
-pub record IsLaidOut (base size : ℕ) (file : List ℕ) (header : ProgramHeader) (bytes : List ℕ) : Type 0 where
-  pub len : length bytes ≡ size
-  pub each : (place : ℕ) → place < size →
-      slice_index bytes place
-      ≡ (if covers header (base + place) then slice_index file (header.offset + (base + place - header.address)) else 0)
+-- the bytes from `base` on have the segment's file part in its place, and are the old ones elsewhere
+pub record IsPlaced (base : ℕ) (file : List ℕ) (header : ProgramHeader) (old new : List ℕ) : Type 0 where
+  pub len : length new ≡ length old
+  pub part : (place : ℕ) → place < length old → covers header (base + place) ≡ true →
+      slice_index new place ≡ byte_at file header (base + place)
+  pub rest : (place : ℕ) → place < length old → covers header (base + place) ≡ false →
+      slice_index new place ≡ slice_index old place

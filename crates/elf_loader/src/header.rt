@@ -1,31 +1,15 @@
 //! The ELF header and the program headers (System V gABI, "ELF Header" and "Program Header"; RISC-V psABI).
 
-ghost use Rattle.std.specs.Prelude.{◌≡◌, ℕ, ◌+◌, ◌≤◌, ◌↔◌, length, IsTrue, IfSome, IfNone, OnSome, ◌%◌, ◌<◌, ◌*◌, ◌^◌, ◌⊎◌, take, drop, nat_lt, if◌then◌else◌};
-ghost use Rattle.elf_loader.specs.Elf.{half, word, entry_of, header_count, header_from, header_at};
-ghost use Rattle.elf_loader.specs.Faults.{HasNoTable, HasOtherHeaderSize, IsAccepted, IsBadSegment, IsLoad, IsOutside, IsProgram};
-ghost use Rattle.elf_loader.specs.Layout.{touches};
+ghost use Rattle.std.specs.Prelude.{◌≡◌, ℕ, ◌+◌, ◌≤◌, ◌↔◌, length, IsTrue, if◌then◌else◌, ◌<◌, ◌*◌, ◌^◌, take, drop};
+ghost use Rattle.elf_loader.specs.Elf.{half, word, entry_of, flags_of, header_count, header_from, header_at, header_offset, header_size, file_type, machine_of};
+ghost use Rattle.elf_loader.specs.Faults.{HasTable, IsBadSegment, IsInterpreter, IsLoad, IsOutside, ShareMemory};
+ghost use Rattle.elf_loader.specs.Layout.{end_of, is_load, takes_memory, touches};
 
-/// The bytes of the ELF header.
-const HEADER_SIZE: usize = 52;
-
-/// The bytes of one program header.
-const PROGRAM_HEADER_SIZE: u16 = 32;
-
-const MAGIC: [u8; 4] = [0x7f, b'E', b'L', b'F'];
-
-const CLASS_32: u8 = 1;
-
-const LITTLE_ENDIAN: u8 = 1;
-
-const CURRENT_VERSION: u8 = 1;
-
-const EXECUTABLE: u16 = 2;
-
-const MACHINE_RISCV: u16 = 243;
-
-const FLAG_COMPRESSED: u32 = 1;
-
+/// PT_LOAD
 const LOAD: u32 = 1;
+
+/// PT_INTERP
+const INTERPRETER: u32 = 3;
 
 /// A program header, as the file says it.
 #[derive(Clone, Copy, Debug)]
@@ -45,7 +29,7 @@ pub struct ProgramHeader {
 }
 
 #[tactic(auto, using(crate::proofs::Numbers::half_read))]
-fn read_half(file: &[u8], at: usize) -> u16
+pub fn read_half(file: &[u8], at: usize) -> u16
     requires { at + 2 ≤ length file.now }
     ensures { result ≡ half file.now at }
 {
@@ -53,7 +37,7 @@ fn read_half(file: &[u8], at: usize) -> u16
 }
 
 #[tactic(auto, using(crate::proofs::Numbers::word_read))]
-fn read_word(file: &[u8], at: usize) -> u32
+pub fn read_word(file: &[u8], at: usize) -> u32
     requires { at + 4 ≤ length file.now }
     ensures { result ≡ word file.now at }
 {
@@ -75,6 +59,24 @@ fn read_header(file: &[u8], at: usize) -> ProgramHeader
     }
 }
 
+/// How many program headers there are.
+pub fn count(file: &[u8]) -> u32
+    requires { 52 ≤ length file.now }
+    ensures { result ≡ header_count file.now }
+{
+    u32::from(read_half(file, 44))
+}
+
+/// The program header of an index, counted from 0.
+pub fn nth(file: &[u8], index: u32) -> ProgramHeader
+    requires table { HasTable file.now }
+    requires index { index < header_count file.now }
+    ensures { result ≡ header_at file.now index }
+{
+    let table = read_word(file, 28) as usize;
+    read_header(file, table + 32 * index as usize)
+}
+
 /// The address of the program's first instruction.
 pub fn entry(file: &[u8]) -> u32
     requires { 52 ≤ length file.now }
@@ -83,37 +85,28 @@ pub fn entry(file: &[u8]) -> u32
     read_word(file, 24)
 }
 
-/// Whether the file begins with the header of a program for 32-bit RISC-V without compressed instructions.
-fn is_program(file: &[u8]) -> bool
-    ensures { IsTrue result ↔ IsProgram file.now }
-{
-    if file.len() < HEADER_SIZE || !file.starts_with(&MAGIC) {
-        return false;
-    }
-    if file[4] != CLASS_32 || file[5] != LITTLE_ENDIAN || file[6] != CURRENT_VERSION {
-        return false;
-    }
-    if read_half(file, 16) != EXECUTABLE || read_half(file, 18) != MACHINE_RISCV {
-        return false;
-    }
-    read_word(file, 36) & FLAG_COMPRESSED == 0
-}
-
-/// Whether the file has one program header alone, in a table that is in the file.
-fn has_one_header(file: &[u8]) -> bool
-    requires { 52 ≤ length file.now }
-    ensures table { IsTrue result → ¬ HasNoTable file.now }
-    ensures header_size { IsTrue result → ¬ HasOtherHeaderSize file.now }
-    ensures single { IsTrue result → header_count file.now ≡ 1 }
-    ensures otherwise { ¬ HasNoTable file.now → ¬ HasOtherHeaderSize file.now → header_count file.now ≡ 1 → IsTrue result }
-{
-    let offset = u64::from(read_word(file, 28));
-    read_half(file, 44) == 1
-        && read_half(file, 42) == PROGRAM_HEADER_SIZE
-        && offset + u64::from(PROGRAM_HEADER_SIZE) <= file.len() as u64
-}
-
 impl ProgramHeader {
+    /// Whether it names an interpreter.
+    pub fn is_interpreter(&self) -> bool
+        ensures { IsTrue result ↔ IsInterpreter self.now }
+    {
+        self.kind == INTERPRETER
+    }
+
+    /// Whether it is a segment that is loaded.
+    pub fn is_load(&self) -> bool
+        ensures { result ≡ is_load self.now }
+    {
+        self.kind == LOAD
+    }
+
+    /// Whether it is a segment that is loaded and takes memory.
+    pub fn takes_memory(&self) -> bool
+        ensures { result ≡ takes_memory self.now }
+    {
+        self.kind == LOAD && self.memory_size > 0
+    }
+
     /// The part of the file that the segment is loaded from.
     pub fn part<'f>(&self, file: &'f [u8]) -> &'f [u8]
         requires { self.now.offset + self.now.file_size ≤ length file.now }
@@ -133,64 +126,41 @@ impl ProgramHeader {
         self.kind == LOAD && from.max(start) < end.min(start + 64)
     }
 
-    /// Where the segment ends in the memory, or `base` where it takes none.
+    /// Where the segment ends in the memory, or `base` where it isn't loaded or takes none.
     pub fn end_from(&self, base: u32) -> u32
-        requires { self.now.address + self.now.memory_size < 2 ^ 32 ⊎ (self.now.memory_size ≡ 0) }
-        ensures { result ≡ (if nat_lt 0 self.now.memory_size then self.now.address + self.now.memory_size else base) }
+        requires { IsTrue (takes_memory self.now) → end_of self.now < 2 ^ 32 }
+        ensures { result ≡ (if takes_memory self.now then end_of self.now else base) }
     {
-        if self.memory_size == 0 {
-            base
-        } else {
+        if self.takes_memory() {
             self.address + self.memory_size
+        } else {
+            base
         }
     }
 
-    /// Whether the segment has no more bytes in the file than in the memory, and none beyond the file.
-    fn is_sound(&self, file: &[u8]) -> bool
-        requires { IsLoad self.now }
-        ensures { IsTrue result ↔ ¬ IsBadSegment file.now self.now }
+    /// Whether it is a segment with more bytes in the file than in the memory, or with bytes beyond the file.
+    pub fn is_bad(&self, file: &[u8]) -> bool
+        ensures { IsTrue result ↔ IsBadSegment file.now self.now }
     {
         let end = u64::from(self.offset) + u64::from(self.file_size);
-        self.file_size <= self.memory_size && end <= file.len() as u64
+        self.kind == LOAD && (self.file_size > self.memory_size || end > file.len() as u64)
     }
 
-    /// Whether all that the segment takes is in the memory of `size` bytes from `base` on.
-    fn is_inside(&self, base: u32, size: u32) -> bool
-        requires { IsLoad self.now }
-        ensures { IsTrue result ↔ ¬ IsOutside base size self.now }
+    /// Whether it is a segment that takes memory, not all of it in the memory of `size` bytes from `base` on.
+    pub fn is_outside(&self, base: u32, size: u32) -> bool
+        ensures { IsTrue result ↔ IsOutside base size self.now }
     {
         let end = u64::from(self.address) + u64::from(self.memory_size);
-        self.memory_size == 0 || (base <= self.address && end <= u64::from(base) + u64::from(size))
+        self.takes_memory() && (self.address < base || end > u64::from(base) + u64::from(size))
     }
-}
 
-fn is_entry(address: u32, base: u32, size: u32) -> bool
-    ensures { IsTrue result ↔ ((address % 4 ≡ 0) × (base ≤ address) × (address < base + size)) }
-{
-    address % 4 == 0 && base <= address && u64::from(address) < u64::from(base) + u64::from(size)
-}
-
-/// The one program header of a file that is accepted.
-pub fn accepted_header(file: &[u8], base: u32, size: u32) -> Option<ProgramHeader>
-    ensures accepted { OnSome result (IsAccepted base size file.now) }
-    ensures header { IfSome result (λ header. header ≡ header_at file.now 0) }
-    ensures refused { IfNone result (¬ IsAccepted base size file.now) }
-{
-    if !is_program(file) || !has_one_header(file) {
-        return None;
+    /// Whether both are segments that take a byte of memory.
+    pub fn shares_memory(&self, other: &ProgramHeader) -> bool
+        ensures { IsTrue result ↔ ShareMemory self.now other.now }
+    {
+        let start = u64::from(self.address.max(other.address));
+        let end = u64::from(self.address) + u64::from(self.memory_size);
+        let other_end = u64::from(other.address) + u64::from(other.memory_size);
+        self.kind == LOAD && other.kind == LOAD && start < end.min(other_end)
     }
-    let header = read_header(file, read_word(file, 28) as usize);
-    if header.kind != LOAD {
-        return None;
-    }
-    if !header.is_sound(file) {
-        return None;
-    }
-    if !header.is_inside(base, size) {
-        return None;
-    }
-    if !is_entry(entry(file), base, size) {
-        return None;
-    }
-    Some(header)
 }

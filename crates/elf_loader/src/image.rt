@@ -1,13 +1,13 @@
 //! The memory that a program header describes (System V gABI, "Program Loading").
 
-ghost use Rattle.std.specs.Prelude.{◌≡◌, ◌+◌, ◌*◌, ◌/◌, ◌≤◌, ◌++◌, length, take, drop, filter, min, IfOk, replicate};
-ghost use Rattle.std.specs.List.{range_with_len};
-ghost use Rattle.std.specs.Int.{next_multiple_of};
-ghost use Rattle.elf_loader.specs.Faults.{IsLoad, IsBadSegment, IsOutside};
-ghost use Rattle.elf_loader.specs.Layout.{touches, IsLaidOut};
+ghost use Rattle.std.specs.Prelude.{◌≡◌, ◌+◌, ◌*◌, ◌≤◌, ◌++◌, length, take, drop, IfOk, replicate};
+ghost use Rattle.std.specs.List.{list_any};
+ghost use Rattle.elf_loader.specs.Elf.{headers};
+ghost use Rattle.elf_loader.specs.Faults.{HasTable, IsBadSegment, IsFaultless, IsOutside};
+ghost use Rattle.elf_loader.specs.Layout.{first_break, greatest_end, image_bytes, marked_lines, touches, IsPlaced};
 ghost use Rattle.elf_loader.specs.Memory.{IsMemory};
 
-use crate::header::ProgramHeader;
+use crate::header::{self, ProgramHeader};
 use std::alloc::{AllocError, Global};
 
 /// The bytes of a line.
@@ -43,48 +43,88 @@ fn place(bytes: &mut [u8], start: usize, part: &[u8])
     bytes[start..start + part.len()].copy_from_slice(part);
 }
 
-/// The memory's bytes: zeros, with the segment's file part in its place.
-#[tactic(auto, using(crate::proofs::Placed::laid_blank))]
-pub fn lay_out(
-    alloc: Global,
-    file: &[u8],
-    base: u32,
-    size: u32,
-    header: &ProgramHeader,
-) -> Result<Vec<u8>, AllocError>
-    requires load { IsLoad header.now }
+/// Puts the segment's file part at its place in the memory from `base` on.
+fn place_part(bytes: &mut [u8], file: &[u8], base: u32, header: &ProgramHeader)
     requires sound { ¬ IsBadSegment file.now header.now }
-    requires inside { ¬ IsOutside base size header.now }
-    ensures { IfOk result (λ bytes. IsLaidOut base size file.now header.now bytes.items) }
+    requires inside { ¬ IsOutside base (length bytes.old) header.now }
+    ensures { IsPlaced base file.now header.now bytes.old bytes.new }
 {
-    let mut bytes = zeros(alloc, size as usize)?;
-    if header.file_size == 0 {
-        return Ok(bytes);
+    if !header.is_load() || header.file_size == 0 {
+        return;
     }
     let start = (header.address - base) as usize;
-    place(&mut bytes, start, header.part(file));
+    place(bytes, start, header.part(file));
+}
+
+/// Puts each segment's file part at its place among zeros.
+fn place_parts(bytes: &mut [u8], file: &[u8], base: u32, size: u32)
+    requires table { HasTable file.now }
+    requires faultless { IsFaultless base size file.now }
+    requires zeros { bytes.old ≡ replicate size 0 }
+    ensures { bytes.new ≡ image_bytes base size file.now }
+{
+    for index in 0..header::count(file) {
+        place_part(bytes, file, base, &header::nth(file, index));
+    }
+}
+
+/// The memory's bytes: zeros, with each segment's file part in its place.
+pub fn lay_out(alloc: Global, file: &[u8], base: u32, size: u32) -> Result<Vec<u8>, AllocError>
+    requires table { HasTable file.now }
+    requires faultless { IsFaultless base size file.now }
+    ensures { IfOk result (λ bytes. bytes.items ≡ image_bytes base size file.now) }
+{
+    let mut bytes = zeros(alloc, size as usize)?;
+    place_parts(&mut bytes, file, base, size);
     Ok(bytes)
 }
 
-/// The numbers of the lines that have a byte of the segment's file part.
-pub fn mark_lines(
-    alloc: Global,
-    base: u32,
-    size: u32,
-    header: &ProgramHeader,
-) -> Result<Vec<u32>, AllocError>
-    ensures { IfOk result (λ lines. lines.items ≡ filter (λ line. touches header.now (base + 64 * line)) (range_with_len 0 (size / 64))) }
+/// Whether the line of 64 bytes with this number, counted from `base`, has a byte of a segment's file part.
+fn is_marked(file: &[u8], base: u32, line: u32) -> bool
+    requires { HasTable file.now }
+    ensures { result ≡ list_any (λ header. touches header (base + 64 * line)) (headers file.now) }
+{
+    for index in 0..header::count(file) {
+        if header::nth(file, index).touches(base, line) {
+            return true;
+        }
+    }
+    false
+}
+
+/// The numbers of the lines that have a byte of a segment's file part.
+#[tactic(auto, unfolding(crate::specs::Layout::marked_lines))]
+pub fn mark_lines(alloc: Global, file: &[u8], base: u32, size: u32) -> Result<Vec<u32>, AllocError>
+    requires { HasTable file.now }
+    ensures { IfOk result (λ lines. lines.items ≡ marked_lines base size file.now) }
 {
     (0..size / LINE)
-        .filter(|line| header.touches(base, *line))
+        .filter(|line| is_marked(file, base, *line))
         .collect(alloc)
 }
 
-/// Where the heap begins, for a memory of `size` bytes from `base` on whose last segment has this end.
-pub fn first_break(base: u32, size: u32, end: u32) -> u32
+/// The greatest end of a segment that takes memory, and `base` where there is none.
+fn greatest_end(file: &[u8], base: u32, size: u32) -> u32
     requires memory { IsMemory base size }
-    requires inside { end ≤ base + size }
-    ensures { result ≡ min (next_multiple_of end 16) (base + size) }
+    requires table { HasTable file.now }
+    requires faultless { IsFaultless base size file.now }
+    ensures end { result ≡ greatest_end base (headers file.now) }
+    ensures inside { result ≤ base + size }
 {
-    end.next_multiple_of(BREAK_STEP)
+    let mut end = base;
+    for index in 0..header::count(file) {
+        end = end.max(header::nth(file, index).end_from(base));
+    }
+    end
+}
+
+/// Where the heap begins in the memory of `size` bytes from `base` on.
+#[tactic(auto, unfolding(crate::specs::Layout::first_break))]
+pub fn first_break(file: &[u8], base: u32, size: u32) -> u32
+    requires memory { IsMemory base size }
+    requires table { HasTable file.now }
+    requires faultless { IsFaultless base size file.now }
+    ensures { result ≡ first_break base size file.now }
+{
+    greatest_end(file, base, size).next_multiple_of(BREAK_STEP)
 }
