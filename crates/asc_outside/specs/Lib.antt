@@ -2,3 +2,6 @@ pub mod Host
 pub mod MemHost
 pub mod MemHostView
 pub mod NamedFiles
+pub mod Memories
+pub mod MemoriesView
+pub mod Memory

@@ -1,6 +1,11 @@
-//! What a host in memory answers, call by call.
+//! What the hosts and memories of tests answer, call by call.
 
-use crate::{Host, HostFault, MemHost};
+ghost use Rattle.std.specs.Prelude.{◌≡◌, ◌<◌, ◌+◌, ◌^◌};
+
+use crate::{
+    BUCKET_BYTES, Failed, FaultyMemory, HonestMemory, Host, HostFault, MemHost, MemStop,
+    ScriptedMemory, UntrustedMemory, empty_bucket,
+};
 use std::alloc::Global;
 use std::test::Fail;
 
@@ -61,5 +66,63 @@ fn answers_call_by_call(rt: HostRuntime) -> Result<(), Fail> {
     assert_eq!(rt; host.printed(), b"abc".as_slice());
     assert_eq!(rt; host.file("out").ok_or("out")?, b"three".as_slice());
     assert!(rt; host.file("ou").is_none());
+    Ok(())
+}
+
+// Reads a bucket of any memory, and answers its last byte.
+fn last_byte<M: UntrustedMemory>(memory: &mut M, time: u64, bucket: u32) -> Result<u8, Failed>
+    requires within { bucket < (M.state memory.old).count }
+    requires spare { (M.state memory.old).moved < 2 ^ 63 }
+    ensures count { (M.state memory.new).count ≡ (M.state memory.old).count }
+    ensures moved { (M.state memory.new).moved ≡ (M.state memory.old).moved + 1 }
+{
+    let mut bytes = empty_bucket();
+    memory.read(time, bucket, &mut bytes)?;
+    Ok(bytes[375])
+}
+
+// Fills a bucket of any memory with one byte.
+fn fill<M: UntrustedMemory>(memory: &mut M, time: u64, bucket: u32, byte: u8) -> Result<(), MemStop>
+    requires within { bucket < (M.state memory.old).count }
+    requires spare { (M.state memory.old).moved < 2 ^ 63 }
+    ensures count { (M.state memory.new).count ≡ (M.state memory.old).count }
+    ensures moved { (M.state memory.new).moved ≡ (M.state memory.old).moved + 1 }
+{
+    memory.write(time, bucket, &[byte; BUCKET_BYTES])
+}
+
+#[test]
+fn honest_memory_gives_what_was_written(rt: HostRuntime) -> Result<(), Fail> {
+    let mut memory = HonestMemory::new(rt.alloc());
+    memory.prepare(3)?;
+    assert_eq!(rt; last_byte(&mut memory, 0, 2), Ok(0));
+    assert_eq!(rt; fill(&mut memory, 1, 2, 7), Ok(()));
+    assert_eq!(rt; last_byte(&mut memory, 2, 2), Ok(7));
+    assert_eq!(rt; last_byte(&mut memory, 3, 1), Ok(0));
+    Ok(())
+}
+
+#[test]
+fn listed_moves_fail(rt: HostRuntime) -> Result<(), Fail> {
+    let mut memory = FaultyMemory::new(rt.alloc(), [2, 4].to_vec(rt.alloc())?);
+    memory.prepare(2)?;
+    assert_eq!(rt; fill(&mut memory, 0, 0, 7), Ok(()));
+    assert_eq!(rt; fill(&mut memory, 1, 0, 9), Err(MemStop::Failed));
+    assert_eq!(rt; last_byte(&mut memory, 2, 0), Ok(7));
+    assert_eq!(rt; last_byte(&mut memory, 3, 0), Err(Failed));
+    assert_eq!(rt; last_byte(&mut memory, 4, 1), Ok(0));
+    Ok(())
+}
+
+#[test]
+fn script_is_answered_to_its_end(rt: HostRuntime) -> Result<(), Fail> {
+    let replies = [[1; BUCKET_BYTES], [2; BUCKET_BYTES]].to_vec(rt.alloc())?;
+    let mut memory = ScriptedMemory::new(rt.alloc(), replies, 3)?;
+    memory.prepare(1)?;
+    assert_eq!(rt; last_byte(&mut memory, 0, 0), Ok(1));
+    assert_eq!(rt; fill(&mut memory, 1, 0, 7), Ok(()));
+    assert_eq!(rt; last_byte(&mut memory, 2, 0), Ok(2));
+    assert_eq!(rt; last_byte(&mut memory, 3, 0), Err(Failed));
+    assert_eq!(rt; fill(&mut memory, 4, 0, 7), Ok(()));
     Ok(())
 }
