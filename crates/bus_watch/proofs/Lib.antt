@@ -1,0 +1,4 @@
+pub mod HonestLaws
+pub mod MadeLaws
+pub mod Replies
+pub mod TiedLaws

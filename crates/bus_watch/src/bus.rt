@@ -1,0 +1,180 @@
+ghost use Rattle.std.specs.Prelude.{◌≡◌, ◌<◌, ◌≤◌, ◌+◌, ◌*◌, ◌^◌, OnOk, OnErr, IsErrOf, length, slice_set, option_map, [], ◌∷◌};
+ghost use Rattle.asc_outside.specs.Host.{Rose};
+ghost use Rattle.asc_outside.specs.Memory.{MemoryState, Keeps, zero_buckets};
+ghost use Rattle.bus_watch.specs.Log.{read_move, write_move, with_move, with_reply, with_event};
+ghost use Rattle.bus_watch.specs.Made.{Made, Tied};
+ghost use Rattle.bus_watch.specs.RunEnd.{Whole, end_of};
+ghost use Rattle.bus_watch.specs.Same.{IsSameBus};
+
+use crate::log::{Event, Move};
+use crate::watch::Watch;
+use asc_base::NoMemory;
+use asc_outside::{BUCKET_BYTES, Failed, MemStop, UntrustedMemory};
+
+/// Why a call of the bus stops.
+#[derive(Clone, Copy, Debug, PartialEq, Eq)]
+pub enum BusStop {
+    /// The memory failed, and its count of faults rose.
+    Device,
+    /// There is no memory, for the memory's buckets or for the tap.
+    NoMemory,
+}
+
+/// The one way to a memory: each move is noted by the tap, and asked of the memory once.
+///
+/// Contracts see a bus as its memory and its tap. A caller hands the two references on, and asks neither itself.
+#[derive(Drop)]
+pub struct Bus<'b, M: UntrustedMemory, W: Watch> {
+    /// The memory that is asked.
+    pub memory: &'b mut M,
+    /// The tap that notes.
+    pub tap: &'b mut W,
+}
+
+impl<'b, M: UntrustedMemory, W: Watch> Bus<'b, M, W> {
+    /// A bus over this memory and this tap.
+    pub fn new(memory: &'b mut M, tap: &'b mut W) -> Bus<'b, M, W>
+        ensures same_memory { result.memory.ghost_name ≡ memory.entry.ghost_name }
+        ensures same_tap { result.tap.ghost_name ≡ tap.entry.ghost_name }
+        ensures memory { result.memory.now ≡ memory.old }
+        ensures tap { result.tap.now ≡ tap.old }
+    {
+        Bus { memory, tap }
+    }
+
+    /// Prepares memory and tap, once: buckets of zero bytes, and room for the moves and events of so many accesses,
+    /// which are `2 * (levels + 1)` and 6 of each.
+    ///
+    /// `Device` only where the memory's count of faults rose.
+    pub fn prepare(&mut self, buckets: u32, levels: u32, accesses: u64) -> Result<(), BusStop>
+        requires fresh { (M.state self.old.memory.now).count ≡ 0 }
+        requires some { 0 < buckets }
+        requires levels { levels ≤ 20 }
+        requires accesses { accesses < 2 ^ 40 }
+        ensures same { IsSameBus self.old self.new }
+        ensures count { (M.state self.new.memory.now).count ≡ buckets }
+        ensures link { (M.state self.new.memory.now).link ≡ (M.state self.old.memory.now).link }
+        ensures moved { (M.state self.new.memory.now).moved ≡ (M.state self.old.memory.now).moved }
+        ensures seen { (M.state self.new.memory.now).seen ≡ (M.state self.old.memory.now).seen }
+        ensures said { (M.state self.new.memory.now).said ≡ (M.state self.old.memory.now).said }
+        ensures told { OnOk result ((M.state self.new.memory.now).told ≡ option_map (λ _. (W.state self.new.tap.now).mirror) (M.state self.old.memory.now).told) }
+        ensures later { (M.state self.old.memory.now).faults ≤ (M.state self.new.memory.now).faults }
+        ensures log { (W.state self.new.tap.now).log ≡ (W.state self.old.tap.now).log }
+        ensures mirror { OnOk result ((W.state self.new.tap.now).mirror ≡ zero_buckets buckets) }
+        ensures err { OnErr result (W.state self.new.tap.now ≡ W.state self.old.tap.now) }
+        ensures moves { OnOk result (2 * (levels + 1) * accesses ≤ (W.state self.new.tap.now).spare_moves) }
+        ensures events { OnOk result (6 * accesses ≤ (W.state self.new.tap.now).spare_events) }
+        ensures tied { (W.state self.old.tap.now).log.moves ≡ [] → (start : MemoryState)
+            → Tied start (M.state self.old.memory.now) (W.state self.old.tap.now)
+            → Tied start (M.state self.new.memory.now) (W.state self.new.tap.now) }
+        ensures cause { IsErrOf result BusStop.Device → Rose (M.state self.old.memory.now).faults (M.state self.new.memory.now).faults }
+    {
+        match self.memory.prepare(buckets) {
+            Ok(()) => {}
+            Err(MemStop::Failed) => return Err(BusStop::Device),
+            Err(MemStop::NoMemory) => return Err(BusStop::NoMemory),
+        }
+        let per_access = 2 * (levels as u64 + 1);
+        match self
+            .tap
+            .prepare(buckets, per_access * accesses, 6 * accesses)
+        {
+            Ok(()) => Ok(()),
+            Err(NoMemory) => Err(BusStop::NoMemory),
+        }
+    }
+
+    /// Reads a bucket, at this time in cycles. The move is noted on every answer, before the memory is asked.
+    ///
+    /// An Ok gives the reply, which the tap notes where it isn't the bucket of the mirror. `Device` only where the
+    /// memory's count of faults rose.
+    pub fn read(
+        &mut self,
+        time: u64,
+        bucket: u32,
+        into: &mut [u8; BUCKET_BYTES],
+    ) -> Result<(), BusStop>
+        requires within { bucket < (M.state self.old.memory.now).count }
+        requires mirrored { bucket < length (W.state self.old.tap.now).mirror }
+        requires asked { (M.state self.old.memory.now).moved < 2 ^ 63 }
+        requires room { 0 < (W.state self.old.tap.now).spare_moves }
+        ensures same { IsSameBus self.old self.new }
+        ensures made { Made (end_of result) (read_move time bucket ∷ []) (M.state self.old.memory.now) (M.state self.new.memory.now)
+            (W.state self.old.tap.now) (W.state self.new.tap.now) }
+        ensures mirror { (W.state self.new.tap.now).mirror ≡ (W.state self.old.tap.now).mirror }
+        ensures events { (W.state self.new.tap.now).spare_events ≡ (W.state self.old.tap.now).spare_events }
+        ensures log { OnOk result ((W.state self.new.tap.now).log ≡ with_reply (with_move (W.state self.old.tap.now).log (read_move time bucket))
+            (W.state self.old.tap.now).mirror time bucket into.new) }
+        ensures log_err { OnErr result ((W.state self.new.tap.now).log ≡ with_move (W.state self.old.tap.now).log (read_move time bucket)) }
+        ensures cause { IsErrOf result BusStop.Device → Rose (M.state self.old.memory.now).faults (M.state self.new.memory.now).faults }
+    {
+        let read = Move {
+            time,
+            write: false,
+            bucket,
+        };
+        self.tap.moved(read);
+        match self.memory.read(time, bucket, into) {
+            Ok(()) => {}
+            Err(Failed) => return Err(BusStop::Device),
+        }
+        match self.tap.replied(time, bucket, into) {
+            Ok(()) => Ok(()),
+            Err(NoMemory) => Err(BusStop::NoMemory),
+        }
+    }
+
+    /// Writes a bucket, at this time in cycles. The move is noted on every answer, before the memory is asked.
+    ///
+    /// An Ok changes this one bucket of the mirror. `Device` only where the memory's count of faults rose.
+    pub fn write(
+        &mut self,
+        time: u64,
+        bucket: u32,
+        bytes: &[u8; BUCKET_BYTES],
+    ) -> Result<(), BusStop>
+        requires within { bucket < (M.state self.old.memory.now).count }
+        requires mirrored { bucket < length (W.state self.old.tap.now).mirror }
+        requires asked { (M.state self.old.memory.now).moved < 2 ^ 63 }
+        requires room { 0 < (W.state self.old.tap.now).spare_moves }
+        ensures same { IsSameBus self.old self.new }
+        ensures made { Made (end_of result) (write_move time bucket ∷ []) (M.state self.old.memory.now) (M.state self.new.memory.now)
+            (W.state self.old.tap.now) (W.state self.new.tap.now) }
+        ensures mirror { OnOk result ((W.state self.new.tap.now).mirror ≡ slice_set (W.state self.old.tap.now).mirror bucket bytes.now) }
+        ensures mirror_err { OnErr result ((W.state self.new.tap.now).mirror ≡ (W.state self.old.tap.now).mirror) }
+        ensures events { (W.state self.new.tap.now).spare_events ≡ (W.state self.old.tap.now).spare_events }
+        ensures log { (W.state self.new.tap.now).log ≡ with_move (W.state self.old.tap.now).log (write_move time bucket) }
+        ensures cause { IsErrOf result BusStop.Device → Rose (M.state self.old.memory.now).faults (M.state self.new.memory.now).faults }
+    {
+        let write = Move {
+            time,
+            write: true,
+            bucket,
+        };
+        self.tap.moved(write);
+        match self.memory.write(time, bucket, bytes) {
+            Ok(()) => {}
+            Err(MemStop::Failed) => return Err(BusStop::Device),
+            Err(MemStop::NoMemory) => return Err(BusStop::NoMemory),
+        }
+        match self.tap.written(bucket, bytes) {
+            Ok(()) => Ok(()),
+            Err(NoMemory) => Err(BusStop::NoMemory),
+        }
+    }
+
+    /// Notes an event.
+    pub fn note(&mut self, event: Event)
+        requires { 0 < (W.state self.old.tap.now).spare_events }
+        ensures same { IsSameBus self.old self.new }
+        ensures made { Made Whole [] (M.state self.old.memory.now) (M.state self.new.memory.now)
+            (W.state self.old.tap.now) (W.state self.new.tap.now) }
+        ensures memory { self.new.memory.now ≡ self.old.memory.now }
+        ensures mirror { (W.state self.new.tap.now).mirror ≡ (W.state self.old.tap.now).mirror }
+        ensures log { (W.state self.new.tap.now).log ≡ with_event (W.state self.old.tap.now).log event }
+        ensures spare { (W.state self.old.tap.now).spare_events ≤ (W.state self.new.tap.now).spare_events + 1 }
+        ensures moves { (W.state self.new.tap.now).spare_moves ≡ (W.state self.old.tap.now).spare_moves }
+    {
+        self.tap.note(event);
+    }
+}

@@ -1,0 +1,17 @@
+//! The tap on the memory bus: what it notes of each move, and the bus that no move goes around.
+#![tactic(auto)]
+
+mod bus;
+mod laws;
+mod log;
+mod recorder;
+mod watch;
+
+pub use bus::{Bus, BusStop};
+pub use laws::{altered_replies_noted, runs_join, runs_start};
+pub use log::{Altered, Event, Log, Move};
+pub use recorder::Recorder;
+pub use watch::Watch;
+
+#[cfg(test)]
+mod tests;
