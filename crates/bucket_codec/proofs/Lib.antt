@@ -1,0 +1,6 @@
+pub mod Buckets
+pub mod Lists
+pub mod Pads
+pub mod Slots
+pub mod Spelled
+pub mod StandardFacts

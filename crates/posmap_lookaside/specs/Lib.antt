@@ -1,0 +1,3 @@
+pub mod Addresses
+pub mod Held
+pub mod Lookaside
