@@ -12,7 +12,8 @@ use Rattle.elf_loader.specs.declared.image.Image.{Image}
 use Rattle.elf_loader.specs.Elf.{header_at, header_count, headers, entry_of}
 use Rattle.elf_loader.specs.Faults.{IsFaultless}
 use Rattle.elf_loader.specs.Layout.{byte_of, covers, end_of, first_break, greatest_end, image_byte, image_bytes, marked_lines, takes_memory, touches}
-use Rattle.elf_loader.specs.Memory.{IsImage, IsMemory}
+use Rattle.asc_base.specs.Memory.{IsMemory}
+use Rattle.elf_loader.specs.Memory.{IsImage}
 use Rattle.elf_loader.proofs.Covered.{covers-touches}
 use Rattle.elf_loader.proofs.Laid.{any_header, find_headers, fold_above, FoundIn, At, Nowhere}
 

@@ -1,15 +1,7 @@
--- The memories that the machine may have, and what an image of one is.
+-- What an image of a memory is.
 use Rattle.std.specs.Prelude.{◌≡◌, ℕ, ◌+◌, ◌/◌, ◌%◌, ◌<◌, ◌≤◌, slice_index, vec_len, All, Contains}
 use Rattle.std.specs.List.Sorted.{IsStrictlyIncreasing}
 use Rattle.elf_loader.specs.declared.image.Image.{Image}
-
--- a memory of `size` bytes from `base` on
-pub record IsMemory (base size : ℕ) : Type 0 where
-  pub size_from : 4096 ≤ size
-  pub size_to : size ≤ 16777216
-  pub size_pages : size % 4096 ≡ 0
-  pub base_pages : base % 4096 ≡ 0
-  pub below_top : base + size ≤ 4294901760
 
 -- the image is one of the memory of `size` bytes from `base` on
 pub record IsImage (base size : ℕ) (image : Image) : Type 0 where

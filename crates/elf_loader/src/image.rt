@@ -5,7 +5,7 @@ ghost use Rattle.std.specs.List.{list_any};
 ghost use Rattle.elf_loader.specs.Elf.{headers};
 ghost use Rattle.elf_loader.specs.Faults.{HasTable, IsBadSegment, IsFaultless, IsOutside};
 ghost use Rattle.elf_loader.specs.Layout.{first_break, greatest_end, image_bytes, marked_lines, touches, IsPlaced};
-ghost use Rattle.elf_loader.specs.Memory.{IsMemory};
+ghost use Rattle.asc_base.specs.Memory.{IsMemory};
 
 use crate::header::{self, ProgramHeader};
 use std::alloc::{AllocError, Global};

@@ -11,7 +11,8 @@ ghost use Rattle.std.specs.Prelude.{◌≡◌, ◌≢◌, ◌↔◌, ◌<◌, �
 ghost use Rattle.elf_loader.specs.Elf.{entry_of, header_at, header_count};
 ghost use Rattle.elf_loader.specs.Faults.{IsFaultless, IsFirstFault, IsLoad, IsReadable};
 ghost use Rattle.elf_loader.specs.Layout.{first_break, image_bytes, marked_lines};
-ghost use Rattle.elf_loader.specs.Memory.{IsImage, IsMemory};
+ghost use Rattle.asc_base.specs.Memory.{IsMemory};
+ghost use Rattle.elf_loader.specs.Memory.{IsImage};
 ghost use Rattle.elf_loader.specs.declared.fault.ElfFault.{ElfFault as Fault};
 
 pub use fault::ElfFault;
