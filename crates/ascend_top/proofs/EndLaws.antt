@@ -2,7 +2,7 @@
 use Rattle.std.proofs.Common.{◌≡◌, ◌⊎◌, ℕ, ◌<◌, ◌≤◌, List, ◌++◌, Option, Some, None, Result, Ok, Err, IsSome, option_map, length, take, refl, sym, ap, subst, ◌∙◌, inl, inr, arith, append_assoc, append-nil}
 use Rattle.asc_outside.specs.Host.{HostCall, HostState, Files, Rose, OthersStay}
 use Rattle.elf_loader.specs.Faults.{IsFault}
-use Rattle.ascend_top.specs.Command.{Completes, Runs, HasAsked, StepsEnd, Reports, Refuses, CommandEnds, AsksMore, PrintsMore, PrintsText, Unprinted, step_calls, print_calls}
+use Rattle.ascend_top.specs.Command.{Completes, Runs, HasAsked, StepsEnd, Reports, Refuses, CommandEnds, HasOutput, Written, AsksMore, PrintsMore, PrintsText, Unprinted, step_calls, print_calls}
 use Rattle.ascend_top.specs.Endings.{status_of, status_of_ending, status_of_flat}
 use Rattle.ascend_top.specs.Flat.{memory_base, memory_size, flat_ending, run_of}
 use Rattle.ascend_top.specs.Texts.{refusal_text}
@@ -29,19 +29,19 @@ ends_with_run given ending old new steps reports = record {
   reports = reports;
   text = tt;
   others = steps.others;
-  calls = ((steps.calls).0, (steps.calls).1, (steps.calls).3 ∙ ap (λ calls. option_map (λ before. before ++ calls) old.asked) (sym (append-nil (take ((steps.calls).0) (step_calls given)))));
+  calls = ((steps.calls).0, (steps.calls).1, (steps.calls).3, (steps.calls).4 ∙ ap (λ calls. option_map (λ before. before ++ calls) old.asked) (sym (append-nil (take ((steps.calls).0) (step_calls given)))));
 }
 
--- a refusal whose text is printed comes before the last call
-asked_before_last : (refusal : Refusal) (count : ℕ) → IsSome (refusal_text refusal) → HasAsked (Err refusal) count → count < 4
-asked_before_last (Usage word) count some has = absurd has
-asked_before_last (Elf fault) count some has = omega (arith, has)
-asked_before_last (KeyLength length) count some has = omega (arith, has)
-asked_before_last (TooLong Key) count some has = omega (arith, has)
-asked_before_last (TooLong ElfName) count some has = omega (arith, has)
-asked_before_last (TooLong Output) count some has = absurd has
-asked_before_last Host count some has = absurd (let no : ⊥ = cc in no)
-asked_before_last NoMemory count some has = absurd (let no : ⊥ = cc in no)
+-- a refusal whose text is printed comes before the write of the output file
+asked_before_write : (refusal : Refusal) (count : ℕ) → IsSome (refusal_text refusal) → HasAsked (Err refusal) count → count < 3
+asked_before_write (Usage word) count some has = absurd has
+asked_before_write (Elf fault) count some has = omega (arith, has)
+asked_before_write (KeyLength length) count some has = omega (arith, has)
+asked_before_write (TooLong Key) count some has = omega (arith, has)
+asked_before_write (TooLong ElfName) count some has = omega (arith, has)
+asked_before_write (TooLong Output) count some has = absurd has
+asked_before_write Host count some has = absurd (let no : ⊥ = cc in no)
+asked_before_write NoMemory count some has = absurd (let no : ⊥ = cc in no)
 
 -- the text of a refusal was printed where nothing was printed before
 text_printed : (text : Option (List ℕ)) (old mid new : HostState) → old.faults ≤ mid.faults → Unprinted text old.printed mid.printed → PrintsText text mid new → PrintsText text old new
@@ -53,11 +53,15 @@ text_printed (Some text) old mid new later quiet (inr rose) = inr (rose_later ol
 pub ends_with_refusal : (given : RunValues) (refusal end : Refusal) (old mid new : HostState) → StepsEnd 0 given (Err refusal) old mid → Refuses refusal end mid new → CommandEnds given (Err end) old new
 ends_with_refusal given refusal end old mid new steps refuses = ends refuses.same
   where
-    calls_of : (other : Refusal) → end ≡ other → HasAsked (Err other) ((steps.calls).0) → (count : ℕ) × HasAsked (Err other) count × AsksMore old.asked (take count (step_calls given) ++ print_calls (refusal_text other)) new.asked
-    calls_of other e has = ((steps.calls).0, has, asks_both old.asked mid.asked new.asked _ _ ((steps.calls).3) (subst (λ r. AsksMore mid.asked (print_calls (refusal_text r)) new.asked) e refuses.asked))
+    calls_of : (other : Refusal) → end ≡ other → HasAsked (Err other) ((steps.calls).0) → Written given (Err other) ((steps.calls).0) old new
+        → (count : ℕ) × HasAsked (Err other) count × Written given (Err other) count old new × AsksMore old.asked (take count (step_calls given) ++ print_calls (refusal_text other)) new.asked
+    calls_of other e has written = ((steps.calls).0, has, written, asks_both old.asked mid.asked new.asked _ _ ((steps.calls).4) (subst (λ r. AsksMore mid.asked (print_calls (refusal_text r)) new.asked) e refuses.asked))
 
     others : OthersStay given.output old.files new.files
     others = subst (λ (f : Option Files). OthersStay given.output old.files f) (sym refuses.files) steps.others
+
+    written : Written given (Err refusal) ((steps.calls).0) old new
+    written three spared files elf told is = subst (λ (f : Option Files). HasOutput given (run_of elf) f) (sym refuses.files) ((steps.calls).3 three spared files elf told is)
 
     ends : (end ≡ refusal) ⊎ (IsSome (refusal_text refusal) × (end ≡ NoMemory)) → CommandEnds given (Err end) old new
     ends (inl e) = subst (λ r. CommandEnds given (Err r) old new) (sym e) (record {
@@ -66,7 +70,7 @@ ends_with_refusal given refusal end old mid new steps refuses = ends refuses.sam
       reports = λ files elf told is. tt;
       text = text_printed (refusal_text refusal) old mid new steps.later steps.quiet (subst (λ r. PrintsText (refusal_text r) mid new) e refuses.printed);
       others = others;
-      calls = calls_of refusal e ((steps.calls).1);
+      calls = calls_of refusal e ((steps.calls).1) written;
     })
       where
         rose_after : ◌≡◌ {A = Result Ending Refusal} (Err refusal) (Err Host) → Rose old.faults new.faults
@@ -77,7 +81,9 @@ ends_with_refusal given refusal end old mid new steps refuses = ends refuses.sam
       reports = λ files elf told is. tt;
       text = tt;
       others = others;
-      calls = calls_of NoMemory e.1 (asked_before_last refusal ((steps.calls).0) e.0 ((steps.calls).1));
+      calls =
+          let few = asked_before_write refusal ((steps.calls).0) e.0 ((steps.calls).1) in
+          calls_of NoMemory e.1 (omega (arith, few)) (λ three. absurd (let no : ⊥ = omega (arith, few, three) in no));
     })
 
 -- one file has one content

@@ -1,13 +1,13 @@
 -- How the steps of a command compose.
-use Rattle.std.proofs.Common.{◌≡◌, ℕ, ◌≤◌, List, [], ◌∷◌, ◌++◌, Option, Some, None, Result, Err, IfSome, IfErr, take, drop, option_map, zero, suc, refl, sym, ap, subst, ◌∙◌, arith, append_assoc, append-nil}
+use Rattle.std.proofs.Common.{◌≡◌, ℕ, ◌≤◌, ◌<◌, List, [], ◌∷◌, ◌++◌, Option, Some, None, Result, Err, IfSome, IfErr, take, drop, option_map, zero, suc, refl, sym, ap, subst, ◌∙◌, arith, append_assoc, append-nil}
 use Rattle.asc_outside.specs.Host.{HostCall, Reads, Writes, Prints, HostState, Files, Rose, IsLonger, OthersStay, asked_after}
 use Rattle.std.specs.Option.{is_some}
 use Rattle.asc_outside.specs.declared.host.HostFault.{HostFault}
 use Rattle.asc_outside.specs.declared.host.HostFault.TheVariants.{Failed, TooLong as TooLongFile, NoMemory as OutOfMemory}
-use Rattle.ascend_top.specs.Command.{HasKey, StepsEnd, Reports, ReadsOn, AsksMore, PrintsMore, Unprinted, elf_limit}
+use Rattle.ascend_top.specs.Command.{HasKey, HasOutput, StepsEnd, Reports, ReadsOn, AsksMore, PrintsMore, Unprinted, elf_limit}
 use Rattle.rv32_core.specs.FlatRun.{FlatRun}
 use Rattle.ascend_top.specs.Endings.{refusal_of}
-use Rattle.ascend_top.specs.Flat.{EndsAs, flat_ending, output_of}
+use Rattle.ascend_top.specs.Flat.{EndsAs, flat_ending, output_of, run_of}
 use Rattle.ascend_top.specs.Texts.{report_of, refusal_text}
 use Rattle.ascend_top.specs.Words.{RunValues}
 use Rattle.ascend_top.specs.declared.ending.Ending.{Ending}
@@ -65,7 +65,8 @@ module _ (given : RunValues) (end : Result Ending Refusal) (old mid new : HostSt
       (rest.calls).0,
       (rest.calls).1,
       omega arith,
-      asks_on old.asked mid.asked new.asked (Reads given.key) _ _ read.asked ((rest.calls).3) (calls_from_first (Reads given.key) _ ((rest.calls).0) ((rest.calls).2)),
+      λ asked spared files elf told is. (rest.calls).3 asked spared files elf (read.files ∙ told) is,
+      asks_on old.asked mid.asked new.asked (Reads given.key) _ _ read.asked ((rest.calls).4) (calls_from_first (Reads given.key) _ ((rest.calls).0) ((rest.calls).2)),
     );
   }
 
@@ -81,9 +82,14 @@ module _ (given : RunValues) (end : Result Ending Refusal) (old mid new : HostSt
       (rest.calls).0,
       (rest.calls).1,
       omega (arith, (rest.calls).2),
-      asks_on old.asked mid.asked new.asked (Reads given.elf) _ _ read.asked ((rest.calls).3) (calls_from_second (Reads given.key) (Reads given.elf) _ ((rest.calls).0) ((rest.calls).2)),
+      λ asked spared files elf told is. (rest.calls).3 asked spared files elf (read.files ∙ told) is,
+      asks_on old.asked mid.asked new.asked (Reads given.elf) _ _ read.asked ((rest.calls).4) (calls_from_second (Reads given.key) (Reads given.elf) _ ((rest.calls).0) ((rest.calls).2)),
     );
   }
+
+-- so few calls were asked that the write of the output file wasn't
+unasked : {P : Type 0} (count : ℕ) → count < 3 → 3 ≤ count → P
+unasked count few three = absurd (let no : ⊥ = omega (arith, few, three) in no)
 
 -- no memory for the run
 pub takes_no_memory : (given : RunValues) (state : HostState) → StepsEnd 2 given (Err NoMemory) state state
@@ -93,7 +99,7 @@ takes_no_memory given state = record {
   quiet = tt;
   others = others_same given.output state.files state.files refl;
   later = omega arith;
-  calls = (2, omega arith, omega arith, asks_none state.asked state.asked refl);
+  calls = (2, omega arith, omega arith, unasked 2 (omega arith), asks_none state.asked state.asked refl);
 }
 
 -- the read of the ELF file was refused
@@ -107,7 +113,7 @@ takes_unread_elf T given Failed old new long cause later files printed asked = r
   quiet = tt;
   others = others_same given.output old.files new.files files;
   later = later;
-  calls = (2, (omega arith, omega arith), omega arith, asked);
+  calls = (2, (omega arith, omega arith), omega arith, unasked 2 (omega arith), asked);
 }
 takes_unread_elf T given TooLongFile old new long cause later files printed asked = record {
   cause = λ files' told reached. (reached, at_some (λ f. IsLonger f given.elf elf_limit) old.files files' (long refl) told);
@@ -115,7 +121,7 @@ takes_unread_elf T given TooLongFile old new long cause later files printed aske
   quiet = printed;
   others = others_same given.output old.files new.files files;
   later = later;
-  calls = (2, refl, omega arith, asked);
+  calls = (2, refl, omega arith, unasked 2 (omega arith), asked);
 }
 takes_unread_elf T given OutOfMemory old new long cause later files printed asked = record {
   cause = λ files' told reached. tt;
@@ -123,7 +129,7 @@ takes_unread_elf T given OutOfMemory old new long cause later files printed aske
   quiet = tt;
   others = others_same given.output old.files new.files files;
   later = later;
-  calls = (1, omega arith, omega arith, asks_none old.asked new.asked asked);
+  calls = (1, omega arith, omega arith, unasked 1 (omega arith), asks_none old.asked new.asked asked);
 }
 
 -- the write of the output file was refused
@@ -137,7 +143,7 @@ takes_unwritten T given Failed old new long cause later others asked = record {
   quiet = tt;
   others = others;
   later = later;
-  calls = (3, (omega arith, omega arith), omega arith, asked);
+  calls = (3, (omega arith, omega arith), omega arith, λ three spared. absurd (let no : ⊥ = omega (arith, three, spared refl) in no), asked);
 }
 takes_unwritten T given TooLongFile old new long cause later others asked = absurd (long refl)
 takes_unwritten T given OutOfMemory old new long cause later others asked = record {
@@ -146,31 +152,44 @@ takes_unwritten T given OutOfMemory old new long cause later others asked = reco
   quiet = tt;
   others = others;
   later = later;
-  calls = (2, omega arith, omega arith, asks_none old.asked new.asked asked);
+  calls = (2, omega arith, omega arith, unasked 2 (omega arith), asks_none old.asked new.asked asked);
 }
 
 -- the output file was written, and the print of the report refused
 pub takes_unprinted : (T : Type 0) (given : RunValues) (fault : HostFault) (old mid new : HostState)
     → old.faults ≤ mid.faults → OthersStay given.output old.files mid.files → AsksMore old.asked (Writes given.output ∷ []) mid.asked
+    → ((files : Files) (elf : List ℕ) → old.files ≡ Some files → files given.elf ≡ Some elf → HasOutput given (run_of elf) mid.files)
     → (fault ≡ TooLongFile → ⊥) → (fault ≡ Failed → Rose mid.faults new.faults)
     → mid.faults ≤ new.faults → new.files ≡ mid.files → new.asked ≡ asked_after {T = T} mid.asked Prints (Err fault)
     → StepsEnd 2 given (Err (refusal_of Output fault)) old new
-takes_unprinted T given Failed old mid new before others written long cause later files asked = record {
+takes_unprinted T given Failed old mid new before others asked_write written long cause later files asked = record {
   cause = λ files' told reached. tt;
   fault = λ e. rose_later old.faults mid.faults new.faults before (cause refl);
   quiet = tt;
   others = subst (λ (f : Option Files). OthersStay given.output old.files f) (sym files) others;
   later = omega (arith, before, later);
-  calls = (4, (omega arith, omega arith), omega arith, asks_on old.asked mid.asked new.asked (Writes given.output) (Prints ∷ []) _ written asked refl);
+  calls = (
+    4,
+    (omega arith, omega arith),
+    omega arith,
+    λ three spared files' elf told is. subst (λ (f : Option Files). HasOutput given (run_of elf) f) (sym files) (written files' elf told is),
+    asks_on old.asked mid.asked new.asked (Writes given.output) (Prints ∷ []) _ asked_write asked refl,
+  );
 }
-takes_unprinted T given TooLongFile old mid new before others written long cause later files asked = absurd (long refl)
-takes_unprinted T given OutOfMemory old mid new before others written long cause later files asked = record {
+takes_unprinted T given TooLongFile old mid new before others asked_write written long cause later files asked = absurd (long refl)
+takes_unprinted T given OutOfMemory old mid new before others asked_write written long cause later files asked = record {
   cause = λ files' told reached. tt;
   fault = λ e. absurd (let no : ⊥ = cc in no);
   quiet = tt;
   others = subst (λ (f : Option Files). OthersStay given.output old.files f) (sym files) others;
   later = omega (arith, before, later);
-  calls = (3, omega arith, omega arith, asks_on old.asked mid.asked new.asked (Writes given.output) [] _ written (asks_none mid.asked new.asked asked) refl);
+  calls = (
+    3,
+    omega arith,
+    omega arith,
+    λ three spared files' elf told is. subst (λ (f : Option Files). HasOutput given (run_of elf) f) (sym files) (written files' elf told is),
+    asks_on old.asked mid.asked new.asked (Writes given.output) [] _ asked_write (asks_none mid.asked new.asked asked) refl,
+  );
 }
 
 -- the output file was written, and the report printed

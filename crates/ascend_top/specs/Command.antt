@@ -1,15 +1,18 @@
--- What the command `run` does with its host, step by step: the key file, the ELF file, the run, the output file, the report.
-use Rattle.std.specs.Prelude.{◌≡◌, ◌⊎◌, ℕ, ◌≤◌, ◌<◌, List, [], ◌∷◌, ◌++◌, Option, Some, None, Result, Ok, Err, IfErr, OnOk, IfSome, IsSome, option_map, length, take, drop, zero, suc}
+-- What the command `run` does with its host, step by step: the key file, the ELF file, the run, the output file, the
+-- report.
+use Rattle.std.specs.Prelude.{◌≡◌, ◌⊎◌, ℕ, ◌≤◌, ◌<◌, List, [], ◌∷◌, ◌++◌, length, take, drop, zero, suc}
+use Rattle.std.specs.Prelude.{Option, Some, None, Result, Ok, Err, IfErr, OnOk, IfSome, IsSome, option_map}
 use Rattle.asc_outside.specs.Host.{HostCall, Reads, Writes, Prints, HostState, Files, Rose, IsLonger, OthersStay}
 use Rattle.elf_loader.specs.Faults.{IsFaultless, IsFirstFault}
 use Rattle.rv32_core.specs.FlatRun.{FlatRun}
 use Rattle.ascend_top.specs.Endings.{status_of_flat}
-use Rattle.ascend_top.specs.Flat.{memory_base, memory_size, run_of, output_of, flat_ending}
+use Rattle.ascend_top.specs.Flat.{IsOutcome, memory_base, memory_size, run_of, output_of, flat_ending}
 use Rattle.ascend_top.specs.Texts.{report_text, refusal_text}
 use Rattle.ascend_top.specs.Words.{RunValues}
 use Rattle.ascend_top.specs.declared.ending.Ending.{Ending}
 use Rattle.ascend_top.specs.declared.ending.Refusal.{Refusal}
 use Rattle.ascend_top.specs.declared.ending.Refusal.TheVariants.{Usage, Elf, KeyLength, TooLong, Host, NoMemory}
+use Rattle.ascend_top.specs.declared.flat.FlatOutcome.{FlatOutcome}
 use Rattle.ascend_top.specs.declared.words.Name.TheVariants.{Key, Elf as ElfName, Output}
 
 -- the length of a key, and the greatest length of its file
@@ -82,19 +85,36 @@ abbrev pub Unprinted : Option (List ℕ) → Option (List ℕ) → Option (List 
 Unprinted None old new = Unit {0}
 Unprinted (Some text) old new = new ≡ old
 
+-- where the files are told, this is the outcome of the ELF file's run
+abbrev pub IsElfOutcome : RunValues → Option Files → FlatOutcome → Type 0
+IsElfOutcome given told outcome =
+    (files : Files) (elf : List ℕ) → told ≡ Some files → files given.elf ≡ Some elf → IsOutcome (run_of elf) outcome
+
+-- where the files are told, the output file is the output of this run
+abbrev pub HasOutput : RunValues → FlatRun → Option Files → Type 0
+HasOutput given run told = IfSome told (λ files. files given.output ≡ Some (output_of run))
+
+-- Where the write of the output file was asked, and it isn't the call that failed, the file is the output of the ELF
+-- file's run: so it is wherever the print of the report was asked.
+abbrev pub Written : RunValues → Result Ending Refusal → ℕ → HostState → HostState → Type 0
+Written given end count old new = 3 ≤ count → (end ≡ Err Host → count ≡ 4) → (files : Files) (elf : List ℕ)
+    → old.files ≡ Some files → files given.elf ≡ Some elf → HasOutput given (run_of elf) new.files
+
 -- What the steps from one on do, by how they end. It has its cause in the files, where they are told; a failure of the
--- host is one that it counts; nothing is printed before a refusal's text; no file but the output file is changed; and the calls are the steps' own, each once.
+-- host is one that it counts; nothing is printed before a refusal's text; no file but the output file is changed. The
+-- calls are the steps' own, each once; and after the write, if it didn't fail, the output file is the run's output.
 pub record StepsEnd (start : ℕ) (given : RunValues) (end : Result Ending Refusal) (old new : HostState) : Type 0 where
   pub cause : (files : Files) → old.files ≡ Some files → Reached start files given → IsCause files given end
   pub fault : end ≡ Err Host → Rose old.faults new.faults
   pub quiet : IfErr end (λ refusal. Unprinted (refusal_text refusal) old.printed new.printed)
   pub others : OthersStay given.output old.files new.files
   pub later : old.faults ≤ new.faults
-  pub calls : (count : ℕ) × HasAsked end count × (start ≤ count) × AsksMore old.asked (drop start (take count (step_calls given))) new.asked
+  pub calls : (count : ℕ) × HasAsked end count × (start ≤ count) × Written given end count old new
+      × AsksMore old.asked (drop start (take count (step_calls given))) new.asked
 
 -- A run was reported: the output file is its output, and its report is printed.
 pub record Reports (given : RunValues) (run : FlatRun) (old new : HostState) : Type 0 where
-  pub output : IfSome new.files (λ files. files given.output ≡ Some (output_of run))
+  pub output : HasOutput given run new.files
   pub report : PrintsMore old.printed (report_text run) new.printed
 
 -- A step read a file: its call was answered.
@@ -128,17 +148,20 @@ abbrev pub last_calls : Result Ending Refusal → List HostCall
 last_calls (Ok ending) = []
 last_calls (Err refusal) = print_calls (refusal_text refusal)
 
--- What the command `run` does, by how it ends. It has its cause in the files, where they are told; a failure of the host
--- is one that it counts. After a run the output file is the run's output, and the report is printed; after a refusal
--- its text is. No file but the output file is changed. The calls are those of the steps up to the first refusal, each
--- once and in order, and then the print of the refusal's text.
+-- What the command `run` does, by how it ends. It has its cause in the files, where they are told; a failure of the
+-- host is one that it counts. After a run the output file is the run's output, and the report is printed; after a
+-- refusal its text is. No file but the output file is changed. The calls are those of the steps up to the first
+-- refusal, each once and in order, and then the print of the refusal's text. Wherever the write of the output file was
+-- asked and didn't fail, so also where the print of the report failed after it, the output file is the run's output.
 pub record CommandEnds (given : RunValues) (end : Result Ending Refusal) (old new : HostState) : Type 0 where
   pub cause : (files : Files) → old.files ≡ Some files → IsCause files given end
   pub fault : end ≡ Err Host → Rose old.faults new.faults
-  pub reports : (files : Files) (elf : List ℕ) → old.files ≡ Some files → files given.elf ≡ Some elf → OnOk end (Reports given (run_of elf) old new)
+  pub reports : (files : Files) (elf : List ℕ) → old.files ≡ Some files → files given.elf ≡ Some elf
+      → OnOk end (Reports given (run_of elf) old new)
   pub text : IfErr end (λ refusal. PrintsText (refusal_text refusal) old new)
   pub others : OthersStay given.output old.files new.files
-  pub calls : (count : ℕ) × HasAsked end count × AsksMore old.asked (take count (step_calls given) ++ last_calls end) new.asked
+  pub calls : (count : ℕ) × HasAsked end count × Written given end count old new
+      × AsksMore old.asked (take count (step_calls given) ++ last_calls end) new.asked
 
 -- What a command comes to whose files are right and whose host never fails: its run is reported, or there is no memory.
 abbrev pub Completes : RunValues → List ℕ → ℕ → HostState → HostState → Type 0

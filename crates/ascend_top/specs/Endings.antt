@@ -1,7 +1,8 @@
 -- The status of a command, by how its run ended or why it was refused.
 use Rattle.std.specs.Prelude.{ℕ, Result, Ok, Err}
 use Rattle.asc_outside.specs.declared.host.HostFault.{HostFault}
-use Rattle.asc_outside.specs.declared.host.HostFault.TheVariants.{Failed, TooLong as TooLongFile, NoMemory as OutOfMemory}
+use Rattle.asc_outside.specs.declared.host.HostFault.TheVariants.{Failed, TooLong as TooLongFile}
+use Rattle.asc_outside.specs.declared.host.HostFault.TheVariants.{NoMemory as OutOfMemory}
 use Rattle.rv32_core.specs.FlatRun.{FlatEnding, Exited, Trapped, Budget as OutOfBudget}
 use Rattle.ascend_top.specs.declared.words.Name.{Name}
 use Rattle.ascend_top.specs.declared.ending.Ending.{Ending}

@@ -32,7 +32,8 @@ flat_run_over instructions entry heap bytes =
 -- the flat run of a program file
 unfoldable pub run_of : List ℕ → FlatRun
 run_of file =
-    flat_run_over budget (entry_of file) (first_break memory_base memory_size file) (image_bytes memory_base memory_size file)
+    flat_run_over budget (entry_of file) (first_break memory_base memory_size file)
+    (image_bytes memory_base memory_size file)
 
 -- the output of a flat run
 abbrev pub output_of : FlatRun → List ℕ

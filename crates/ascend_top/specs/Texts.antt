@@ -4,7 +4,7 @@ use Rattle.std.specs.Fmt.{decimal}
 use Rattle.elf_loader.specs.declared.fault.ElfFault.{ElfFault}
 use Rattle.elf_loader.specs.declared.fault.ElfFault.TheVariants.{Short, Magic, Class, Order, Version, FileType, Machine, Compressed, HeaderSize, Table, Interp, Segment, Outside, Overlap, Entry, NoMemory as NoElfMemory}
 use Rattle.rv32_core.specs.declared.outcome.TrapKind.{TrapKind}
-use Rattle.rv32_core.specs.declared.outcome.TrapKind.TheVariants.{FetchFault, OutputLimit, NotYet}
+use Rattle.rv32_core.specs.declared.outcome.TrapKind.TheVariants.{FetchFault, Illegal, FetchMisaligned, LoadMisaligned, StoreMisaligned, LoadFault, StoreFault, Breakpoint, OutputLimit}
 use Rattle.rv32_core.specs.FlatRun.{FlatRun, FlatEnding, Exited, Trapped, Budget}
 use Rattle.ascend_top.specs.Words.{name_text}
 use Rattle.ascend_top.specs.declared.ending.Refusal.{Refusal}
@@ -17,8 +17,14 @@ line text = text ++ 10 ∷ []
 -- the kind of a trap, as it is printed
 abbrev pub kind_text : TrapKind → List ℕ
 kind_text FetchFault = codes "FetchFault"
+kind_text Illegal = codes "Illegal"
+kind_text FetchMisaligned = codes "FetchMisaligned"
+kind_text LoadMisaligned = codes "LoadMisaligned"
+kind_text StoreMisaligned = codes "StoreMisaligned"
+kind_text LoadFault = codes "LoadFault"
+kind_text StoreFault = codes "StoreFault"
+kind_text Breakpoint = codes "Breakpoint"
 kind_text OutputLimit = codes "OutputLimit"
-kind_text NotYet = codes "NotYet"
 
 -- the ending, as it is printed
 abbrev pub ending_text : FlatEnding → List ℕ

@@ -1,6 +1,7 @@
 -- The grammar of the command line. The first word is the command; each other word is `name=value` with a name
 -- of the command, each at most once, in any order. Texts are lists of bytes.
-use Rattle.std.specs.Prelude.{◌≡◌, ◌≢◌, ℕ, ◌+◌, ◌⊎◌, List, [], ◌∷◌, ◌++◌, length, map, codes, String, string_bytes, Option, Some, None, option_copied, Bool, MatchBool}
+use Rattle.std.specs.Prelude.{◌≡◌, ◌≢◌, ℕ, ◌+◌, ◌⊎◌, List, [], ◌∷◌, ◌++◌, length, map, codes, String, string_bytes}
+use Rattle.std.specs.Prelude.{Option, Some, None, option_copied, Bool, MatchBool}
 use Rattle.ascend_top.specs.declared.words.Name.{Name}
 use Rattle.ascend_top.specs.declared.words.Name.TheVariants.{Elf, Key, Output}
 use Rattle.ascend_top.specs.declared.words.RunWords.{RunWords}

@@ -5,8 +5,9 @@ ghost use Rattle.rv32_core.specs.StepPlan.{machine_of};
 ghost use Rattle.ascend_top.specs.Flat.{EndsAs, IsOutcome, flat_run_over, memory_base, memory_size};
 
 use crate::ending::Ending;
+use asc_base::NoMemory;
 use elf_loader::Image;
-use rv32_core::{Core, Ended, Files, FlatBytes, NoMemory};
+use rv32_core::{Core, Ended, Files, FlatBytes};
 use std::alloc::Global;
 
 /// Where the memory begins.

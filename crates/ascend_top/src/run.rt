@@ -2,7 +2,7 @@ ghost use Rattle.std.specs.Prelude.{◌≡◌, ◌≤◌, [], ◌∷◌, ℕ, Li
 ghost use Rattle.asc_outside.specs.Host.{Files, Reads, Writes, Prints, OthersStay};
 ghost use Rattle.elf_loader.specs.Memory.{IsImage};
 ghost use Rattle.rv32_core.specs.FlatRun.{FlatRun};
-ghost use Rattle.ascend_top.specs.Command.{HasKey, IsElf, StepsEnd, Reports, ReadsOn, AsksMore};
+ghost use Rattle.ascend_top.specs.Command.{HasKey, IsElf, IsElfOutcome, StepsEnd, Reports, ReadsOn, AsksMore};
 ghost use Rattle.ascend_top.specs.Endings.{refusal_of};
 ghost use Rattle.ascend_top.specs.Flat.{IsImageOf, IsOutcome, memory_base, memory_size, run_of};
 ghost use Rattle.ascend_top.specs.Words.{run_values};
@@ -37,9 +37,11 @@ fn refusal_of(name: Name, fault: HostFault) -> Refusal
 
 /// Reads the key file, which has a key's length.
 fn read_key<H: Host>(alloc: Global, words: &RunWords<'_>, host: &mut H) -> Result<(), Refusal>
-    ensures key { OnOk result ((files : Files) → (H.state host.old).files ≡ Some files → HasKey files (run_values words.now)) }
+    ensures key { OnOk result ((files : Files) → (H.state host.old).files ≡ Some files
+        → HasKey files (run_values words.now)) }
     ensures read { OnOk result (ReadsOn (Reads words.now.key.now) (H.state host.old) (H.state host.new)) }
-    ensures refused { IfErr result (λ refusal. StepsEnd 0 (run_values words.now) (Err refusal) (H.state host.old) (H.state host.new)) }
+    ensures refused { IfErr result (λ refusal.
+        StepsEnd 0 (run_values words.now) (Err refusal) (H.state host.old) (H.state host.new)) }
 {
     let key = match host.read_file(alloc, words.key, KEY_LENGTH) {
         Ok(key) => key,
@@ -57,7 +59,8 @@ fn read_elf<H: Host>(alloc: Global, words: &RunWords<'_>, host: &mut H) -> Resul
     ensures image { IfOk result (λ image. (files : Files) → (H.state host.old).files ≡ Some files
         → (elf : List ℕ) × IsElf files (run_values words.now) elf × IsImageOf elf image) }
     ensures read { OnOk result (ReadsOn (Reads words.now.elf.now) (H.state host.old) (H.state host.new)) }
-    ensures refused { IfErr result (λ refusal. StepsEnd 1 (run_values words.now) (Err refusal) (H.state host.old) (H.state host.new)) }
+    ensures refused { IfErr result (λ refusal.
+        StepsEnd 1 (run_values words.now) (Err refusal) (H.state host.old) (H.state host.new)) }
 {
     let file = match host.read_file(alloc, words.elf, ELF_LIMIT) {
         Ok(file) => file,
@@ -77,11 +80,14 @@ fn finish<H: Host>(
     outcome: &FlatOutcome,
     host: &mut H,
 ) -> Result<(), Refusal>
-    ensures reports { OnOk result ((run : FlatRun) → IsOutcome run outcome.now → Reports (run_values words.now) run (H.state host.old) (H.state host.new)) }
+    ensures reports { OnOk result ((run : FlatRun) → IsOutcome run outcome.now
+        → Reports (run_values words.now) run (H.state host.old) (H.state host.new)) }
     ensures others { OthersStay words.now.output.now (H.state host.old).files (H.state host.new).files }
     ensures later { (H.state host.old).faults ≤ (H.state host.new).faults }
-    ensures asked { OnOk result (AsksMore (H.state host.old).asked (Writes words.now.output.now ∷ Prints ∷ []) (H.state host.new).asked) }
-    ensures refused { IfErr result (λ refusal. StepsEnd 2 (run_values words.now) (Err refusal) (H.state host.old) (H.state host.new)) }
+    ensures asked { OnOk result (AsksMore (H.state host.old).asked (Writes words.now.output.now ∷ Prints ∷ [])
+        (H.state host.new).asked) }
+    ensures refused { IfErr result (λ refusal. IsElfOutcome (run_values words.now) (H.state host.old).files outcome.now
+        → StepsEnd 2 (run_values words.now) (Err refusal) (H.state host.old) (H.state host.new)) }
 {
     match host.write_file(words.output, outcome.output.as_slice()) {
         Ok(()) => {}
@@ -105,7 +111,8 @@ pub(crate) fn run<H: Host>(
     host: &mut H,
 ) -> Result<Ending, Refusal>
     ensures takes { StepsEnd 0 (run_values words.now) result (H.state host.old) (H.state host.new) }
-    ensures reports { OnOk result ((files : Files) (elf : List ℕ) → (H.state host.old).files ≡ Some files → files words.now.elf.now ≡ Some elf
+    ensures reports { OnOk result ((files : Files) (elf : List ℕ) → (H.state host.old).files ≡ Some files
+        → files words.now.elf.now ≡ Some elf
         → Reports (run_values words.now) (run_of elf) (H.state host.old) (H.state host.new)) }
 {
     read_key(alloc, words, host)?;

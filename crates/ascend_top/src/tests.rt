@@ -65,12 +65,26 @@ fn runs_and_refuses(rt: HostRuntime) -> Result<(), Fail> {
     let exit = elf(alloc, &EXIT, "")?;
     let status = elf(alloc, &[0x0070_0513, 0x05d0_0893, 0x0000_0073], "")?;
     let other = elf(alloc, &[0x0000_0013, 0xffff_ffff], "")?;
-    let call = elf(alloc, &[0x3e80_0893, 0x0000_0073], "")?;
+    let call = elf(
+        alloc,
+        &[0x3e80_0893, 0x0000_0073, 0x05d0_0893, 0x0000_0073],
+        "",
+    )?;
+    // addi x5, x0, 2; jalr x0, 0(x5)
+    let odd = elf(alloc, &[0x0020_0293, 0x0002_8067], "")?;
+    // lui x5, 0x100; lw x6, 0(x5)
+    let far = elf(alloc, &[0x0010_02b7, 0x0002_a303], "")?;
+    let stop = elf(alloc, &[0x0010_0073], "")?;
+    // behind the program header stands a second one, of a segment inside the first
+    let mut overlapping = elf(alloc, &[1, 84, 65_540, 65_540, 4, 4, 7, 4], "")?;
+    if let Some(headers) = overlapping.get_mut(44) {
+        *headers = 2;
+    }
     let mut short = elf(alloc, &EXIT, "")?;
     short.truncate(51);
     let long = vec![in alloc; 0; 16_777_217]?;
     let line = "run elf=a key=k output=o";
-    let rows: [(&str, usize, &[u8], u8, &str, Option<&[u8]>); 17] = [
+    let rows: [(&str, usize, &[u8], u8, &str, Option<&[u8]>); 21] = [
         (
             line,
             32,
@@ -100,21 +114,46 @@ fn runs_and_refuses(rt: HostRuntime) -> Result<(), Fail> {
             32,
             other.as_slice(),
             1,
-            "end trap NotYet 65540\ninstructions 1\n",
+            "end trap Illegal 65540\ninstructions 1\n",
             Some(&[]),
         ),
         (
             line,
             32,
             call.as_slice(),
+            0,
+            "end exit 218\ninstructions 4\n",
+            Some(&[]),
+        ),
+        (
+            line,
+            32,
+            odd.as_slice(),
             1,
-            "end trap NotYet 65540\ninstructions 1\n",
+            "end trap FetchMisaligned 65540\ninstructions 1\n",
+            Some(&[]),
+        ),
+        (
+            line,
+            32,
+            far.as_slice(),
+            1,
+            "end trap LoadFault 65540\ninstructions 1\n",
+            Some(&[]),
+        ),
+        (
+            line,
+            32,
+            stop.as_slice(),
+            1,
+            "end trap Breakpoint 65536\ninstructions 0\n",
             Some(&[]),
         ),
         (line, 31, exit.as_slice(), 4, "key length 31\n", None),
         (line, 0, exit.as_slice(), 4, "key length 0\n", None),
         (line, 33, exit.as_slice(), 13, "long key\n", None),
         (line, 32, short.as_slice(), 3, "elf Short\n", None),
+        (line, 32, overlapping.as_slice(), 3, "elf Overlap 1\n", None),
         (line, 32, long.as_slice(), 13, "long elf\n", None),
         ("run elf=b key=k output=o", 32, exit.as_slice(), 5, "", None),
         ("run elf=a key=b output=o", 32, exit.as_slice(), 5, "", None),

@@ -13,8 +13,14 @@ fn kind_name(kind: TrapKind) -> &'static str
 {
     match kind {
         TrapKind::FetchFault => "FetchFault",
+        TrapKind::Illegal => "Illegal",
+        TrapKind::FetchMisaligned => "FetchMisaligned",
+        TrapKind::LoadMisaligned => "LoadMisaligned",
+        TrapKind::StoreMisaligned => "StoreMisaligned",
+        TrapKind::LoadFault => "LoadFault",
+        TrapKind::StoreFault => "StoreFault",
+        TrapKind::Breakpoint => "Breakpoint",
         TrapKind::OutputLimit => "OutputLimit",
-        TrapKind::NotYet => "NotYet",
     }
 }
 

@@ -1,7 +1,9 @@
 //! The words of the command line: the first is the command, and each other one is `name=value`.
-ghost use Rattle.std.specs.Prelude.{◌≡◌, ◌≢◌, ℕ, ◌+◌, List, [], ◌∷◌, ◌++◌, length, Option, option_copied, IfOk, IfErr, MatchOption};
+ghost use Rattle.std.specs.Prelude.{◌≡◌, ◌≢◌, ℕ, ◌+◌, List, [], ◌∷◌, ◌++◌, length};
+ghost use Rattle.std.specs.Prelude.{Option, option_copied, IfOk, IfErr, MatchOption};
 ghost use Rattle.std.specs.Bool.{OnFalse};
-ghost use Rattle.ascend_top.specs.Words.{texts, name_text, Gives, AllFit, RunValues, IsRun, IsFault, MisfitAt, run_values, value_in, held, Holds, Takes};
+ghost use Rattle.ascend_top.specs.Words.{texts, name_text, Gives, AllFit, RunValues, IsRun, IsFault, MisfitAt};
+ghost use Rattle.ascend_top.specs.Words.{run_values, value_in, held, Holds, Takes};
 ghost use Rattle.ascend_top.specs.declared.words.Name.{Name};
 
 /// The name of a word.

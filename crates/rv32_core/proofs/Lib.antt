@@ -1,6 +1,10 @@
+pub mod AccessLaws
 pub mod EffectLaws
 pub mod EffectPlans
 pub mod FlatRunLaws
+pub mod ItemLaws
+pub mod LineLaws
 pub mod PlanLaws
 pub mod Served
+pub mod StepLines
 pub mod TransferLaws

@@ -6,15 +6,15 @@ use Rattle.request_plan.specs.Plan.{Plan, Done as Outcome, Ask, Ends}
 use Rattle.request_plan.specs.Play.{served}
 use Rattle.request_plan.proofs.Served.{served-bind}
 use Rattle.rv32_core.specs.Access.{Access, Load, Store, IsAnswer, TellsLoad, TellsStore, access_bytes, slice_of}
-use Rattle.rv32_core.specs.Machine.{Machine, IsEffect, is_inside, effect_of}
-use Rattle.rv32_core.specs.FlatMachine.{FlatStep, going_on, call_cost, after_read, after_write, effected, flat_step}
-use Rattle.rv32_core.specs.StepPlan.{effect_plan, step_plan, TellsStep}
+use Rattle.rv32_core.specs.Machine.{Machine, IsEffect, is_inside, effect_of_word, cost_of_word}
+use Rattle.rv32_core.specs.FlatMachine.{FlatStep, going_on, after_read, after_write, effected, flat_step}
+use Rattle.rv32_core.specs.StepPlan.{effect_plan, word_plan, step_plan, TellsStep}
 use Rattle.rv32_core.specs.Transfer.{pieces, stores_plan, loads_plan}
 use Rattle.rv32_core.specs.declared.effect.Effect.{Effect}
-use Rattle.rv32_core.specs.declared.effect.Effect.TheVariants.{Sets, Answers, Reads, Writes, Exits, Traps}
+use Rattle.rv32_core.specs.declared.effect.Effect.TheVariants.{Passes, Sets, Jumps, Loads, Stores, Answers, Breaks, Reads, Writes, Exits, Traps}
 use Rattle.rv32_core.specs.declared.outcome.Done.{Done}
 use Rattle.rv32_core.specs.declared.outcome.TrapKind.TheVariants.{FetchFault}
-use Rattle.rv32_core.proofs.EffectLaws.{is_buffer-above, effect_of-fine}
+use Rattle.rv32_core.proofs.EffectLaws.{is_buffer-above, effect_of_word-fine}
 use Rattle.rv32_core.proofs.TransferLaws.{served-stores_plan, served-loads_plan}
 
 -- the machine and the answer of a flat step, and its bytes
@@ -26,34 +26,39 @@ pub length-slice_of : (list : List ℕ) (offset count : ℕ) → count ≤ lengt
 length-slice_of list offset count fits = grind (arith, common_steps)
 
 -- an effect's plan is served by a list of bytes to what the effect makes of it
-pub served-effect_plan : (machine : Machine) (memory : List ℕ) (effect : Effect) → IsEffect machine effect
-    → served (access_bytes machine.core.base) (effect_plan machine effect) memory ≡ parts_of (effected machine memory effect)
-served-effect_plan machine memory (Sets index value) fine = refl
-served-effect_plan machine memory (Answers value) fine = refl
-served-effect_plan machine memory (Reads address count) fine =
+pub served-effect_plan : (machine : Machine) (memory : List ℕ) (cost : ℕ) (effect : Effect) → IsEffect machine effect
+    → served (access_bytes machine.core.base) (effect_plan machine cost effect) memory ≡ parts_of (effected machine memory cost effect)
+served-effect_plan machine memory cost Passes fine = refl
+served-effect_plan machine memory cost (Sets index value) fine = refl
+served-effect_plan machine memory cost (Jumps index target) fine = refl
+served-effect_plan machine memory cost (Loads op index address) fine = refl
+served-effect_plan machine memory cost (Stores op address value) fine = refl
+served-effect_plan machine memory cost (Answers value) fine = refl
+served-effect_plan machine memory cost (Breaks value) fine = refl
+served-effect_plan machine memory cost (Reads address count) fine =
     let base = machine.core.base in
     let bytes : List ℕ = slice_of machine.files.input machine.files.position count in
     let all : length bytes ≡ count = length-slice_of machine.files.input machine.files.position count fine.1 in
     served-bind (access_bytes base) (λ _. machine) (stores_plan bytes (pieces address count))
-    (λ _. Outcome (after_read machine count, going_on (call_cost count))) memory
-    ∙ ap (λ (r : Unit {0} × List ℕ). let end : (Machine × Done) × List ℕ = ((after_read machine count, going_on (call_cost count)), r.1) in end)
+    (λ _. Outcome (after_read machine count, going_on cost)) memory
+    ∙ ap (λ (r : Unit {0} × List ℕ). let end : (Machine × Done) × List ℕ = ((after_read machine count, going_on cost), r.1) in end)
     (served-stores_plan base address count bytes memory all (is_buffer-above machine.core address count fine.0))
-served-effect_plan machine memory (Writes address count) fine =
+served-effect_plan machine memory cost (Writes address count) fine =
     let base = machine.core.base in
     served-bind (access_bytes base) (λ _. machine) (loads_plan machine.files.output (pieces address count))
-    (λ output. Outcome (after_write machine output count, going_on (call_cost count))) memory
-    ∙ ap (λ (r : List ℕ × List ℕ). let end : (Machine × Done) × List ℕ = ((after_write machine (r.0) count, going_on (call_cost count)), r.1) in end)
+    (λ output. Outcome (after_write machine output count, going_on cost)) memory
+    ∙ ap (λ (r : List ℕ × List ℕ). let end : (Machine × Done) × List ℕ = ((after_write machine (r.0) count, going_on cost), r.1) in end)
     (served-loads_plan base address count machine.files.output memory (is_buffer-above machine.core address count fine.0))
-served-effect_plan machine memory (Exits status) fine = refl
-served-effect_plan machine memory (Traps kind) fine = refl
+served-effect_plan machine memory cost (Exits status) fine = refl
+served-effect_plan machine memory cost (Traps kind) fine = refl
 
 -- the two ways of a fetch
 served-fetch : (machine : Machine) (memory : List ℕ) (fits : Bool)
-    → served (access_bytes machine.core.base) (if fits then Ask (Load machine.core.pc 4) machine (λ bytes. effect_plan machine (effect_of machine (from_le_bytes w32 bytes))) else effect_plan machine (Traps FetchFault)) memory
-    ≡ parts_of (if fits then effected machine memory (effect_of machine (from_le_bytes w32 (slice_of memory (machine.core.pc - machine.core.base) 4))) else effected machine memory (Traps FetchFault))
+    → served (access_bytes machine.core.base) (if fits then Ask (Load machine.core.pc 4) machine (λ bytes. word_plan machine (from_le_bytes w32 bytes)) else effect_plan machine 0 (Traps FetchFault)) memory
+    ≡ parts_of (let word : ℕ = from_le_bytes w32 (slice_of memory (machine.core.pc - machine.core.base) 4) in if fits then effected machine memory (cost_of_word machine word) (effect_of_word machine word) else effected machine memory 0 (Traps FetchFault))
 served-fetch machine memory true =
     let word : ℕ = from_le_bytes w32 (slice_of memory (machine.core.pc - machine.core.base) 4) in
-    served-effect_plan machine memory (effect_of machine word) (effect_of-fine machine word)
+    served-effect_plan machine memory (cost_of_word machine word) (effect_of_word machine word) (effect_of_word-fine machine word)
 served-fetch machine memory false = refl
 
 -- a step's plan is served by a list of bytes to the step of the flat machine

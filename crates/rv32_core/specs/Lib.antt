@@ -1,6 +1,7 @@
 pub mod Access
 pub mod FlatMachine
 pub mod FlatRun
+pub mod LineList
 pub mod Machine
 pub mod StepPlan
 pub mod Transfer

@@ -7,8 +7,8 @@ ghost use Rattle.rv32_core.specs.Machine.{bytes_left};
 ghost use Rattle.rv32_core.specs.Transfer.{IsRange, pieces, stores_plan, loads_plan};
 
 use crate::memory::Bytes;
-use crate::outcome::NoMemory;
 use crate::transfer::{load_all, store_all};
+use asc_base::NoMemory;
 use std::alloc::Global;
 use std::marker::Model;
 

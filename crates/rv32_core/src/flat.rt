@@ -3,7 +3,7 @@
 ghost use Rattle.std.specs.Prelude.{◌+◌, ◌^◌, ◌≤◌, ◌≡◌, IfOk, length};
 
 use crate::memory::Bytes;
-use crate::outcome::NoMemory;
+use asc_base::NoMemory;
 use std::alloc::Global;
 use std::marker::Model;
 

@@ -5,20 +5,29 @@
 //! `specs/FlatMachine.antt`, and a run of so many steps is `flat_run` of `specs/FlatRun.antt`. Sections that the
 //! definitions name are those of the RISC-V unprivileged manual.
 //!
-//! The instructions are ADDI, LUI and ECALL; ECALL knows the host calls 63, read, 64, write, and 93, exit. Every other
-//! word and every other host call is the trap [`TrapKind::NotYet`].
+//! The instructions are those of RV32IM and FENCE.I; an ECALL knows the host calls 63, read, 64, write, 93, exit, and 214,
+//! brk, and answers -38 to every other number.
 #![tactic(auto)]
 
+mod access;
 mod console;
 mod effect;
+mod execute;
 mod flat;
 mod hart;
+mod laws;
 mod memory;
 mod outcome;
+#[cfg(test)]
+mod rows;
 mod transfer;
 
 pub use console::Files;
 pub use flat::{FlatBytes, Never};
 pub use hart::Core;
+pub use laws::{
+    image_lines_first, items_go_on, lines_in_order, lines_rise, step_asks_its_lines,
+    traps_give_no_data,
+};
 pub use memory::Bytes;
-pub use outcome::{Done, Ended, NoMemory, TrapKind};
+pub use outcome::{Done, Ended, TrapKind};

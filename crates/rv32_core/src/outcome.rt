@@ -5,10 +5,22 @@
 pub enum TrapKind {
     /// The four bytes at pc aren't all in the memory.
     FetchFault,
-    /// A host call to write would make the output longer than its limit.
+    /// The word is no instruction of the table.
+    Illegal,
+    /// A jump or a taken branch has a target that isn't a multiple of four.
+    FetchMisaligned,
+    /// The address of a load isn't a multiple of its width.
+    LoadMisaligned,
+    /// The address of a store isn't a multiple of its width.
+    StoreMisaligned,
+    /// The address of a load is a multiple of its width, and not all its bytes are in the memory.
+    LoadFault,
+    /// The address of a store is a multiple of its width, and not all its bytes are in the memory.
+    StoreFault,
+    /// The instruction is EBREAK.
+    Breakpoint,
+    /// A host call to write that is otherwise right would make the output longer than its limit.
     OutputLimit,
-    /// The word is no instruction that the machine knows, or asks for a host call that it doesn't know.
-    NotYet,
 }
 
 /// How a step ended.
@@ -38,7 +50,3 @@ pub struct Done {
     /// Its cycles; a trap costs none.
     pub cost: u64,
 }
-
-/// There was no memory.
-#[derive(Clone, Copy, Debug, PartialEq, Eq)]
-pub struct NoMemory;

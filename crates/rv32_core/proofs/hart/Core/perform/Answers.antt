@@ -1,41 +1,29 @@
-use Rattle.std.proofs.Common.{◌^◌, ◌<◌, refl, arith}
+use Rattle.std.proofs.Common.{refl}
 use Rattle.std.proofs.lemmas.Result.{err_from_is_err_and}
 use Rattle.rv32_core.specs.StepPlan.{machine_of}
-use Rattle.rv32_core.proofs.EffectPlans.{machine_of-same, read-range, write-range, read-ends, read-stops, write-ends, write-stops}
+use Rattle.rv32_core.proofs.EffectPlans.{machine_of-same, read-ends, read-stops, write-ends, write-stops}
 use Rattle.rv32_core.proofs.hart.Core.perform.Goals as goal
-
-pub read-requires-clause-range : goal.read-requires-clause-range
-read-requires-clause-range g c =
-    let low : c.in-Reads.address < 2 ^ 32 = omega arith in
-    read-range _ _ (machine_of c.args.self.now c.args.files.now) c.args.effect c.in-Reads.address c.in-Reads.count
-    c.requires.base c.requires.size c.requires.below c.requires.effect c.in-Reads.is low
-
-pub write-requires-clause-range : goal.write-requires-clause-range
-write-requires-clause-range g c =
-    let low : c.in-Writes.address < 2 ^ 32 = omega arith in
-    write-range _ _ (machine_of c.args.self.now c.args.files.now) c.args.effect c.in-Writes.address c.in-Writes.count
-    c.requires.base c.requires.size c.requires.below c.requires.effect c.in-Writes.is low
 
 pub returns-in_err-read-in-Reads-clause-err : goal.returns-in_err-read-in-Reads-clause-err
 returns-in_err-read-in-Reads-clause-err g c =
-    let p = err_from_is_err_and c.from_residual.result c.from_residual.ensures.1 in
-    rw (p.1, p.2) (read-stops g.B.Bytes.step (machine_of c.args.self.now c.args.files.now) _ c.args.effect c.in-Reads.address c.in-Reads.count
+    let p = err_from_is_err_and c.from_residual-in_err-read-in-Reads.result c.from_residual-in_err-read-in-Reads.ensures.1 in
+    rw (p.1, p.2) (read-stops g.B.Bytes.step (machine_of c.args.self.now c.args.files.now) _ c.args.cost c.args.effect c.in-Reads.address c.in-Reads.count
     c.args.bytes.now _ _ c.in-Reads.is (machine_of-same _ _ _ _ refl c.in_err-read-in-Reads.ensures.unchanged) c.in_err-read-in-Reads.ensures.err)
 
 pub returns-in_err-write-in-Writes-clause-err : goal.returns-in_err-write-in-Writes-clause-err
 returns-in_err-write-in-Writes-clause-err g c =
     let p = err_from_is_err_and c.from_residual-in_err-write-in-Writes.result c.from_residual-in_err-write-in-Writes.ensures.1 in
-    rw (p.1, p.2) (write-stops g.B.Bytes.step (machine_of c.args.self.now c.args.files.now) _ c.args.effect c.in-Writes.address c.in-Writes.count
+    rw (p.1, p.2) (write-stops g.B.Bytes.step (machine_of c.args.self.now c.args.files.now) _ c.args.cost c.args.effect c.in-Writes.address c.in-Writes.count
     c.args.bytes.now _ _ c.in-Writes.is (machine_of-same _ _ _ _ refl c.in_err-write-in-Writes.ensures.unchanged) c.in_err-write-in-Writes.ensures.err)
 
 pub returns-in_ok-read-in-Reads-clause-ok : goal.returns-in_ok-read-in-Reads-clause-ok
 returns-in_ok-read-in-Reads-clause-ok g c =
-    read-ends g.B.Bytes.step (machine_of c.args.self.now c.args.files.now) (machine_of c.answer-in-Reads.new.self c.read.new.self) c.args.effect c.in-Reads.address c.in-Reads.count
-    c.answer-in-Reads.result c.args.bytes.now c.read.new.memory c.in-Reads.is
-    (machine_of-same _ _ _ _ c.answer-in-Reads.ensures.core c.in_ok-read-in-Reads.ensures.after) c.answer-in-Reads.ensures.done c.in_ok-read-in-Reads.ensures.ok
+    read-ends g.B.Bytes.step (machine_of c.args.self.now c.args.files.now) (machine_of c.set_to-in-Reads.new.self c.read.new.self) c.args.cost c.args.effect c.in-Reads.address c.in-Reads.count
+    c.set_to-in-Reads.result c.args.bytes.now c.read.new.memory c.in-Reads.is
+    (machine_of-same _ _ _ _ c.set_to-in-Reads.ensures.core c.in_ok-read-in-Reads.ensures.after) c.set_to-in-Reads.ensures.done c.in_ok-read-in-Reads.ensures.ok
 
 pub returns-in_ok-write-in-Writes-clause-ok : goal.returns-in_ok-write-in-Writes-clause-ok
 returns-in_ok-write-in-Writes-clause-ok g c =
-    write-ends g.B.Bytes.step (machine_of c.args.self.now c.args.files.now) (machine_of c.answer-in-Writes.new.self c.write.new.self) c.args.effect c.in-Writes.address c.in-Writes.count
-    c.write.new.self.output c.answer-in-Writes.result c.args.bytes.now c.write.new.memory c.in-Writes.is
-    (machine_of-same _ _ _ _ c.answer-in-Writes.ensures.core c.in_ok-write-in-Writes.ensures.after) c.answer-in-Writes.ensures.done c.in_ok-write-in-Writes.ensures.ok
+    write-ends g.B.Bytes.step (machine_of c.args.self.now c.args.files.now) (machine_of c.set_to-in-Writes.new.self c.write.new.self) c.args.cost c.args.effect c.in-Writes.address c.in-Writes.count
+    c.write.new.self.output c.set_to-in-Writes.result c.args.bytes.now c.write.new.memory c.in-Writes.is
+    (machine_of-same _ _ _ _ c.set_to-in-Writes.ensures.core c.in_ok-write-in-Writes.ensures.after) c.set_to-in-Writes.ensures.done c.in_ok-write-in-Writes.ensures.ok
