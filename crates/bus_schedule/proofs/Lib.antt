@@ -1,0 +1,10 @@
+pub mod ChoiceLaws
+pub mod CodeLaws
+pub mod Epochs
+pub mod PublicParts
+pub mod Rising
+pub mod ScheduleLaws
+pub mod ScheduledLaws
+pub mod SlotMoves
+pub mod TimetableLaws
+pub mod Windows

@@ -1,0 +1,4 @@
+pub mod Timetable
+pub mod Schedule
+pub mod Shown
+pub mod Scheduled

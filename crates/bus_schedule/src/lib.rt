@@ -1,0 +1,25 @@
+//! The time arithmetic of the bus: when slots start, when rates are chosen, and the times of moves.
+#![tactic(auto)]
+
+mod arithmetic;
+mod moves;
+mod schedule_laws;
+mod scheduled_laws;
+mod timetable_laws;
+
+pub use arithmetic::{digit, epoch_of, slot_after, with_digit};
+pub use moves::{move_time, moves_before};
+pub use schedule_laws::{moves_are_cut, moves_go_on, moves_rise, slots_join};
+pub use scheduled_laws::{
+    code_is_bounded, log_is_scheduled, log_starts, schedule_decides, slot_begins, slot_ends,
+    slot_ends_with_choice, slot_goes_on,
+};
+pub use timetable_laws::{
+    choices_are_few, choices_decide, choices_fall, codes_have_digits, public_parts, slots_apart,
+    timetable_rows, timetables_are_few, timetables_go_on,
+};
+
+#[cfg(test)]
+mod tests;
+#[cfg(test)]
+mod tests_moves;
