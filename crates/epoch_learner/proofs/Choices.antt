@@ -1,0 +1,33 @@
+-- How many choices there are, and that their code has room.
+use Rattle.std.specs.Prelude.{nat_le}
+use Rattle.std.proofs.Common.{◌≡◌, ℕ, ◌+◌, ◌*◌, ◌^◌, ◌<◌, ◌≤◌, length, take, ap, sym, ◌∙◌, inr, arith}
+use Rattle.std.proofs.Math.Pow.{pow_mono}
+use Rattle.std.proofs.lemmas.Nat.{pow-add}
+use Rattle.std.proofs.lemmas.Bool.{le-leb, lt-leb}
+use Rattle.asc_base.specs.declared.settings.Config.{Config}
+use Rattle.asc_base.proofs.Extremes.{greatest_is}
+use Rattle.asc_base.proofs.Levels.{lt-pow}
+use Rattle.bus_schedule.specs.Timetable.{public_of, count_of, choices_of, bits_of, most_of}
+use Rattle.bus_schedule.proofs.ChoiceLaws.{codes-few}
+use Rattle.epoch_learner.specs.Learner.{IsLearnerOf}
+use Rattle.epoch_learner.specs.declared.Learner.{Learner}
+use Rattle.epoch_learner.proofs.Facts.{has_ranges}
+
+-- the bits of a choice, by the number's logarithm
+pub bits_of_is : (count log : ℕ) → 2 ^ log ≤ count → count < 2 * 2 ^ log → bits_of count ≡ log
+unfolding bits_of
+bits_of_is count log low high =
+    greatest_is (λ bits. nat_le (2 ^ bits) count) count log (omega (arith, lt-pow log))
+    (inr (le-leb _ _ low))
+    (λ j above within. lt-leb _ _ (omega (arith, pow_mono {i = log + 1} {j = j} (omega arith), pow-add 2 log 1)))
+
+-- so many choices tell no more bits than the budget has
+pub choices_fit : (config : Config) (learner : Learner) (choices : ℕ) → IsLearnerOf config learner
+    → choices ≤ learner.most → learner.rates.count ^ choices ≤ 2 ^ config.leak
+choices_fit config learner choices h within =
+    let p = public_of config in
+    let ranges = has_ranges config learner h in
+    let number : learner.rates.count ≡ config.rates.count = ap (λ r. r.count) h.rates in
+    let count : count_of p ≡ learner.rates.count = ap (λ r. length (take r.count r.list)) (sym h.rates) ∙ ranges.listed in
+    let most : choices_of p ≡ learner.most = ap (λ n. most_of n config.leak) (count ∙ number) ∙ sym h.most in
+    rw (← count) (codes-few p ranges.power.0 choices (count ∙ ranges.power.2) (omega arith))

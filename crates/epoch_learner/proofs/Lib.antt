@@ -1,0 +1,7 @@
+pub mod Choices
+pub mod Facts
+pub mod FollowLaws
+pub mod HeardLaws
+pub mod Nearest
+pub mod RuleLaws
+pub mod Steps
