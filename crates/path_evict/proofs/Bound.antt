@@ -92,3 +92,9 @@ excess-le-left depths places k is =
 
 pub rest-le-left : (depths : List ℕ) (levels : ℕ) (places : List (Option ℕ)) → IsPlacement depths places → rest depths levels ≤ left places
 rest-le-left depths levels places is = rest-le depths levels (left places) (λ k h. excess-le-left depths places k is)
+
+-- what equals the rest is the fewest
+pub fewest : (depths : List ℕ) (levels most : ℕ) → most ≡ rest depths levels
+    → (places : List (Option ℕ)) → IsPlacement depths places → most ≤ left places
+fewest depths levels most same places is =
+    let bound : rest depths levels ≤ left places = rest-le-left depths levels places is in omega arith

@@ -10,7 +10,8 @@ fill level room (depth ∷ depths) [] = []
 fill level room (depth ∷ depths) (Some place ∷ places) = Some place ∷ fill level room depths places
 fill level zero (depth ∷ depths) (None ∷ places) = None ∷ places
 fill level (suc room) (depth ∷ depths) (None ∷ places) =
-    (if nat_le level depth then (Some level ∷ fill level room depths places) else (None ∷ fill level (suc room) depths places))
+    (if nat_le level depth then (Some level ∷ fill level room depths places)
+    else (None ∷ fill level (suc room) depths places))
 
 -- a level and those above it take entries in turn, up to the root
 unfoldable pub fill_up : ℕ → List ℕ → List (Option ℕ) → List (Option ℕ)

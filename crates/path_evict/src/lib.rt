@@ -1,7 +1,8 @@
 //! Which entries go to which level when a path is written back: the rule, and the number that no placement beats.
 #![tactic(auto)]
 
-ghost use Rattle.std.specs.Prelude.{◌≡◌, ℕ, List, Option, ◌≤◌, ◌<◌, length, IfSome, IfNone, vec_len, vec_capacity, IsOk, OnOk, OnErr, All, []};
+ghost use Rattle.std.specs.Prelude.{◌≡◌, ℕ, List, Option, ◌≤◌, ◌<◌, length, All, []};
+ghost use Rattle.std.specs.Prelude.{IfSome, IfNone, IsOk, OnOk, OnErr, vec_len, vec_capacity};
 ghost use Rattle.path_evict.specs.Placement.{slots, left, IsPlacement};
 ghost use Rattle.path_evict.specs.Eviction.{fill, fill_up, eviction};
 ghost use Rattle.path_evict.specs.Rest.{excess, rest, IsLeastWitness};
@@ -25,6 +26,7 @@ pub fn remainder(depths: &[u32], levels: u32) -> (usize, Option<u32>)
     ensures rest { result.0 ≡ rest depths.now levels }
     ensures witness { IfSome result.1 (IsLeastWitness depths.now levels) }
     ensures none { IfNone result.1 (rest depths.now levels ≡ 0) }
+    ensures fewest { (places : List (Option ℕ)) → IsPlacement depths.now places → result.0 ≤ left places }
 {
     let mut most = 0;
     let mut witness = None;
@@ -73,7 +75,8 @@ pub fn plan(depths: &[u32], levels: u32, into: &mut Vec<Option<u32>>) -> Result<
     ensures len { OnOk result (vec_len into.new ≡ length depths.now) }
     ensures placement { OnOk result (IsPlacement depths.now into.new.items) }
     ensures rest { OnOk result (left into.new.items ≡ rest depths.now levels) }
-    ensures fewest { OnOk result ((places : List (Option ℕ)) → IsPlacement depths.now places → left into.new.items ≤ left places) }
+    ensures fewest { OnOk result ((places : List (Option ℕ)) → IsPlacement depths.now places
+        → left into.new.items ≤ left places) }
     ensures room { length depths.now ≤ vec_capacity into.old → IsOk result }
     ensures capacity { vec_capacity into.old ≤ vec_capacity into.new }
     ensures err { OnErr result (into.new.items ≡ []) }

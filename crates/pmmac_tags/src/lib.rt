@@ -1,6 +1,5 @@
-//! Tags of messages: an address, its counter and its line, authenticated under one key. A tag holds of an old line only
-//! under its old counter, so a line that is given back after its counter rose is found out. Different messages have
-//! different texts. No call takes memory.
+//! Tags of messages: an address, its counter and its line, authenticated under one key. The counter is part of the text
+//! that a tag is computed from, and different messages have different texts. No call takes memory.
 #![tactic(auto)]
 
 mod laws;

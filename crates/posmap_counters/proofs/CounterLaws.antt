@@ -120,7 +120,7 @@ unfolding addresses_from
 addresses_length first zero = refl
 addresses_length first (suc number) = ap suc (addresses_length (first + 1) number)
 
-zeros_at : (n k : ℕ) → get_or (replicate n zero) k zero ≡ zero
+pub zeros_at : (n k : ℕ) → get_or (replicate n zero) k zero ≡ zero
 zeros_at zero k = refl
 zeros_at (suc n) zero = refl
 zeros_at (suc n) (suc k) = zeros_at n k

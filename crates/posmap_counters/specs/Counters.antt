@@ -1,5 +1,6 @@
 -- The counters of all blocks as one finite map, and what accesses and group moves make of it.
-use Rattle.std.specs.Prelude.{◌≡◌, ℕ, ◌+◌, ◌-◌, ◌%◌, ◌^◌, ◌<◌, ◌⊎◌, not, List, [], ◌∷◌, ◌++◌, map, filter, All, nat_eq, nat_le, unwrap_or, is_none, option_and_then, slice_index, if◌then◌else◌}
+use Rattle.std.specs.Prelude.{◌≡◌, ℕ, ◌+◌, ◌-◌, ◌%◌, ◌^◌, ◌<◌, nat_eq, nat_le, ◌⊎◌, not, if◌then◌else◌}
+use Rattle.std.specs.Prelude.{List, [], ◌∷◌, ◌++◌, map, filter, All, slice_index, unwrap_or, is_none, option_and_then}
 use Rattle.std.proofs.Common.{zero, suc}
 use Rattle.std.specs.Bool.{OnTrue}
 use Rattle.std.specs.Map.{lookup}
@@ -108,4 +109,5 @@ IsNotAfter c d = (c ≡ d) ⊎ IsBefore c d
 -- a group has the counters of so many blocks from a first one on
 abbrev pub HasCounters : Counters → ℕ → ℕ → ℕ → List ℕ → Type 0
 HasCounters counters first number group own =
-    (child : ℕ) → child < number → counter_at counters (first + child) ≡ record { group = group; own = slice_index own child }
+    (child : ℕ) → child < number
+    → counter_at counters (first + child) ≡ record { group = group; own = slice_index own child }

@@ -5,7 +5,10 @@ mod group;
 mod laws;
 
 pub use group::{Group, Step};
-pub use laws::{counters_rise, groups_have_counters, lines_and_counters, no_point_twice};
+pub use laws::{
+    asked_changes_are_steps, counters_rise, groups_have_counters, lines_and_counters,
+    no_point_twice,
+};
 
 #[cfg(test)]
 mod tests;

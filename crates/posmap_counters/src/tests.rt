@@ -44,6 +44,7 @@ fn steps_to_the_greatest_own_count(rt: HostRuntime) -> Result<(), Fail> {
     }
     let Line(bytes) = group.write();
     assert_eq!(rt; bytes[..10], [0, 0, 0, 0, 0, 0, 0, 1, 0x00, 0x14][..]);
+    assert_eq!(rt; bytes[10..], [0u8; 54][..]);
     for ic in 2..15 {
         let mut group = Group::read(&with_bits(14 - ic as usize, 13));
         assert!(rt; group.step(0, ic) == Step::Stepped, "ic {ic}");

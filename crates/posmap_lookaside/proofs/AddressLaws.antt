@@ -1,11 +1,11 @@
 -- The addresses of held blocks.
-use Rattle.std.proofs.Common.{◌≡◌, ℕ, zero, suc, true, false, cond, List, [], ◌∷◌, take, Option, Some, None, is_some, nat_eq, refl, sym, ap, ◌∙◌, inl, inr}
+use Rattle.std.proofs.Common.{◌≡◌, ℕ, zero, suc, true, false, cond, List, [], ◌∷◌, take, slice_get, option_map, Option, Some, None, is_some, nat_eq, refl, sym, ap, ◌∙◌, inl, inr}
 use Rattle.std.specs.List.{list_any}
 use Rattle.std.specs.Option.{option_map_or}
 use Rattle.std.proofs.lemmas.Bool.Decides.{eqb_tells}
 use Rattle.asc_base.specs.declared.block.Address.{Address}
 use Rattle.posmap_lookaside.specs.declared.held.Held.{Held}
-use Rattle.posmap_lookaside.specs.Held.{held_at, without, promoted, changed, inserted, addresses_of}
+use Rattle.posmap_lookaside.specs.Held.{held_at, without, promoted, changed, inserted, displaced, addresses_of}
 use Rattle.posmap_lookaside.specs.Addresses.{without_address, used}
 
 -- a change of a block that keeps its address keeps all
@@ -26,6 +26,16 @@ addresses_of-inserted capacity held list = taken capacity (held ∷ list)
     taken zero list = refl
     taken (suc n) [] = refl
     taken (suc n) (held ∷ list) = ap (λ rest. held.address.0 ∷ rest) (taken n list)
+
+-- the block that finds no room has the address that finds none
+pub addresses_of-displaced : (capacity : ℕ) (held : Held) (list : List Held)
+    → option_map (λ h. h.address.0) (displaced capacity held list) ≡ slice_get (held.address.0 ∷ addresses_of list) capacity
+addresses_of-displaced capacity held list = at capacity (held ∷ list)
+  where
+    at : (n : ℕ) (list : List Held) → option_map (λ h. h.address.0) (slice_get list n) ≡ slice_get (addresses_of list) n
+    at n [] = refl
+    at zero (held ∷ list) = refl
+    at (suc n) (held ∷ list) = at n list
 
 addresses_of-without : (list : List Held) (address : Address) → addresses_of (without list address) ≡ without_address (addresses_of list) address.0
 unfolding without without_address

@@ -1,4 +1,5 @@
--- Blocks of which one of each address at most is held, the most recent first.
+-- Held blocks, the most recent first. Of several with one address the first counts; a caller keeps the addresses
+-- distinct by inserting only a block whose address isn't held.
 use Rattle.std.specs.Prelude.{ℕ, ◌==◌, Bool, List, [], ◌∷◌, map, find, Option, take, slice_get, if◌then◌else◌}
 use Rattle.std.specs.Option.{option_map_or}
 use Rattle.asc_base.specs.declared.block.Address.{Address}

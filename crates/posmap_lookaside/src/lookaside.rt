@@ -1,4 +1,5 @@
-ghost use Rattle.std.specs.Prelude.{◌≡◌, ◌≤◌, ◌<◌, ◌↔◌, [], ◌∷◌, IfOk, OnOk, OnErr, IsTrue, IsSome, IsNone, option_map, position, length, is_some};
+ghost use Rattle.std.specs.Prelude.{◌≡◌, ◌≤◌, ◌<◌, ◌↔◌, [], ◌∷◌, option_map, position, length, is_some};
+ghost use Rattle.std.specs.Prelude.{IfOk, OnOk, OnErr, IsTrue, IsSome, IsNone};
 ghost use Rattle.posmap_lookaside.specs.Held.{is_of, held_at, promoted, changed, inserted, displaced};
 
 use crate::held::Held;

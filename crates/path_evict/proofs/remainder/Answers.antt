@@ -1,4 +1,5 @@
 use Rattle.std.proofs.Common.{arith}
+use Rattle.path_evict.proofs.Bound.{fewest}
 use Rattle.path_evict.proofs.Highest.{searched_higher, searched_on, searched_rest, searched_witness, searched_none}
 use Rattle.path_evict.proofs.remainder.Goals as goal
 use Rattle.path_evict.proofs.remainder.Goals.{then-beyond-most, else-beyond-most}
@@ -29,4 +30,15 @@ returns-after-beyond-most-clause-none c =
     elim c.if-beyond-most.branch [
       | then-beyond-most w ↦ rw w.witness-is (searched_none _ _ c.args.levels _ _ (searched_higher _ _ _ _ _ c.loop-k.invariant c.excess-beyond.ensures w.if-beyond-most.true) (omega arith))
       | else-beyond-most w ↦ rw w.witness-is (searched_none _ _ c.args.levels _ _ (searched_on _ _ _ _ _ c.loop-k.invariant c.excess-beyond.ensures w.if-beyond-most.false) (omega arith))
+    ]
+
+pub returns-after-beyond-most-clause-fewest : goal.returns-after-beyond-most-clause-fewest
+returns-after-beyond-most-clause-fewest c =
+    elim c.if-beyond-most.branch [
+      | then-beyond-most w ↦
+          let higher = searched_higher _ _ _ _ _ c.loop-k.invariant c.excess-beyond.ensures w.if-beyond-most.true in
+          rw w.most-is (fewest _ c.args.levels _ (searched_rest _ _ _ _ _ higher (omega arith)))
+      | else-beyond-most w ↦
+          let on = searched_on _ _ _ _ _ c.loop-k.invariant c.excess-beyond.ensures w.if-beyond-most.false in
+          rw w.most-is (fewest _ c.args.levels _ (searched_rest _ _ _ _ _ on (omega arith)))
     ]

@@ -1,4 +1,4 @@
-use Rattle.posmap_lookaside.proofs.AddressLaws.{is_some-held_at, addresses_of-promoted, addresses_of-changed, addresses_of-inserted}
+use Rattle.posmap_lookaside.proofs.AddressLaws.{is_some-held_at, addresses_of-promoted, addresses_of-changed, addresses_of-inserted, addresses_of-displaced}
 use Rattle.posmap_lookaside.proofs.laws.addresses_follow.Goals as goal
 
 pub returns-clause-held : goal.returns-clause-held
@@ -12,3 +12,6 @@ returns-clause-changed c = addresses_of-changed
 
 pub returns-clause-inserted : goal.returns-clause-inserted
 returns-clause-inserted c = addresses_of-inserted
+
+pub returns-clause-displaced : goal.returns-clause-displaced
+returns-clause-displaced c = addresses_of-displaced
