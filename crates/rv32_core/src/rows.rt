@@ -336,6 +336,7 @@ fn accesses(rt: HostRuntime) -> Result<(), Fail> {
     for (words, address, want, cost) in table {
         let mut bytes = bench(&rt, alloc, words, [address, 0xa1b2_c3d4])?;
         let mut core = Core::new(BASE, BASE, SIZE, BASE);
+        assert!(rt; words.len() < 3);
         let steps = words.len() as u32;
         assert_eq!(rt; run(&mut core, &mut bytes, &mut files, 3), (3, GOES_ON, 5));
         assert_eq!(rt;

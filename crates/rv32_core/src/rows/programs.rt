@@ -1,5 +1,7 @@
 //! Whole programs, and the host calls, over bytes in one vector. `tools/core_rows.py` prints the words and what they do.
 
+ghost use Rattle.std.specs.Prelude.{◌≡◌, length};
+
 use super::{BASE, GOES_ON, SIZE, place, run, trap};
 use crate::{Core, Ended, Files, FlatBytes, TrapKind};
 use std::alloc::Global;
@@ -172,13 +174,15 @@ fn programs(rt: HostRuntime) -> Result<(), Fail> {
     let mut files = Files::new(alloc, b"", 0)?;
     for (base, entry, words, budget, want) in table {
         assert!(rt; base == 0 || base == BASE);
-        assert!(rt; base <= entry && entry < base + SIZE && entry % 4 == 0);
+        assert!(rt; base <= entry);
+        assert!(rt; entry < base + SIZE);
+        assert!(rt; entry % 4 == 0);
+        let mut core = Core::new(entry, base, SIZE, base);
         let at = (entry - base) as usize;
         let mut image = vec![in alloc; 0u8; SIZE as usize]?;
         place(&rt, &mut image, at, words);
         assert!(rt; image.len() == SIZE as usize);
         let mut bytes = FlatBytes::new(alloc, &image, base)?;
-        let mut core = Core::new(entry, base, SIZE, base);
         assert_eq!(rt;
             run(&mut core, &mut bytes, &mut files, budget),
             want,
@@ -190,6 +194,30 @@ fn programs(rt: HostRuntime) -> Result<(), Fail> {
 
 /// A host call's number and arguments, how it ends, x10 then, its cost, and how many bytes are written by then.
 type Call = (u32, [u32; 3], Ended, u32, u64, usize);
+
+/// Makes one of the calls: its four loads, its ECALL and, where the machine goes on, the way back to the loop's start.
+fn make_one(rt: &impl Abort, core: &mut Core, bytes: &mut FlatBytes, files: &mut Files, call: &Call)
+    requires base { bytes.old.base ≡ core.old.base }
+    requires size { length bytes.old.bytes ≡ core.old.size }
+    ensures same_base { core.new.base ≡ core.old.base }
+    ensures same_size { core.new.size ≡ core.old.size }
+    ensures bytes_base { bytes.new.base ≡ bytes.old.base }
+    ensures bytes_size { length bytes.new.bytes ≡ length bytes.old.bytes }
+{
+    let (number, _, ended, answer, cost, written) = *call;
+    assert_eq!(rt; run(core, bytes, files, 4), (4, GOES_ON, 8));
+    let (_, got, spent) = run(core, bytes, files, 1);
+    assert_eq!(rt;
+        (got, core.register(10), spent),
+        (ended, answer, cost),
+        "call {number}"
+    );
+    assert_eq!(rt; files.output().len(), written, "call {number}");
+    if got != GOES_ON {
+        return;
+    }
+    assert_eq!(rt; run(core, bytes, files, 2), (2, GOES_ON, 3));
+}
 
 /// Makes these calls by a loop whose ECALL is at 4120, with the first break at 6160 and room for 300 bytes of output.
 fn make(rt: &impl Abort, alloc: Global, input: &[u8], calls: &[Call]) -> Result<Files, Fail> {
@@ -227,18 +255,7 @@ fn make(rt: &impl Abort, alloc: Global, input: &[u8], calls: &[Call]) -> Result<
     let mut files = Files::new(alloc, input, 300)?;
     assert_eq!(rt; run(&mut core, &mut bytes, &mut files, 2), (2, GOES_ON, 2));
     for call in calls {
-        let (number, _, ended, answer, cost, written) = *call;
-        assert_eq!(rt; run(&mut core, &mut bytes, &mut files, 4), (4, GOES_ON, 8));
-        let (_, got, spent) = run(&mut core, &mut bytes, &mut files, 1);
-        assert_eq!(rt;
-            (got, core.register(10), spent),
-            (ended, answer, cost),
-            "call {number}"
-        );
-        assert_eq!(rt; files.output().len(), written, "call {number}");
-        if got == GOES_ON {
-            assert_eq!(rt; run(&mut core, &mut bytes, &mut files, 2), (2, GOES_ON, 3));
-        }
+        make_one(rt, &mut core, &mut bytes, &mut files, call);
     }
     Ok(files)
 }
