@@ -1,5 +1,6 @@
 -- The ranges of the settings, and the configurations that come of settings in their ranges.
-use Rattle.std.specs.Prelude.{◌≡◌, ℕ, ◌+◌, ◌-◌, ◌/◌, ◌%◌, ◌^◌, ◌<◌, ◌≤◌, List, ◌++◌, All, fold, max, take, drop, replicate}
+use Rattle.std.specs.Prelude.{◌≡◌, ℕ, ◌+◌, ◌-◌, ◌/◌, ◌%◌, ◌^◌, ◌<◌, ◌≤◌, max}
+use Rattle.std.specs.Prelude.{List, ◌++◌, All, fold, take, drop, replicate}
 use Rattle.std.specs.List.Sorted.{IsStrictlyIncreasing}
 use Rattle.asc_base.specs.Memory.{IsMemory}
 use Rattle.asc_base.specs.Shape.{IsShape, shape_of}
@@ -8,7 +9,9 @@ use Rattle.asc_base.specs.declared.settings.Config.{Config}
 use Rattle.asc_base.specs.declared.settings.Rates.{Rates}
 use Rattle.asc_base.specs.declared.settings.WideRates.{WideRates}
 use Rattle.asc_base.specs.declared.settings.Setting.{Setting}
-use Rattle.asc_base.specs.declared.settings.Setting.TheVariants.{Size, Base, Sets, Ways, Plb, Roots, Ic, Stash, Budget, Time, Leak, Rates as RatesSetting, First, Epoch}
+use Rattle.asc_base.specs.declared.settings.Setting.TheVariants.{Size, Base, Sets, Ways, Plb, Roots, Ic}
+use Rattle.asc_base.specs.declared.settings.Setting.TheVariants.{Stash, Budget, Time, Leak, Rates as RatesSetting}
+use Rattle.asc_base.specs.declared.settings.Setting.TheVariants.{First, Epoch}
 use Rattle.asc_base.specs.declared.settings.Settings.{Settings}
 
 -- the number is a power of two, at most 2 ^ most
@@ -117,6 +120,7 @@ pub record IsConfig (config : Config) : Type 0 where
   pub rates : AreRates config.rates.list config.rates.count
   pub rest : drop config.rates.count config.rates.list ≡ replicate (16 - config.rates.count) 0
   pub first : config.first < config.rates.count
-  pub epoch : IsFromTo (olat_of config.shape.levels + greatest_rate config.rates.list config.rates.count) 268435456 config.epoch
+  pub epoch : IsFromTo (olat_of config.shape.levels + greatest_rate config.rates.list config.rates.count)
+      268435456 config.epoch
   pub is_shape : IsShape config.shape
   pub shape : config.shape ≡ shape_of (config.size / 64) config.roots

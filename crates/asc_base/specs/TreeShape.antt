@@ -2,7 +2,8 @@
 --
 -- Layer 0 has the data lines. Each next layer has one position-map block per 32 blocks of the layer below, rounded up.
 -- The top layer is the first that has at most `roots` blocks. The layers follow each other in the addresses.
-use Rattle.std.specs.Prelude.{ℕ, ◌+◌, ◌-◌, ◌*◌, ◌/◌, ◌%◌, ◌^◌, ◌<◌, ◌≤◌, ◌==◌, nat_le, min, max, Option, Some, None, if◌then◌else◌}
+use Rattle.std.specs.Prelude.{ℕ, ◌+◌, ◌-◌, ◌*◌, ◌/◌, ◌%◌, ◌^◌, ◌<◌, ◌≤◌, ◌==◌, nat_le, min, max}
+use Rattle.std.specs.Prelude.{Option, Some, None, if◌then◌else◌}
 use Rattle.std.proofs.Common.{zero, suc}
 use Rattle.asc_base.specs.Greatest.{least, greatest}
 

@@ -1,8 +1,11 @@
 //! Laws of the shape of the tree, for any number of lines, layers and roots. The functions do nothing: each states a
 //! law in its contract.
 
-ghost use Rattle.std.specs.Prelude.{◌≡◌, ◌≢◌, ℕ, ◌+◌, ◌^◌, ◌<◌, ◌≤◌, ◌⊎◌, ◌↔◌, Some};
-ghost use Rattle.asc_base.specs.TreeShape.{layer_count, layer_first, top_layer, levels_of, buckets_of, layer_of, parent_of, child_index_of, children_of, bucket_of, shared_of, IsInLayer};
+ghost use Rattle.std.specs.Prelude.{◌≡◌, ◌≢◌, ℕ, ◌+◌, ◌-◌, ◌^◌, ◌<◌, ◌≤◌, ◌⊎◌, ◌↔◌, Some};
+ghost use Rattle.asc_base.specs.TreeShape.{layer_count, layer_first, top_layer, levels_of, buckets_of, layer_of};
+ghost use Rattle.asc_base.specs.TreeShape.{parent_of, child_index_of, children_of, bucket_of, shared_of, IsInLayer};
+ghost use Rattle.asc_base.specs.Shape.{IsShape};
+ghost use Rattle.asc_base.specs.declared.shape.Shape.{Shape};
 
 /// The top layer has at most so many blocks as there are roots, and every layer below has more.
 pub fn top_layer_first()
@@ -17,6 +20,16 @@ pub fn levels_greatest()
     ensures some { (total : ℕ) → 1 ≤ levels_of total }
     ensures fits { (total : ℕ) → (levels_of total ≡ 1) ⊎ (2 ^ (levels_of total + 1) ≤ total) }
     ensures greatest { (total level : ℕ) → 2 ^ (level + 1) ≤ total → level ≤ levels_of total }
+{}
+
+/// Every shape is small: it has at most 5 layers, 270,601 blocks and 17 levels below the root. The buckets of its tree
+/// fill the levels down to the leaves, and the largest tree has 262,143 of them.
+pub fn shapes_are_small()
+    ensures layers { (shape : Shape) → IsShape shape → (1 ≤ shape.layers) × (shape.layers ≤ 5) }
+    ensures total { (shape : Shape) → IsShape shape → shape.total ≤ 270601 }
+    ensures levels { (shape : Shape) → IsShape shape → (1 ≤ shape.levels) × (shape.levels ≤ 17) }
+    ensures buckets { (shape : Shape) → IsShape shape → shape.buckets ≡ 2 ^ (shape.levels + 1) - 1 }
+    ensures most_buckets { (shape : Shape) → IsShape shape → shape.buckets ≤ 262143 }
 {}
 
 /// Each address of the first `layers` layers is in exactly one of them.

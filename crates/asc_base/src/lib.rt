@@ -11,7 +11,7 @@ mod stop;
 pub use block::{Address, Counter, Entry, Leaf, Line, Message, Point};
 pub use laws::{
     blocks_in_one_layer, levels_greatest, parents_and_children, path_rises, paths_share,
-    top_layer_first,
+    shapes_are_small, top_layer_first,
 };
 pub use settings::{Config, Rates, Setting, Settings, WideRates};
 pub use shape::Shape;

@@ -1,8 +1,10 @@
-ghost use Rattle.std.specs.Prelude.{◌≡◌, ℕ, ◌+◌, ◌/◌, ◌<◌, ◌≤◌, ◌↔◌, IsTrue, IsNone, IfSome, IsOk, IfOk, Err, take, drop, replicate, ◌-◌};
+ghost use Rattle.std.specs.Prelude.{◌≡◌, ℕ, ◌+◌, ◌-◌, ◌/◌, ◌<◌, ◌≤◌, ◌↔◌, IsTrue, IsNone, IfSome, IsOk, IfOk, Err};
+ghost use Rattle.std.specs.Prelude.{take, drop, replicate};
 ghost use Rattle.std.specs.List.Sorted.{IsStrictlyIncreasing};
 ghost use Rattle.asc_base.specs.declared.settings.Setting.{Setting as SettingValue};
 ghost use Rattle.asc_base.specs.Shape.{IsShape, shape_of};
-ghost use Rattle.asc_base.specs.Settings.{IsPowerTo, IsFromTo, AreRates, InRange, AreBefore, AreAllowed, IsFirstFault, IsConfig, greatest_rate, narrow_rates, config_of};
+ghost use Rattle.asc_base.specs.Settings.{IsPowerTo, IsFromTo, AreRates, InRange, AreBefore, AreAllowed};
+ghost use Rattle.asc_base.specs.Settings.{IsFirstFault, IsConfig, greatest_rate, narrow_rates, config_of};
 
 use crate::shape::Shape;
 

@@ -1,6 +1,7 @@
 ghost use Rattle.std.specs.Prelude.{◌≡◌, ℕ, ◌+◌, ◌*◌, ◌^◌, ◌<◌, ◌≤◌, ◌⊎◌, ◌↔◌, IsNone, IfSome, Some};
 ghost use Rattle.asc_base.specs.Shape.{IsShape, IsAddress, shape_of, places_of, parent_in, children_in};
-ghost use Rattle.asc_base.specs.TreeShape.{layer_count, layer_first, top_layer, levels_of, layer_of, index_of, child_index_of, bucket_of, shared_of, olat_of};
+ghost use Rattle.asc_base.specs.TreeShape.{layer_count, layer_first, top_layer, levels_of, layer_of, index_of};
+ghost use Rattle.asc_base.specs.TreeShape.{child_index_of, bucket_of, shared_of, olat_of};
 
 use crate::block::{Address, Leaf};
 
@@ -116,7 +117,8 @@ impl Shape {
         requires shape { IsShape self.now }
         requires address { IsAddress self.now address }
         ensures children { result ≡ children_in self.now address }
-        ensures inside { IfSome result (λ (first, number). (first.0 + number ≤ self.now.total) × (1 ≤ number) × (number ≤ 32)) }
+        ensures inside { IfSome result (λ (first, number).
+            (first.0 + number ≤ self.now.total) × (1 ≤ number) × (number ≤ 32)) }
     {
         let layer = self.layer(address);
         if layer == 0 {

@@ -4,7 +4,7 @@ use crate::block::{Address, Counter, Message};
 #[derive(Clone, Copy, Debug, PartialEq, Eq)]
 pub struct NoMemory;
 
-/// What showed that the memory answered something else than what was written.
+/// Why a path or a block was refused.
 #[derive(Clone, Copy, Debug, PartialEq, Eq)]
 pub enum Evidence {
     /// A slot of a bucket isn't in the form of a slot.
