@@ -1,5 +1,6 @@
 -- What a host means: its count of faults and, where they are told, its files, what it printed and what it was asked.
-use Rattle.std.specs.Prelude.{◌≡◌, ◌≢◌, ℕ, ◌+◌, ◌-◌, ◌^◌, ◌≤◌, ◌<◌, min, length, List, [], ◌∷◌, ◌++◌, Option, Some, is_some, option_map, Result, Ok, Err}
+use Rattle.std.specs.Prelude.{◌≡◌, ◌≢◌, ℕ, ◌+◌, ◌-◌, ◌^◌, ◌≤◌, ◌<◌, min, length, List, [], ◌∷◌, ◌++◌}
+use Rattle.std.specs.Prelude.{Option, Some, is_some, option_map, Result, Ok, Err}
 use Rattle.asc_outside.specs.declared.host.HostFault.{HostFault}
 use Rattle.asc_outside.specs.declared.host.HostFault.TheVariants.{Failed, TooLong, NoMemory}
 
@@ -40,4 +41,5 @@ IsLonger files name limit = (bytes : List ℕ) × (files name ≡ Some bytes) ×
 -- Files are told where they were told before, and every file but the one of this name is as it was.
 pub record OthersStay (name : List ℕ) (old new : Option Files) : Type 0 where
   pub told : is_some new ≡ is_some old
-  pub others : (before after : Files) → old ≡ Some before → new ≡ Some after → (other : List ℕ) → other ≢ name → after other ≡ before other
+  pub others : (before after : Files) → old ≡ Some before → new ≡ Some after
+      → (other : List ℕ) → other ≢ name → after other ≡ before other

@@ -1,5 +1,6 @@
 -- What a host in memory keeps, what it means as a host, and what its calls answer and leave.
-use Rattle.std.specs.Prelude.{ℕ, ◌+◌, nat_lt, Bool, List, [], ◌∷◌, ◌++◌, Option, Some, None, length, Result, Ok, Err, if◌then◌else◌, ◌==◌}
+use Rattle.std.specs.Prelude.{ℕ, ◌+◌, ◌==◌, nat_lt, Bool, if◌then◌else◌, List, [], ◌∷◌, ◌++◌, length}
+use Rattle.std.specs.Prelude.{Option, Some, None, Result, Ok, Err}
 use Rattle.std.specs.Map.{lookup}
 use Rattle.std.specs.List.{list_any}
 use Rattle.std.specs.Str.{bytes_eq}
@@ -22,7 +23,12 @@ file_of files name = lookup (λ other. bytes_eq name other) files
 
 -- it tells all
 abbrev pub told_by : MemHostState → HostState
-told_by host = record { faults = host.faults; files = Some (file_of host.files); printed = Some host.printed; asked = Some host.asked }
+told_by host = record {
+  faults = host.faults;
+  files = Some (file_of host.files);
+  printed = Some host.printed;
+  asked = Some host.asked;
+}
 
 -- the number of the next call is listed
 abbrev pub next_fails : MemHostState → Bool

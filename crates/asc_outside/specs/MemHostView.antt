@@ -13,6 +13,7 @@ call_of (Read name) = Reads (string_bytes name)
 call_of (Write name) = Writes (string_bytes name)
 call_of Print = Prints
 
+-- the host's fields as plain lists
 abbrev pub mem_host_view : Inside → MemHostState
 mem_host_view host = record {
   files = file_pairs host.files.entries;

@@ -1,5 +1,6 @@
 -- What the memories of runs and tests keep beside what they mean, and what their calls leave.
-use Rattle.std.specs.Prelude.{ℕ, ◌+◌, ◌-◌, ◌==◌, nat_le, nat_lt, Bool, List, [], ◌∷◌, ◌++◌, Option, None, Some, option_map, if◌then◌else◌, slice_get, slice_set, length}
+use Rattle.std.specs.Prelude.{ℕ, ◌+◌, ◌-◌, ◌==◌, nat_le, nat_lt, Bool, if◌then◌else◌, Option, None, Some, option_map}
+use Rattle.std.specs.Prelude.{List, [], ◌∷◌, ◌++◌, length, slice_get, slice_set}
 use Rattle.std.specs.List.{list_any}
 use Rattle.asc_outside.specs.Memory.{Ask, MemoryState, zero_buckets, read_ask, write_ask}
 
@@ -15,7 +16,15 @@ pub record BucketsState : Type 0 where
 
 -- it tells its buckets, and neither moves nor answers
 abbrev pub told_by_buckets : BucketsState → MemoryState
-told_by_buckets m = record { faults = m.faults; moved = m.moved; count = m.count; told = m.buckets; seen = None; said = None; link = 0 }
+told_by_buckets m = record {
+  faults = m.faults;
+  moved = m.moved;
+  count = m.count;
+  told = m.buckets;
+  seen = None;
+  said = None;
+  link = 0;
+}
 
 -- it was asked nothing yet
 abbrev pub no_buckets : BucketsState
@@ -31,7 +40,10 @@ after_move m = record m { moved = m.moved + 1 }
 
 -- a bucket is written
 abbrev pub after_write : BucketsState → ℕ → List ℕ → BucketsState
-after_write m number text = record m { moved = m.moved + 1; buckets = option_map (λ all. slice_set all number text) m.buckets }
+after_write m number text = record m {
+  moved = m.moved + 1;
+  buckets = option_map (λ all. slice_set all number text) m.buckets;
+}
 
 -- a move fails
 abbrev pub after_failure : BucketsState → BucketsState

@@ -24,6 +24,7 @@ faulty_view m = record { memory = record m.memory { faults = m.faults; moved = m
 abbrev pub ask_of : Asked → Ask
 ask_of a = record { time = a.time; write = a.write; bucket = a.bucket; bytes = a.bytes }
 
+-- the replies and counts, the moves that are kept, and their answers
 abbrev pub scripted_view : scripted.Inside → ScriptedState
 scripted_view m = record {
   replies = m.replies.items;

@@ -27,7 +27,8 @@ pub record MemoryState : Type 0 where
 
 -- a list that is told gets one item more, or is no longer told; one that isn't told stays so
 abbrev pub Adds : {A : Type 0} → Option (List A) → A → Option (List A) → Type 0
-Adds {A} old item new = (all : List A) → new ≡ Some all → (before : List A) × (old ≡ Some before) × (all ≡ before ++ item ∷ [])
+Adds {A} old item new = (all : List A) → new ≡ Some all
+    → (before : List A) × (old ≡ Some before) × (all ≡ before ++ item ∷ [])
 
 -- what is told is as it was, or is no longer told; what isn't told stays so
 abbrev pub Keeps : {A : Type 0} → Option A → Option A → Type 0

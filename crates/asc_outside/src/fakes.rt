@@ -1,4 +1,5 @@
-ghost use Rattle.std.specs.Prelude.{◌≡◌, [], None, Some, true, false, ℕ, ◌≤◌, ◌<◌, ◌^◌, length, map, IfOk, IfErr, IfSome, OnOk, OnErr, IsOk, IsOkUnless, IsErrOf, slice_get, option_map};
+ghost use Rattle.std.specs.Prelude.{◌≡◌, ℕ, ◌≤◌, ◌<◌, ◌^◌, true, false, [], length, map, slice_get, option_map};
+ghost use Rattle.std.specs.Prelude.{None, Some, IfOk, IfErr, IfSome, OnOk, OnErr, IsOk, IsOkUnless, IsErrOf};
 
 use crate::memory::{BUCKET_BYTES, Failed, MemStop, UntrustedMemory, empty_bucket};
 use std::alloc::Global;
@@ -148,7 +149,8 @@ impl FaultyMemory {
 
 impl UntrustedMemory for FaultyMemory {
     ghost use Rattle.asc_outside.specs.Memory.{Keeps};
-    ghost use Rattle.asc_outside.specs.Memories.{told_by_buckets, after_prepare, after_move, after_write, after_failure, next_move_fails};
+    ghost use Rattle.asc_outside.specs.Memories.{told_by_buckets, after_prepare, after_move, after_write};
+    ghost use Rattle.asc_outside.specs.Memories.{after_failure, next_move_fails};
 
     ghost state = { λ m. told_by_buckets m.memory };
 
@@ -158,7 +160,9 @@ impl UntrustedMemory for FaultyMemory {
         ensures only_memory { IsOkUnless result MemStop.NoMemory }
         ensures after { OnOk result (self.new ≡ record self.old { memory = after_prepare self.old.memory buckets }) }
         ensures kept { OnErr result (Keeps self.old.memory.buckets self.new.memory.buckets) }
-        ensures err { OnErr result (self.new ≡ record self.old { memory = record self.old.memory { count = buckets; buckets = self.new.memory.buckets } }) }
+        ensures err { OnErr result (self.new ≡ record self.old {
+          memory = record self.old.memory { count = buckets; buckets = self.new.memory.buckets };
+        }) }
     {
         self.memory.prepare(buckets)
     }
@@ -186,7 +190,8 @@ impl UntrustedMemory for FaultyMemory {
         ensures ok { OnOk result (next_move_fails self.old ≡ false) }
         ensures failed { OnErr result (next_move_fails self.old ≡ true) }
         ensures only_failed { IsOkUnless result MemStop.Failed }
-        ensures after { OnOk result (self.new ≡ record self.old { memory = after_write self.old.memory bucket bytes.now }) }
+        ensures after { OnOk result
+            (self.new ≡ record self.old { memory = after_write self.old.memory bucket bytes.now }) }
         ensures err { OnErr result (self.new ≡ record self.old { memory = after_failure self.old.memory }) }
     {
         if self.next_fails() {
@@ -208,7 +213,8 @@ struct Asked {
 }
 
 /// A memory that answers its k-th read with the k-th of the replies that it was given, and fails exactly the reads past
-/// the last one. It tells no buckets, and it tells its first moves and their answers.
+/// the last one. It tells no buckets. It tells its moves and the answers of its reads as long as it was asked no more
+/// moves than the number that it was made with, and after that neither.
 #[derive(Drop)]
 pub struct ScriptedMemory {
     replies: Vec<[u8; BUCKET_BYTES]>,
@@ -233,14 +239,23 @@ impl Model for ScriptedMemory {
 }
 
 impl ScriptedMemory {
-    /// A memory with these replies, which tells its first `moves` moves. Its only refusal is `NoMemory`.
+    /// A memory with these replies, which tells its moves and answers until it is asked more than `moves` of them. Its
+    /// only refusal is `NoMemory`.
     pub fn new(
         alloc: Global,
         replies: Vec<[u8; BUCKET_BYTES]>,
         moves: usize,
     ) -> Result<ScriptedMemory, MemStop>
         ensures only_memory { IsOkUnless result MemStop.NoMemory }
-        ensures ok { IfOk result (λ m. m ≡ record { replies = replies.items; reads = 0; moved = 0; count = 0; moves = moves; seen = []; said = [] }) }
+        ensures ok { IfOk result (λ m. m ≡ record {
+          replies = replies.items;
+          reads = 0;
+          moved = 0;
+          count = 0;
+          moves = moves;
+          seen = [];
+          said = [];
+        }) }
     {
         let Ok(seen) = Vec::with_capacity(alloc, moves) else {
             return Err(MemStop::NoMemory);

@@ -1,4 +1,5 @@
-ghost use Rattle.std.specs.Prelude.{◌≡◌, ◌≢◌, [], ◌∷◌, ◌++◌, ℕ, List, Some, Ok, Err, IfOk, IfErr, OnOk, OnErr, IsOkUnless, ◌<◌, true, false, IsErrOf, vec_len, vec_capacity, string_bytes};
+ghost use Rattle.std.specs.Prelude.{◌≡◌, ◌≢◌, ℕ, ◌<◌, true, false, List, [], ◌∷◌, ◌++◌, Some, Ok, Err};
+ghost use Rattle.std.specs.Prelude.{IfOk, IfErr, OnOk, OnErr, IsOkUnless, IsErrOf, vec_len, vec_capacity, string_bytes};
 ghost use Rattle.std.specs.Option.{option_copied};
 
 use crate::host::{Host, HostFault};
@@ -64,7 +65,8 @@ impl MemHost {
     pub fn add(&mut self, name: &str, bytes: &[u8]) -> Result<(), HostFault>
         ensures only_memory { IsOkUnless result HostFault.NoMemory }
         ensures set { OnOk result (file_of self.new.files name.now ≡ Some bytes.now) }
-        ensures others { (other : List ℕ) → other ≢ name.now → file_of self.new.files other ≡ file_of self.old.files other }
+        ensures others { (other : List ℕ) → other ≢ name.now
+            → file_of self.new.files other ≡ file_of self.old.files other }
         ensures rest { self.new ≡ record self.old { files = self.new.files } }
         ensures err { OnErr result (self.new ≡ self.old) }
     {
@@ -99,7 +101,8 @@ impl MemHost {
 
     fn find(&self, alloc: Global, name: &str, limit: usize) -> Result<Vec<u8>, HostFault>
         ensures ok { IfOk result (λ bytes. read_answer self.now name.now limit ≡ Ok bytes.items) }
-        ensures err { IfErr result (λ fault. fault ≢ HostFault.NoMemory → read_answer self.now name.now limit ≡ Err fault) }
+        ensures err { IfErr result (λ fault. fault ≢ HostFault.NoMemory
+            → read_answer self.now name.now limit ≡ Err fault) }
     {
         if self.next_fails() {
             return Err(HostFault::Failed);
@@ -157,7 +160,8 @@ impl Host for MemHost {
 
     fn read_file(&mut self, alloc: Global, name: &str, limit: usize) -> Result<Vec<u8>, HostFault>
         ensures ok { IfOk result (λ bytes. read_answer self.old name.now limit ≡ Ok bytes.items) }
-        ensures err { IfErr result (λ fault. fault ≢ HostFault.NoMemory → read_answer self.old name.now limit ≡ Err fault) }
+        ensures err { IfErr result (λ fault. fault ≢ HostFault.NoMemory
+            → read_answer self.old name.now limit ≡ Err fault) }
         ensures after { self.new ≡ after_call self.old (Reads name.now) result }
     {
         let call = Asked::Read(self.copy_of(name)?);
@@ -175,7 +179,8 @@ impl Host for MemHost {
         ensures failed { IsErrOf result HostFault.Failed → next_fails self.old ≡ true }
         ensures never_long { IsErrOf result HostFault.TooLong → ⊥ }
         ensures written { OnOk result (file_of self.new.files name.now ≡ Some bytes.now) }
-        ensures others { (other : List ℕ) → other ≢ name.now → file_of self.new.files other ≡ file_of self.old.files other }
+        ensures others { (other : List ℕ) → other ≢ name.now
+            → file_of self.new.files other ≡ file_of self.old.files other }
         ensures refused { OnErr result (self.new.files ≡ self.old.files) }
         ensures after { self.new ≡ record (after_call self.old (Writes name.now) result) { files = self.new.files } }
     {

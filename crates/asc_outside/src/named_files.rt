@@ -13,7 +13,8 @@ pub fn set_file(
 ) -> Result<(), HostFault>
     ensures only_memory { IsOkUnless result HostFault.NoMemory }
     ensures set { OnOk result (file_of (file_pairs files.new.entries) (string_bytes name) ≡ Some bytes.items) }
-    ensures others { (other : List ℕ) → other ≢ string_bytes name → file_of (file_pairs files.new.entries) other ≡ file_of (file_pairs files.old.entries) other }
+    ensures others { (other : List ℕ) → other ≢ string_bytes name
+        → file_of (file_pairs files.new.entries) other ≡ file_of (file_pairs files.old.entries) other }
     ensures err { OnErr result (files.new.entries ≡ files.old.entries) }
 {
     match files.insert(name, bytes) {
