@@ -1,14 +1,17 @@
 -- What a tap means: the three lists of its log, its mirror, and the room that it has.
-use Rattle.std.specs.Prelude.{ℕ, Bool, true, false, if◌then◌else◌, List, [], ◌∷◌, ◌++◌, length, Option, None, Some, slice_get, bytes_eq}
+use Rattle.std.specs.Prelude.{ℕ, Bool, true, false, if◌then◌else◌, List, [], ◌∷◌, ◌++◌, length}
+use Rattle.std.specs.Prelude.{Option, None, Some, slice_get, bytes_eq}
 use Rattle.bus_watch.specs.declared.log.Move.{Move}
 use Rattle.bus_watch.specs.declared.log.Event.{Event}
 use Rattle.bus_watch.specs.declared.log.Altered.{Altered}
 
+-- what is noted: the moves, the events and the replies that differ, each in order
 pub record LogLists : Type 0 where
   pub moves : List Move
   pub events : List Event
   pub altered : List Altered
 
+-- what a tap means
 pub record TapState : Type 0 where
   pub log : LogLists
   -- each bucket as last written, zero bytes before
@@ -19,7 +22,12 @@ pub record TapState : Type 0 where
 
 -- nothing is noted, and nothing prepared
 abbrev pub fresh_tap : TapState
-fresh_tap = record { log = record { moves = []; events = []; altered = [] }; mirror = []; spare_moves = 0; spare_events = 0 }
+fresh_tap = record {
+  log = record { moves = []; events = []; altered = [] };
+  mirror = [];
+  spare_moves = 0;
+  spare_events = 0;
+}
 
 -- a read of a bucket at this time
 abbrev pub read_move : ℕ → ℕ → Move

@@ -1,5 +1,6 @@
 -- What a run of bus calls leaves of a memory and a tap.
-use Rattle.std.specs.Prelude.{◌≡◌, ◌+◌, ◌≤◌, ◌⊎◌, ℕ, Bool, if◌then◌else◌, List, [], ◌∷◌, ◌++◌, length, map, Option, None, Some, slice_set}
+use Rattle.std.specs.Prelude.{◌≡◌, ◌+◌, ◌≤◌, ◌⊎◌, ℕ, Bool, if◌then◌else◌, Option, None, Some}
+use Rattle.std.specs.Prelude.{List, [], ◌∷◌, ◌++◌, length, map, slice_set}
 use Rattle.std.specs.List.{flat_map}
 use Rattle.asc_outside.specs.Memory.{MemoryState, Ask, zero_buckets}
 use Rattle.bus_watch.specs.declared.log.Move.{Move}
@@ -45,6 +46,7 @@ written buckets (x ∷ xs) = written (written_by buckets x) xs
 abbrev pub Reply : Type 0
 Reply = ℕ × (ℕ × List ℕ)
 
+-- the reply that is noted as altered
 abbrev pub reply_of : Altered → Reply
 reply_of a = (a.time, (a.bucket, a.bytes))
 
@@ -64,8 +66,10 @@ differing buckets (x ∷ xs) = unlike_of buckets x ++ differing (written_by buck
 
 -- These exchanges are what the memory tells of its moves and answers since the start.
 pub record Tells (start memory : MemoryState) (xs : List Exchange) : Type 0 where
-  pub seen : (all : List Ask) → memory.seen ≡ Some all → (before : List Ask) × (start.seen ≡ Some before) × (all ≡ before ++ map ask_of xs)
-  pub said : (all : List (Option (List ℕ))) → memory.said ≡ Some all → (before : List (Option (List ℕ))) × (start.said ≡ Some before) × (all ≡ before ++ flat_map said_of xs)
+  pub seen : (all : List Ask) → memory.seen ≡ Some all
+      → (before : List Ask) × (start.seen ≡ Some before) × (all ≡ before ++ map ask_of xs)
+  pub said : (all : List (Option (List ℕ))) → memory.said ≡ Some all
+      → (before : List (Option (List ℕ))) × (start.said ≡ Some before) × (all ≡ before ++ flat_map said_of xs)
 
 -- Some exchanges are what the memory tells since the start; the log has their moves in order, the mirror each bucket's
 -- last Ok write by them, and the altered replies are those that differ from it.

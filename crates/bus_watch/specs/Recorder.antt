@@ -8,8 +8,14 @@ use Rattle.bus_watch.specs.Log.{LogLists, TapState}
 abbrev pub lists_of : Log → LogLists
 lists_of log = record { moves = log.moves.items; events = log.events.items; altered = log.altered.items }
 
+-- what a recorder means: all of its fields but the allocator
 abbrev pub recorded : Inside → TapState
-recorded r = record { log = lists_of r.log; mirror = r.mirror.items; spare_moves = r.spare_moves; spare_events = r.spare_events }
+recorded r = record {
+  log = lists_of r.log;
+  mirror = r.mirror.items;
+  spare_moves = r.spare_moves;
+  spare_events = r.spare_events;
+}
 
 -- there is room for the spare moves and events
 pub record HasRoom (r : Inside) : Type 0 where

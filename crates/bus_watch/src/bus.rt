@@ -1,4 +1,5 @@
-ghost use Rattle.std.specs.Prelude.{◌≡◌, ◌<◌, ◌≤◌, ◌+◌, ◌*◌, ◌^◌, OnOk, OnErr, IsErrOf, length, slice_set, option_map, [], ◌∷◌};
+ghost use Rattle.std.specs.Prelude.{◌≡◌, ◌<◌, ◌≤◌, ◌+◌, ◌*◌, ◌^◌, ◌⊎◌, OnOk, OnErr, IsErrOf};
+ghost use Rattle.std.specs.Prelude.{length, slice_set, option_map, [], ◌∷◌};
 ghost use Rattle.asc_outside.specs.Host.{Rose};
 ghost use Rattle.asc_outside.specs.Memory.{MemoryState, Keeps, zero_buckets};
 ghost use Rattle.bus_watch.specs.Log.{read_move, write_move, with_move, with_reply, with_event};
@@ -14,15 +15,16 @@ use asc_outside::{BUCKET_BYTES, Failed, MemStop, UntrustedMemory};
 /// Why a call of the bus stops.
 #[derive(Clone, Copy, Debug, PartialEq, Eq)]
 pub enum BusStop {
-    /// The memory failed, and its count of faults rose.
+    /// The memory failed, and its count of faults rose, or stands at its type's end.
     Device,
     /// There is no memory, for the memory's buckets or for the tap.
     NoMemory,
 }
 
-/// The one way to a memory: each move is noted by the tap, and asked of the memory once.
+/// A memory beside its tap: each read and write of the bus notes its move, and asks the memory once.
 ///
-/// Contracts see a bus as its memory and its tap. A caller hands the two references on, and asks neither itself.
+/// Contracts see a bus as its memory and its tap, so both fields are public. A caller that asks one of them itself goes
+/// around the bus, and nothing is said of it here.
 #[derive(Drop)]
 pub struct Bus<'b, M: UntrustedMemory, W: Watch> {
     /// The memory that is asked.
@@ -45,7 +47,8 @@ impl<'b, M: UntrustedMemory, W: Watch> Bus<'b, M, W> {
     /// Prepares memory and tap, once: buckets of zero bytes, and room for the moves and events of so many accesses,
     /// which are `2 * (levels + 1)` and 6 of each.
     ///
-    /// `Device` only where the memory's count of faults rose.
+    /// `Device` only where the memory's count of faults rose. After a refusal of the memory's own, the buckets that it
+    /// told are as before, or are told no more. Where it was the tap that had no memory, they are of zero bytes.
     pub fn prepare(&mut self, buckets: u32, levels: u32, accesses: u64) -> Result<(), BusStop>
         requires fresh { (M.state self.old.memory.now).count ≡ 0 }
         requires some { 0 < buckets }
@@ -57,7 +60,13 @@ impl<'b, M: UntrustedMemory, W: Watch> Bus<'b, M, W> {
         ensures moved { (M.state self.new.memory.now).moved ≡ (M.state self.old.memory.now).moved }
         ensures seen { (M.state self.new.memory.now).seen ≡ (M.state self.old.memory.now).seen }
         ensures said { (M.state self.new.memory.now).said ≡ (M.state self.old.memory.now).said }
-        ensures told { OnOk result ((M.state self.new.memory.now).told ≡ option_map (λ _. (W.state self.new.tap.now).mirror) (M.state self.old.memory.now).told) }
+        ensures told { OnOk result ((M.state self.new.memory.now).told
+            ≡ option_map (λ _. (W.state self.new.tap.now).mirror) (M.state self.old.memory.now).told) }
+        ensures told_device { IsErrOf result BusStop.Device
+            → Keeps (M.state self.old.memory.now).told (M.state self.new.memory.now).told }
+        ensures told_err { OnErr result (Keeps (M.state self.old.memory.now).told (M.state self.new.memory.now).told
+            ⊎ ((M.state self.new.memory.now).told
+            ≡ option_map (λ _. zero_buckets buckets) (M.state self.old.memory.now).told)) }
         ensures later { (M.state self.old.memory.now).faults ≤ (M.state self.new.memory.now).faults }
         ensures log { (W.state self.new.tap.now).log ≡ (W.state self.old.tap.now).log }
         ensures mirror { OnOk result ((W.state self.new.tap.now).mirror ≡ zero_buckets buckets) }
@@ -67,7 +76,8 @@ impl<'b, M: UntrustedMemory, W: Watch> Bus<'b, M, W> {
         ensures tied { (W.state self.old.tap.now).log.moves ≡ [] → (start : MemoryState)
             → Tied start (M.state self.old.memory.now) (W.state self.old.tap.now)
             → Tied start (M.state self.new.memory.now) (W.state self.new.tap.now) }
-        ensures cause { IsErrOf result BusStop.Device → Rose (M.state self.old.memory.now).faults (M.state self.new.memory.now).faults }
+        ensures cause { IsErrOf result BusStop.Device
+            → Rose (M.state self.old.memory.now).faults (M.state self.new.memory.now).faults }
     {
         match self.memory.prepare(buckets) {
             Ok(()) => {}
@@ -99,14 +109,18 @@ impl<'b, M: UntrustedMemory, W: Watch> Bus<'b, M, W> {
         requires asked { (M.state self.old.memory.now).moved < 2 ^ 63 }
         requires room { 0 < (W.state self.old.tap.now).spare_moves }
         ensures same { IsSameBus self.old self.new }
-        ensures made { Made (end_of result) (read_move time bucket ∷ []) (M.state self.old.memory.now) (M.state self.new.memory.now)
+        ensures made { Made (end_of result) (read_move time bucket ∷ [])
+            (M.state self.old.memory.now) (M.state self.new.memory.now)
             (W.state self.old.tap.now) (W.state self.new.tap.now) }
         ensures mirror { (W.state self.new.tap.now).mirror ≡ (W.state self.old.tap.now).mirror }
         ensures events { (W.state self.new.tap.now).spare_events ≡ (W.state self.old.tap.now).spare_events }
-        ensures log { OnOk result ((W.state self.new.tap.now).log ≡ with_reply (with_move (W.state self.old.tap.now).log (read_move time bucket))
+        ensures log { OnOk result ((W.state self.new.tap.now).log
+            ≡ with_reply (with_move (W.state self.old.tap.now).log (read_move time bucket))
             (W.state self.old.tap.now).mirror time bucket into.new) }
-        ensures log_err { OnErr result ((W.state self.new.tap.now).log ≡ with_move (W.state self.old.tap.now).log (read_move time bucket)) }
-        ensures cause { IsErrOf result BusStop.Device → Rose (M.state self.old.memory.now).faults (M.state self.new.memory.now).faults }
+        ensures log_err { OnErr result ((W.state self.new.tap.now).log
+            ≡ with_move (W.state self.old.tap.now).log (read_move time bucket)) }
+        ensures cause { IsErrOf result BusStop.Device
+            → Rose (M.state self.old.memory.now).faults (M.state self.new.memory.now).faults }
     {
         let read = Move {
             time,
@@ -138,13 +152,17 @@ impl<'b, M: UntrustedMemory, W: Watch> Bus<'b, M, W> {
         requires asked { (M.state self.old.memory.now).moved < 2 ^ 63 }
         requires room { 0 < (W.state self.old.tap.now).spare_moves }
         ensures same { IsSameBus self.old self.new }
-        ensures made { Made (end_of result) (write_move time bucket ∷ []) (M.state self.old.memory.now) (M.state self.new.memory.now)
+        ensures made { Made (end_of result) (write_move time bucket ∷ [])
+            (M.state self.old.memory.now) (M.state self.new.memory.now)
             (W.state self.old.tap.now) (W.state self.new.tap.now) }
-        ensures mirror { OnOk result ((W.state self.new.tap.now).mirror ≡ slice_set (W.state self.old.tap.now).mirror bucket bytes.now) }
+        ensures mirror { OnOk result ((W.state self.new.tap.now).mirror
+            ≡ slice_set (W.state self.old.tap.now).mirror bucket bytes.now) }
         ensures mirror_err { OnErr result ((W.state self.new.tap.now).mirror ≡ (W.state self.old.tap.now).mirror) }
         ensures events { (W.state self.new.tap.now).spare_events ≡ (W.state self.old.tap.now).spare_events }
-        ensures log { (W.state self.new.tap.now).log ≡ with_move (W.state self.old.tap.now).log (write_move time bucket) }
-        ensures cause { IsErrOf result BusStop.Device → Rose (M.state self.old.memory.now).faults (M.state self.new.memory.now).faults }
+        ensures log { (W.state self.new.tap.now).log
+            ≡ with_move (W.state self.old.tap.now).log (write_move time bucket) }
+        ensures cause { IsErrOf result BusStop.Device
+            → Rose (M.state self.old.memory.now).faults (M.state self.new.memory.now).faults }
     {
         let write = Move {
             time,

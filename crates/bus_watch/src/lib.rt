@@ -1,4 +1,5 @@
-//! The tap on the memory bus: what it notes of each move, and the bus that no move goes around.
+//! The tap on the memory bus: what it notes of each move, and the bus, whose reads and writes each note their move and
+//! ask the memory once.
 #![tactic(auto)]
 
 mod bus;

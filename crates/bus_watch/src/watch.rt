@@ -47,7 +47,8 @@ pub trait Watch {
         bytes: &[u8; BUCKET_BYTES],
     ) -> Result<(), NoMemory>
         requires { bucket < length (state self.old).mirror }
-        ensures log { OnOk result ((state self.new).log ≡ with_reply (state self.old).log (state self.old).mirror time bucket bytes.now) }
+        ensures log { OnOk result ((state self.new).log
+            ≡ with_reply (state self.old).log (state self.old).mirror time bucket bytes.now) }
         ensures mirror { (state self.new).mirror ≡ (state self.old).mirror }
         ensures moves { (state self.new).spare_moves ≡ (state self.old).spare_moves }
         ensures events { (state self.new).spare_events ≡ (state self.old).spare_events }
