@@ -1,5 +1,7 @@
 -- Buckets and their bytes.
-use Rattle.std.proofs.Common.{◌≡◌, ℕ, ◌+◌, ◌*◌, ◌^◌, ◌<◌, ◌==◌, false, List, [], ◌∷◌, ◌++◌, length, take, drop, get_or, flat_map, Option, Some, None, Ok, refl, sym, ap, ◌∙◌, lit<, append-nil, length-append, length-drop, arith}
+use Rattle.std.proofs.Common.{◌≡◌, ℕ, ◌+◌, ◌*◌, ◌^◌, ◌<◌, ◌==◌, false, List, [], ◌∷◌, ◌++◌, length, take, drop, get_or}
+use Rattle.std.proofs.Common.{flat_map, Option, Some, None, Ok, refl, sym, ap, ◌∙◌, lit<, append-nil, length-append}
+use Rattle.std.proofs.Common.{length-drop, arith}
 use Rattle.std.proofs.lemmas.List.{drop-drop, take_more}
 use Rattle.std.proofs.lemmas.List.Concat.{flat_map-append}
 use Rattle.asc_base.specs.declared.block.Entry.{Entry}
@@ -11,7 +13,8 @@ use Rattle.bucket_codec.proofs.Pads.{length-pad_of, masked-twice}
 use Rattle.bucket_codec.proofs.Slots.{is_false, slot_in-text, slot_of_text, length-slot_text}
 use Rattle.bucket_codec.specs.Pad.{pad_of, masked}
 use Rattle.bucket_codec.specs.Slot.{slot_text, slot_in, IsSlot, IsInRange}
-use Rattle.bucket_codec.specs.Bucket.{body_text, bucket_text, seed_in, body_in, part, slot_at, slots_in, opened, AreSlots, AreInRange}
+use Rattle.bucket_codec.specs.Bucket.{body_text, bucket_text, seed_in, body_in, part, slot_at, slots_in, opened}
+use Rattle.bucket_codec.specs.Bucket.{AreSlots, AreInRange}
 
 -- one slot more
 body_text-more : (slots : List (Option Entry)) (place : ℕ) → place < length slots
@@ -34,7 +37,8 @@ body-more slots zeros body text place h four z b t e =
     let long : length done ≡ 92 * place =
     omega (arith, length-append done rest, length-drop (92 * place) zeros, ap length e) in
     let next : 92 * place + 92 ≡ 92 * (place + 1) = omega arith in
-    let ends : drop 92 rest ≡ drop (92 * (place + 1)) zeros = drop-drop 92 (92 * place) zeros ∙ ap (λ n. drop n zeros) next in
+    let ends : drop 92 rest ≡ drop (92 * (place + 1)) zeros =
+    drop-drop 92 (92 * place) zeros ∙ ap (λ n. drop n zeros) next in
     let begins : body_text (take (place + 1) slots) ≡ done ++ text =
     body_text-more slots place (omega arith) ∙ ap (λ x. done ++ x) (sym t) in
     rw e (placed done rest text (92 * place) 92 long ∙ rw (ends, begins) refl)
@@ -106,8 +110,8 @@ pub seed_in-bucket : (key : List ℕ) (seed : ℕ) (slots : List (Option Entry))
 unfolding seed_in bucket_text
 seed_in-bucket key seed slots h = from_be_bytes-to_be_bytes_8 seed h
 
-body_in-bucket : (key : List ℕ) (seed : ℕ) (slots : List (Option Entry)) → seed < 2 ^ 64 → length (body_text slots) ≡ 368
-    → body_in key (bucket_text key seed slots) ≡ body_text slots
+body_in-bucket : (key : List ℕ) (seed : ℕ) (slots : List (Option Entry)) → seed < 2 ^ 64
+    → length (body_text slots) ≡ 368 → body_in key (bucket_text key seed slots) ≡ body_text slots
 unfolding body_in bucket_text
 body_in-bucket key seed slots h long =
     ap (λ n. masked (pad_of key n) (masked (pad_of key seed) (body_text slots))) (seed_in-bucket key seed slots h)
@@ -123,7 +127,8 @@ opened_four key shape seed a b c d some below ha hb hc hd ra rb rc rd =
     let slots = a ∷ b ∷ c ∷ d ∷ [] in
     let same = seed_in-bucket key seed slots below in
     let test : (seed_in (bucket_text key seed slots) == 0) ≡ false =
-    is_false _ (seed_in (bucket_text key seed slots) ≡ 0) (Decides-eqb _ 0) (λ zero. absurd (omega (arith, same, zero))) in
+    is_false _ (seed_in (bucket_text key seed slots) ≡ 0) (Decides-eqb _ 0)
+    (λ zero. absurd (omega (arith, same, zero))) in
     let body = body_in-bucket key seed slots below (length-body_text a b c d ha hb hc hd) in
     let parts = parts_of a b c d ha hb hc hd in
     rw (test, body) (slots_in-four shape (body_text slots) a b c d
@@ -139,7 +144,8 @@ opened_bucket key shape seed (a ∷ []) some below is range = absurd (omega (ari
 opened_bucket key shape seed (a ∷ b ∷ []) some below is range = absurd (omega (arith, is.four))
 opened_bucket key shape seed (a ∷ b ∷ c ∷ []) some below is range = absurd (omega (arith, is.four))
 opened_bucket key shape seed (a ∷ b ∷ c ∷ d ∷ []) some below is range =
-    opened_four key shape seed a b c d some below (is.each 0 a (lit< tt)) (is.each 1 a (lit< tt)) (is.each 2 a (lit< tt))
+    opened_four key shape seed a b c d some below (is.each 0 a (lit< tt)) (is.each 1 a (lit< tt))
+    (is.each 2 a (lit< tt))
     (is.each 3 a (lit< tt)) (range 0 a (lit< tt)) (range 1 a (lit< tt)) (range 2 a (lit< tt)) (range 3 a (lit< tt))
 opened_bucket key shape seed (a ∷ b ∷ c ∷ d ∷ e ∷ rest) some below is range = absurd (omega (arith, is.four))
 

@@ -1,5 +1,6 @@
 -- Pads, and bytes under them.
-use Rattle.std.proofs.Common.{◌≡◌, ℕ, zero, suc, ◌+◌, ◌*◌, ◌%◌, ◌^◌, ◌<◌, List, [], ◌∷◌, ◌++◌, length, take, drop, get_or, set, bit_xor, refl, ap, sym, ◌∙◌, arith}
+use Rattle.std.proofs.Common.{◌≡◌, ℕ, zero, suc, ◌+◌, ◌*◌, ◌%◌, ◌^◌, ◌<◌, List, [], ◌∷◌, ◌++◌, length, take, drop}
+use Rattle.std.proofs.Common.{get_or, set, bit_xor, refl, ap, sym, ◌∙◌, arith}
 use Rattle.std.specs.Int.{w32, to_le_bytes}
 use Rattle.std.specs.Int.Bits.{xor_assoc, xor_self, xor_zero_l}
 use Rattle.std.proofs.lemmas.Nat.{xor_comm}
@@ -14,7 +15,8 @@ generator_at key stream place = record { key = key_of key; stream = stream; word
 
 -- the words that a generator gives from the start of a stream
 pub word_bytes-start : (key : List ℕ) (stream n : ℕ) → n < 2 ^ 68
-    → word_bytes (to_le_bytes w32) (next_word 10) n (generator_at key stream 0) ≡ (stream_bytes key stream n, generator_at key stream n)
+    → word_bytes (to_le_bytes w32) (next_word 10) n (generator_at key stream 0)
+    ≡ (stream_bytes key stream n, generator_at key stream n)
 unfolding word_bytes stream_bytes
 word_bytes-start key stream zero h = refl
 word_bytes-start key stream (suc n) h =

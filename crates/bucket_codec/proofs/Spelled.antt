@@ -1,5 +1,8 @@
 -- What is read gives back the bytes that it was read from.
-use Rattle.std.proofs.Common.{◌≡◌, ◌≢◌, ◌↔◌, ℕ, zero, suc, ◌+◌, ◌*◌, ◌/◌, ◌^◌, ◌<◌, ◌≤◌, ◌==◌, Bool, true, false, ◌&&◌, ◌⊎◌, List, [], ◌∷◌, ◌++◌, length, take, drop, get_or, All, Option, Some, None, Ok, Err, refl, sym, ap, ◌∙◌, subst, inl, inr, lit<, append-nil, below_none, below_more, length-drop, arith}
+use Rattle.std.proofs.Common.{◌≡◌, ◌≢◌, ◌↔◌, ℕ, zero, suc, ◌+◌, ◌*◌, ◌/◌, ◌^◌, ◌<◌, ◌≤◌, ◌==◌, Bool, true, false, ◌&&◌}
+use Rattle.std.proofs.Common.{◌⊎◌, List, [], ◌∷◌, ◌++◌, length, take, drop, get_or, All, Option, Some, None, Ok, Err}
+use Rattle.std.proofs.Common.{refl, sym, ap, ◌∙◌, subst, inl, inr, lit<, append-nil, below_none, below_more}
+use Rattle.std.proofs.Common.{length-drop, arith}
 use Rattle.std.specs.Int.{w32, w64, to_be_bytes, from_be_bytes, to_le_bytes, byte_at}
 use Rattle.std.specs.Str.{bytes_eq}
 use Rattle.std.proofs.lemmas.Bool.Decides.{Decides-eqb, Decides-ltb}
@@ -10,12 +13,15 @@ use Rattle.std.proofs.lemmas.Slice.Eq.{bytes_eq-Decides}
 use Rattle.asc_base.specs.declared.block.Entry.{Entry}
 use Rattle.asc_base.specs.declared.shape.Shape.{Shape}
 use Rattle.bucket_codec.proofs.Pads.{length-pad_of, length-masked, masked-twice}
-use Rattle.bucket_codec.proofs.Slots.{is_false, slot_in-text, slot_in-empty, slot_in-no_flag, slot_in-outside, slot_in-entry}
+use Rattle.bucket_codec.proofs.Slots.{is_false, slot_in-text, slot_in-empty, slot_in-no_flag, slot_in-outside}
+use Rattle.bucket_codec.proofs.Slots.{slot_in-entry}
 use Rattle.bucket_codec.proofs.Buckets.{slots_in-four}
-use Rattle.bucket_codec.specs.Bucket.{body_text, bucket_text, seed_in, body_in, part, slot_at, slots_in, opened, IsFirstBad, AreSlots, AreInRange}
+use Rattle.bucket_codec.specs.Bucket.{body_text, bucket_text, seed_in, body_in, part, slot_at, slots_in, opened}
+use Rattle.bucket_codec.specs.Bucket.{IsFirstBad, AreSlots, AreInRange}
 use Rattle.bucket_codec.specs.declared.codec.BadSlot.{BadSlot}
 use Rattle.bucket_codec.specs.Pad.{stream_bytes, pad_of, masked}
-use Rattle.bucket_codec.specs.Slot.{flag, entry_text, empty_text, slot_text, entry_in, is_placed, slot_in, IsEntry, IsSlot, IsInRange, Spells}
+use Rattle.bucket_codec.specs.Slot.{flag, entry_text, empty_text, slot_text, entry_in, is_placed, slot_in, IsEntry}
+use Rattle.bucket_codec.specs.Slot.{IsSlot, IsInRange, Spells}
 
 -- every element is a byte
 abbrev pub Bytes : List ℕ → Type 0
@@ -79,7 +85,8 @@ number_back place text long h bytes =
     (bytes_take 4 (drop place text) (bytes_drop place text bytes)) refl
 
 -- the rest of a list, a part before what follows it
-parted : (place n next : ℕ) (text : List ℕ) → place + n ≡ next → drop place text ≡ take n (drop place text) ++ drop next text
+parted : (place n next : ℕ) (text : List ℕ) → place + n ≡ next
+    → drop place text ≡ take n (drop place text) ++ drop next text
 parted place n next text e =
     sym (take-append-drop n (drop place text))
     ∙ ap (λ t. take n (drop place text) ++ t) (drop-drop n place text ∙ ap (λ k. drop k text) e)
@@ -88,13 +95,16 @@ parted place n next text e =
 entry_back : (text : List ℕ) → length text ≡ 92 → Bytes text → take 4 text ≡ flag → entry_text (entry_in text) ≡ text
 unfolding entry_text entry_in
 entry_back text long bytes flagged =
-    let tail : take 16 (drop 76 text) ≡ drop 76 text = take_all 16 (drop 76 text) (omega (arith, length-drop 76 text)) in
+    let tail : take 16 (drop 76 text) ≡ drop 76 text =
+    take_all 16 (drop 76 text) (omega (arith, length-drop 76 text)) in
     let line : take 64 (drop 12 text) ++ take 16 (drop 76 text) ≡ drop 12 text =
     ap (λ t. take 64 (drop 12 text) ++ t) tail ∙ sym (parted 12 64 76 text refl) in
-    let leaf : to_be_bytes w32 (from_be_bytes w32 (take 4 (drop 8 text))) ++ (take 64 (drop 12 text) ++ take 16 (drop 76 text)) ≡ drop 8 text =
+    let leaf : to_be_bytes w32 (from_be_bytes w32 (take 4 (drop 8 text)))
+    ++ (take 64 (drop 12 text) ++ take 16 (drop 76 text)) ≡ drop 8 text =
     ap (λ t. t ++ (take 64 (drop 12 text) ++ take 16 (drop 76 text))) (number_back 8 text long (lit< tt) bytes)
     ∙ ap (λ t. take 4 (drop 8 text) ++ t) line ∙ sym (parted 8 4 12 text refl) in
-    let rest = to_be_bytes w32 (from_be_bytes w32 (take 4 (drop 8 text))) ++ (take 64 (drop 12 text) ++ take 16 (drop 76 text)) in
+    let rest =
+    to_be_bytes w32 (from_be_bytes w32 (take 4 (drop 8 text))) ++ (take 64 (drop 12 text) ++ take 16 (drop 76 text)) in
     let address : to_be_bytes w32 (from_be_bytes w32 (take 4 (drop 4 text))) ++ rest ≡ drop 4 text =
     ap (λ t. t ++ rest) (number_back 4 text long (lit< tt) bytes) ∙ ap (λ t. take 4 (drop 4 text) ++ t) leaf
     ∙ sym (parted 4 4 8 text refl) in
@@ -139,7 +149,8 @@ slot_spells shape text slot long bytes e =
       | inr other ↦ elim (decided (bytes_eq (take 4 text) flag)) [
         | inl flagged ↦ elim (decided (is_placed shape (entry_in text))) [
           | inl inside ↦ (
-              let some : Some (entry_in text) ≡ slot = let told = sym (slot_in-entry shape text other flagged inside) ∙ e in cc in
+              let some : Some (entry_in text) ≡ slot =
+              let told = sym (slot_in-entry shape text other flagged inside) ∙ e in cc in
               subst (λ s. Spells shape s text) some (record {
                 spelled = entry_back text long bytes ((bytes_eq-Decides (take 4 text) flag).0 flagged);
                 is = entry_is text long bytes;
@@ -153,7 +164,8 @@ slot_spells shape text slot long bytes e =
     ]
 
 -- and the other way
-pub slot_spelled : (shape : Shape) (text : List ℕ) (slot : Option Entry) → Spells shape slot text → slot_in shape text ≡ Some slot
+pub slot_spelled : (shape : Shape) (text : List ℕ) (slot : Option Entry) → Spells shape slot text
+    → slot_in shape text ≡ Some slot
 slot_spelled shape text slot h = ap (slot_in shape) (sym h.spelled) ∙ slot_in-text shape slot h.is h.range
 
 -- a slot that is read, or isn't
@@ -169,12 +181,13 @@ bad_1 : (shape : Shape) (body : List ℕ) (a : Option Entry) → slot_at shape b
     → slots_in shape body ≡ Err (record { slot = 1 })
 bad_1 shape body a ea e = rw (ea, e) refl
 
-bad_2 : (shape : Shape) (body : List ℕ) (a b : Option Entry) → slot_at shape body 0 ≡ Some a → slot_at shape body 1 ≡ Some b
-    → slot_at shape body 2 ≡ None → slots_in shape body ≡ Err (record { slot = 2 })
+bad_2 : (shape : Shape) (body : List ℕ) (a b : Option Entry) → slot_at shape body 0 ≡ Some a
+    → slot_at shape body 1 ≡ Some b → slot_at shape body 2 ≡ None → slots_in shape body ≡ Err (record { slot = 2 })
 bad_2 shape body a b ea eb e = rw (ea, eb, e) refl
 
-bad_3 : (shape : Shape) (body : List ℕ) (a b c : Option Entry) → slot_at shape body 0 ≡ Some a → slot_at shape body 1 ≡ Some b
-    → slot_at shape body 2 ≡ Some c → slot_at shape body 3 ≡ None → slots_in shape body ≡ Err (record { slot = 3 })
+bad_3 : (shape : Shape) (body : List ℕ) (a b c : Option Entry) → slot_at shape body 0 ≡ Some a
+    → slot_at shape body 1 ≡ Some b → slot_at shape body 2 ≡ Some c → slot_at shape body 3 ≡ None
+    → slots_in shape body ≡ Err (record { slot = 3 })
 bad_3 shape body a b c ea eb ec e = rw (ea, eb, ec, e) refl
 
 -- four slots that were read
@@ -219,7 +232,11 @@ answer shape body =
                 let before = below_more P 0 (below_none P) (there (slot_at shape body 0) a.0 a.1) in
                 let before_2 = below_more P 1 before (there (slot_at shape body 1) b.0 b.1) in
                 let before_3 = below_more P 2 before_2 (there (slot_at shape body 2) c.0 c.1) in
-                inr (3, bad_3 shape body a.0 b.0 c.0 a.1 b.1 c.1 n, record { below = lit< tt; bad = n; before = before_3 })
+                inr (
+                  3,
+                  bad_3 shape body a.0 b.0 c.0 a.1 b.1 c.1 n,
+                  record { below = lit< tt; bad = n; before = before_3 },
+                )
                 )
             | inr d ↦ inl (
               record { a = a.0; b = b.0; c = c.0; d = d.0; is_a = a.1; is_b = b.1; is_c = c.1; is_d = d.1 },
@@ -231,7 +248,8 @@ answer shape body =
     ]
 
 -- the slot that is named is the first that isn't in the form
-pub first_bad : (shape : Shape) (body : List ℕ) (bad : BadSlot) → slots_in shape body ≡ Err bad → IsFirstBad shape body bad.slot
+pub first_bad : (shape : Shape) (body : List ℕ) (bad : BadSlot) → slots_in shape body ≡ Err bad
+    → IsFirstBad shape body bad.slot
 unfolding Answer
 first_bad shape body bad e =
     elim (answer shape body) [
@@ -242,8 +260,8 @@ first_bad shape body bad e =
           )
     ]
 
-pub opened_first_bad : (key : List ℕ) (shape : Shape) (bytes : List ℕ) (bad : BadSlot) → opened key shape bytes ≡ Err bad
-    → IsFirstBad shape (body_in key bytes) bad.slot
+pub opened_first_bad : (key : List ℕ) (shape : Shape) (bytes : List ℕ) (bad : BadSlot)
+    → opened key shape bytes ≡ Err bad → IsFirstBad shape (body_in key bytes) bad.slot
 unfolding opened
 opened_first_bad key shape bytes bad e =
     elim (decided (seed_in bytes == 0)) [
@@ -252,8 +270,8 @@ opened_first_bad key shape bytes bad e =
     ]
 
 -- the bytes of four slots that were read
-part_spells : (shape : Shape) (body : List ℕ) (place : ℕ) (slot : Option Entry) → length body ≡ 368 → Bytes body → place < 4
-    → slot_at shape body place ≡ Some slot → Spells shape slot (part body place)
+part_spells : (shape : Shape) (body : List ℕ) (place : ℕ) (slot : Option Entry) → length body ≡ 368
+    → Bytes body → place < 4 → slot_at shape body place ≡ Some slot → Spells shape slot (part body place)
 unfolding slot_at
 part_spells shape body place slot long bytes h e =
     let enough : 92 ≤ length (drop (92 * place) body) = omega (arith, length-drop (92 * place) body) in
@@ -268,7 +286,8 @@ record Whole (shape : Shape) (body : List ℕ) (slots : List (Option Entry)) : T
 
 all_four : (P : Option Entry → Type 0) (a b c d : Option Entry) → P a → P b → P c → P d → All P (a ∷ b ∷ c ∷ d ∷ [])
 all_four P a b c d ha hb hc hd =
-    All-cons P a (b ∷ c ∷ d ∷ []) ha (All-cons P b (c ∷ d ∷ []) hb (All-cons P c (d ∷ []) hc (All-cons P d [] hd (All-nil P))))
+    All-cons P a (b ∷ c ∷ d ∷ []) ha
+    (All-cons P b (c ∷ d ∷ []) hb (All-cons P c (d ∷ []) hc (All-cons P d [] hd (All-nil P))))
 
 whole_of : (shape : Shape) (body : List ℕ) (r : Read shape body) → length body ≡ 368 → Bytes body
     → Whole shape body (r.a ∷ r.b ∷ r.c ∷ r.d ∷ [])
@@ -278,7 +297,8 @@ whole_of shape body r long bytes =
     let b = part_spells shape body 1 r.b long bytes (lit< tt) r.is_b in
     let c = part_spells shape body 2 r.c long bytes (lit< tt) r.is_c in
     let d = part_spells shape body 3 r.d long bytes (lit< tt) r.is_d in
-    let end : take 92 (drop 276 body) ≡ drop 276 body = take_all 92 (drop 276 body) (omega (arith, length-drop 276 body)) in
+    let end : take 92 (drop 276 body) ≡ drop 276 body =
+    take_all 92 (drop 276 body) (omega (arith, length-drop 276 body)) in
     let td = slot_text r.d ++ [] in
     let tc = slot_text r.c ++ td in
     let tb = slot_text r.b ++ tc in
@@ -324,7 +344,8 @@ opened_spelled key shape bytes slots long all some e =
     let enough : 8 ≤ length bytes = omega (arith, long) in
     let seed : to_be_bytes w64 (seed_in bytes) ≡ take 8 bytes =
     be_bytes_8 (take 8 bytes) _ (length-take-le 8 bytes enough) (bytes_take 8 bytes each) refl in
-    let body : masked pad (body_text slots) ≡ drop 8 bytes = ap (masked pad) whole.spelled ∙ masked-twice pad (drop 8 bytes) same in (
+    let body : masked pad (body_text slots) ≡ drop 8 bytes =
+    ap (masked pad) whole.spelled ∙ masked-twice pad (drop 8 bytes) same in (
       ap (λ t. t ++ masked pad (body_text slots)) seed ∙ ap (λ t. take 8 bytes ++ t) body ∙ take-append-drop 8 bytes,
       whole.are,
       whole.range,

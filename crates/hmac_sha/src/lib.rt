@@ -8,11 +8,16 @@ ghost use Rattle.hmac_sha.specs.Hmac.{hmac, derive, block_key, key_pad, inner_pa
 
 use sha2::{Digest, Sha256};
 
+mod laws;
 #[cfg(test)]
 mod tests;
 
+pub use laws::codes_have_32_bytes;
+
+/// The byte that each byte of the key's block is xored with before the inner hash: ipad of RFC 2104, section 2.
 const INNER_PAD: u8 = 0x36;
 
+/// The byte that each byte of the key's block is xored with before the outer hash: opad of RFC 2104, section 2.
 const OUTER_PAD: u8 = 0x5c;
 
 /// The authentication code of a message under a key (RFC 2104, with SHA-256 and its block of 64 bytes).

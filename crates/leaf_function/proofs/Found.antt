@@ -1,5 +1,6 @@
 -- What a search finds.
-use Rattle.std.proofs.Common.{◌≡◌, ℕ, ◌^◌, ◌<◌, Bool, true, false, List, [], ◌∷◌, Option, Some, None, All, IfSome, find, option_map, cond}
+use Rattle.std.proofs.Common.{◌≡◌, ℕ, ◌^◌, ◌<◌, Bool, true, false, List, [], ◌∷◌, Option, Some, None, All, IfSome, find}
+use Rattle.std.proofs.Common.{option_map, cond}
 use Rattle.std.proofs.lemmas.List.Elements.{All-head, All-tail}
 use Rattle.asc_base.specs.declared.block.Leaf.{Leaf}
 use Rattle.asc_base.specs.declared.block.Point.{Point}
@@ -7,7 +8,8 @@ use Rattle.std.specs.Option.{option_map_or}
 use Rattle.leaf_function.specs.Table.{AllBelow, Table, same_point, table_leaf}
 
 -- of one of two
-either : {X : Type 0} (P : X → Type 0) (b : Bool) (x : X) (r : Option X) → P x → IfSome r P → IfSome (cond b (Some x) r) P
+either : {X : Type 0} (P : X → Type 0) (b : Bool) (x : X) (r : Option X) → P x → IfSome r P
+    → IfSome (cond b (Some x) r) P
 either P true x r here later = here
 either P false x r here later = later
 
@@ -30,14 +32,14 @@ found_below pairs levels test leaf all =
     of levels leaf (find test pairs) (IfSome-find (λ pair. pair.1.0 < 2 ^ levels) test pairs all)
 
 -- the leaf of what is found, or the rest's
-given : (levels rest : ℕ) (found : Option (Point × Leaf)) → rest < 2 ^ levels → IfSome found (λ pair. pair.1.0 < 2 ^ levels)
-    → option_map_or (λ pair. pair.1.0) found rest < 2 ^ levels
+given : (levels rest : ℕ) (found : Option (Point × Leaf)) → rest < 2 ^ levels
+    → IfSome found (λ pair. pair.1.0 < 2 ^ levels) → option_map_or (λ pair. pair.1.0) found rest < 2 ^ levels
 given levels rest None others below = others
 given levels rest (Some pair) others below = below
 
 -- a table's leaf is one of the tree's, for every point
-pub table_leaf_below : (table : Table) (point : Point) → AllBelow table.pairs table.levels → table.rest < 2 ^ table.levels
-    → table_leaf table point < 2 ^ table.levels
+pub table_leaf_below : (table : Table) (point : Point) → AllBelow table.pairs table.levels
+    → table.rest < 2 ^ table.levels → table_leaf table point < 2 ^ table.levels
 table_leaf_below table point all rest =
     given table.levels table.rest (find (λ pair. same_point pair.0 point) table.pairs) rest
     (IfSome-find (λ pair. pair.1.0 < 2 ^ table.levels) (λ pair. same_point pair.0 point) table.pairs all)

@@ -19,7 +19,8 @@ same_point _ _ = false
 
 -- the leaf of the first pair that has the point, or the rest's
 abbrev pub table_leaf : Table → Point → ℕ
-table_leaf table point = option_map_or (λ pair. pair.1.0) (find (λ pair. same_point pair.0 point) table.pairs) table.rest
+table_leaf table point =
+    option_map_or (λ pair. pair.1.0) (find (λ pair. same_point pair.0 point) table.pairs) table.rest
 
 -- every leaf is one of the tree's
 abbrev pub AllBelow : List (Point × Leaf) → ℕ → Type 0

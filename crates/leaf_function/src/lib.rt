@@ -8,7 +8,7 @@ mod leaf_fn;
 mod table;
 
 pub use keyed::KeyedLeaf;
-pub use laws::{search_tells_points, texts_tell_points};
+pub use laws::{leaves_are_below, search_tells_points, texts_tell_points};
 pub use leaf_fn::LeafFn;
 pub use table::TableLeaf;
 

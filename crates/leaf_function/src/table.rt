@@ -30,7 +30,8 @@ impl Model for TableLeaf {
 impl TableLeaf {
     ghost use Rattle.leaf_function.specs.Table.{AllBelow};
 
-    /// The leaves of a table, all below `2 ^ levels`. It takes no memory beyond the pairs'.
+    /// The leaves of a table, all below `2 ^ levels`. It takes no memory beyond the pairs', and the list keeps its own
+    /// allocator.
     pub fn new(_alloc: Global, pairs: Vec<(Point, Leaf)>, rest: Leaf, levels: u32) -> TableLeaf
         requires listed { AllBelow pairs.items levels }
         requires others { rest.0 < 2 ^ levels }

@@ -5,7 +5,7 @@
 mod laws;
 mod tagger;
 
-pub use laws::texts_tell_messages;
+pub use laws::{tags_have_16_bytes, texts_tell_messages};
 pub use tagger::Tagger;
 
 #[cfg(test)]

@@ -7,4 +7,10 @@ pub returns : goal.returns
 unfolding body_in
 returns c =
     let long : length (drop 8 c.args.bytes.now) ≤ 368 = omega (arith, length-drop 8 c.args.bytes.now, c.told-bytes) in
-    rw (c.mask.ensures, c.pad_of.ensures, c.seed_of.ensures, c.copy_from_slice.ensures.after, take_all 368 (drop 8 c.args.bytes.now) long) refl
+    rw (
+      c.mask.ensures,
+      c.pad_of.ensures,
+      c.seed_of.ensures,
+      c.copy_from_slice.ensures.after,
+      take_all 368 (drop 8 c.args.bytes.now) long,
+    ) refl

@@ -12,9 +12,15 @@ unfolding pad_of
 returns c =
     let key = c.args.key.now in
     let seed = c.args.seed in
-    let start : c.set_stream.new.self ≡ generator_at key seed 0 = rw c.from_seed-generator.ensures at c.set_stream.ensures in
+    let start : c.set_stream.new.self ≡ generator_at key seed 0 =
+    rw c.from_seed-generator.ensures at c.set_stream.ensures in
     let value =
     fill_bytes-value (steps_u32 (next_word 10)) (length c.args.into.now) c.set_stream.new.self c.fill_bytes.new.dst _
     c.fill_bytes.ensures in
     let long : length (stream_bytes key seed 92) ≤ 368 = omega (arith, length-stream_bytes key seed 92) in
-    rw (start, c.told-into, word_bytes-start key seed 92 (lit< tt), take_all 368 (stream_bytes key seed 92) long) at value
+    rw (
+      start,
+      c.told-into,
+      word_bytes-start key seed 92 (lit< tt),
+      take_all 368 (stream_bytes key seed 92) long,
+    ) at value

@@ -9,4 +9,5 @@ pub loop-place-preserved : goal.loop-place-preserved
 loop-place-preserved c =
     let in_pad : c.loop-place.place < length c.args.pad.now = omega arith in
     let in_bytes : c.loop-place.place < length c.args.bytes.now = omega arith in
-    rw (c.loop-place.invariant, add-one) (masked-more c.args.pad.now c.args.bytes.now c.loop-place.place in_pad in_bytes)
+    rw (c.loop-place.invariant, add-one)
+    (masked-more c.args.pad.now c.args.bytes.now c.loop-place.place in_pad in_bytes)

@@ -1,6 +1,7 @@
 use Rattle.std.proofs.Common.{◌≡◌, ◌<◌, ◌^◌, true, false, take, sym, refl, arith}
 use Rattle.std.specs.Str.{bytes_eq}
-use Rattle.bucket_codec.proofs.Slots.{not_true, not_false, slot_in-empty, slot_in-no_flag, slot_in-outside, slot_in-entry, is_placed-true, is_placed-far, is_placed-high}
+use Rattle.bucket_codec.proofs.Slots.{not_true, not_false, slot_in-empty, slot_in-no_flag, slot_in-outside}
+use Rattle.bucket_codec.proofs.Slots.{slot_in-entry, is_placed-true, is_placed-far, is_placed-high}
 use Rattle.bucket_codec.specs.Slot.{empty_text, flag}
 use Rattle.bucket_codec.proofs.slot.slot_in.Goals as goal
 
@@ -24,7 +25,9 @@ returns-then-entry-shape c =
     sym (rw (c.as_slice.ensures, c.as_slice-2.ensures, c.empty_text.ensures) at c.if-eq.ensures) in
     let flagged : bytes_eq (take 4 c.args.text.now) flag ≡ true =
     not_false (bytes_eq (take 4 c.args.text.now) flag) (rw c.as_slice-3.ensures at c.if-ne.ensures) in
-    let far = is_placed-far c.args.shape.now c.entry_in-entry.result (λ (h : c.entry_in-entry.result.address.0 < c.args.shape.now.total). absurd (omega arith)) in
+    let far =
+    is_placed-far c.args.shape.now c.entry_in-entry.result
+    (λ (h : c.entry_in-entry.result.address.0 < c.args.shape.now.total). absurd (omega arith)) in
     sym (slot_in-outside c.args.shape.now c.args.text.now test flagged (rw c.entry_in-entry.ensures at far))
 
 pub returns-then-not-is_leaf : goal.returns-then-not-is_leaf
