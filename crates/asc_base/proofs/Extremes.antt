@@ -4,7 +4,8 @@ use Rattle.std.proofs.lemmas.Bool.{cases_Bool, cases_lt}
 use Rattle.asc_base.specs.Greatest.{least, greatest}
 
 -- one step of the search from the bound down
-pub greatest-suc_true : (holds : ℕ → Bool) (bound : ℕ) → holds (suc bound) ≡ true → greatest holds (suc bound) ≡ suc bound
+pub greatest-suc_true : (holds : ℕ → Bool) (bound : ℕ) → holds (suc bound) ≡ true
+    → greatest holds (suc bound) ≡ suc bound
 unfolding greatest
 greatest-suc_true holds bound e = rw e
 
@@ -60,7 +61,8 @@ greatest_is holds bound k within here above =
       | inr over ↦ elim (cases_lt k (greatest holds bound)) [
         | inl beyond ↦ elim (greatest_found holds bound) [
           | inl none ↦ absurd (omega arith)
-          | inr found ↦ (let missed : holds (greatest holds bound) ≡ false = above (greatest holds bound) beyond (greatest-le holds bound) in cc)
+          | inr found ↦ (let missed : holds (greatest holds bound) ≡ false =
+              above (greatest holds bound) beyond (greatest-le holds bound) in cc)
         ]
         | inr same ↦ omega arith
       ]

@@ -1,6 +1,7 @@
 -- Layers: their counts, their addresses, and the one in which a block is.
 use Rattle.std.specs.Prelude.{nat_le, ◌==◌, ◌≢◌, min, Some, None}
-use Rattle.std.proofs.Common.{◌≡◌, ℕ, zero, suc, ◌+◌, ◌-◌, ◌*◌, ◌/◌, ◌<◌, ◌≤◌, ◌⊎◌, refl, ap, inl, inr, arith, add-one, true, false}
+use Rattle.std.proofs.Common.{◌≡◌, ℕ, zero, suc, ◌+◌, ◌-◌, ◌*◌, ◌/◌, ◌<◌, ◌≤◌, ◌⊎◌, refl, ap, inl, inr, arith}
+use Rattle.std.proofs.Common.{add-one, true, false}
 use Rattle.std.proofs.lemmas.Bool.{cases_lt, le-leb, lt-leb, leb-true, leb-false, eq-eqb, ne_eqb}
 use Rattle.asc_base.specs.TreeShape.{layer_count, layer_first, layer_of, index_of, parent_of, children_of, IsInLayer}
 use Rattle.asc_base.specs.Greatest.{greatest}
@@ -18,7 +19,8 @@ pub layer_first-zero : (lines : ℕ) → layer_first lines 0 ≡ 0
 unfolding layer_first
 layer_first-zero lines = refl
 
-pub layer_first-next : (lines layer : ℕ) → layer_first lines (layer + 1) ≡ layer_first lines layer + layer_count lines layer
+pub layer_first-next : (lines layer : ℕ)
+    → layer_first lines (layer + 1) ≡ layer_first lines layer + layer_count lines layer
 unfolding layer_first
 layer_first-next lines layer = rw add-one
 
@@ -57,7 +59,8 @@ some_layer lines layers address below =
     ]
 
 -- the layer of a block is one of the layers
-pub layer_of-lt : (lines layers address : ℕ) → address < layer_first lines layers → layer_of lines layers address < layers
+pub layer_of-lt : (lines layers address : ℕ) → address < layer_first lines layers
+    → layer_of lines layers address < layers
 unfolding layer_of
 layer_of-lt lines layers address below =
     omega (

@@ -14,7 +14,8 @@ pub lt-pow : (k : ℕ) → k < 2 ^ k
 lt-pow zero = omega (arith, pow_pos 0)
 lt-pow (suc k) = omega (arith, two-pow-succ k, lt-pow k)
 
--- the level of the leaves is at least 1, its buckets' number plus one is at most that of the blocks or it is 1, and at no
+-- the level of the leaves is at least 1, its buckets' number plus one is at most that of the blocks or it is 1, and
+-- at no
 -- greater level it would be
 pub record IsLevel (total levels : ℕ) : Type 0 where
   pub some : 1 ≤ levels
@@ -41,10 +42,18 @@ levels_of_is total levels h =
       | inr higher ↦ elim h.room [
         | inl one ↦ absurd (omega arith)
         | inr room ↦
-            (let within : levels ≤ total = omega (arith, lt-pow levels, pow_mono {i = levels} {j = levels + 1} (omega arith)) in
+            (let within : levels ≤ total = omega (
+              arith,
+              lt-pow levels,
+              pow_mono {i = levels} {j = levels + 1} (omega arith),
+            ) in
             let same : greatest (fits total) total ≡ levels =
             greatest_is (fits total) total levels within (inr (le-leb _ _ room))
-            (λ j over up_to. lt-leb _ _ (omega (arith, h.greatest, pow_mono {i = levels + 2} {j = j + 1} (omega arith)))) in
+            (λ j over up_to. lt-leb _ _ (omega (
+              arith,
+              h.greatest,
+              pow_mono {i = levels + 2} {j = j + 1} (omega arith),
+            ))) in
             omega arith)
       ]
     ]
@@ -65,7 +74,8 @@ levels_of_level total = record {
   greatest = elim (cases_lt total (max 1 (greatest (fits total) total) + 1)) [
     | inl few ↦ omega (arith, lt-pow (max 1 (greatest (fits total) total) + 2))
     | inr many ↦
-        (let out = greatest_above (fits total) total (max 1 (greatest (fits total) total) + 1) (omega arith) (omega arith) in
+        (let out = greatest_above (fits total) total (max 1 (greatest (fits total) total) + 1) (omega arith)
+        (omega arith) in
         let less = leb-false _ _ out in
         let more : 2 ^ (max 1 (greatest (fits total) total) + 1 + 1) ≤ 2 ^ (max 1 (greatest (fits total) total) + 2) =
         pow_mono (omega arith) in
@@ -78,6 +88,10 @@ pub levels_of-ge : (total level : ℕ) → 2 ^ (level + 1) ≤ total → level �
 levels_of-ge total level room =
     elim (cases_lt (levels_of total) level) [
       | inl deeper ↦
-          absurd (omega (arith, (levels_of_level total).greatest, pow_mono {i = levels_of total + 2} {j = level + 1} (omega arith)))
+          absurd (omega (
+            arith,
+            (levels_of_level total).greatest,
+            pow_mono {i = levels_of total + 2} {j = level + 1} (omega arith),
+          ))
       | inr within ↦ within
     ]

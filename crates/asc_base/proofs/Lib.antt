@@ -1,7 +1,9 @@
+pub mod Bytes
 pub mod Extremes
 pub mod Families
 pub mod Layers
 pub mod Levels
+pub mod Lookups
 pub mod Paths
 pub mod Placed
 pub mod Places

@@ -1,6 +1,7 @@
 -- The buckets of the path to a leaf, and those that two paths share.
 use Rattle.std.specs.Prelude.{◌↔◌}
-use Rattle.std.proofs.Common.{◌≡◌, ◌≢◌, ℕ, zero, suc, ◌+◌, ◌-◌, ◌*◌, ◌/◌, ◌^◌, ◌<◌, ◌≤◌, ◌⊎◌, ◌==◌, sym, ◌∙◌, ap, inl, inr, arith, add-one}
+use Rattle.std.proofs.Common.{◌≡◌, ◌≢◌, ℕ, zero, suc, ◌+◌, ◌-◌, ◌*◌, ◌/◌, ◌^◌, ◌<◌, ◌≤◌, ◌⊎◌, ◌==◌, sym, ◌∙◌, ap, inl}
+use Rattle.std.proofs.Common.{inr, arith, add-one}
 use Rattle.std.proofs.Math.Nat.{two-pow-succ, div-lt_iff_lt-mul}
 use Rattle.std.proofs.Math.Pow.{pow_mono}
 use Rattle.std.proofs.lemmas.Bool.{cases_lt, eqb-true, eqb-false, eq-eqb, ne_eqb}
@@ -14,7 +15,8 @@ pub place-lt : (levels leaf level : ℕ) → level ≤ levels → leaf < 2 ^ lev
 place-lt levels leaf level within below =
     let parts : 2 ^ level * 2 ^ (levels - level) ≡ 2 ^ levels =
     sym (pow-add 2 level (levels - level)) ∙ ap (λ n. 2 ^ n) (omega arith) in
-    (div-lt_iff_lt-mul {k = 2 ^ (levels - level)} {x = leaf} {y = 2 ^ level} (pow_pos (levels - level))).1 (rw parts below)
+    (div-lt_iff_lt-mul {k = 2 ^ (levels - level)} {x = leaf} {y = 2 ^ level} (pow_pos (levels - level))).1
+    (rw parts below)
 
 -- the buckets of a level stand between those above and those below
 pub bucket_of-bounds : (levels leaf level : ℕ) → level ≤ levels → leaf < 2 ^ levels
@@ -31,7 +33,11 @@ pub bucket_of-lt : (levels leaf level : ℕ) → level ≤ levels → leaf < 2 ^
     → bucket_of levels leaf level < buckets_of levels
 unfolding buckets_of
 bucket_of-lt levels leaf level within below =
-    omega (arith, (bucket_of-bounds levels leaf level within below).1, pow_mono {i = level + 1} {j = levels + 1} (omega arith))
+    omega (
+      arith,
+      (bucket_of-bounds levels leaf level within below).1,
+      pow_mono {i = level + 1} {j = levels + 1} (omega arith),
+    )
 
 -- and rise with the level
 pub bucket_of-rises : (levels leaf low high : ℕ) → low < high → high ≤ levels → leaf < 2 ^ levels
@@ -46,7 +52,8 @@ bucket_of-rises levels leaf low high under within below =
 
 -- paths whose buckets at a level are one have one bucket at the level above
 pub bucket_of-above : (levels x y level : ℕ) → level + 1 ≤ levels
-    → bucket_of levels x (level + 1) ≡ bucket_of levels y (level + 1) → bucket_of levels x level ≡ bucket_of levels y level
+    → bucket_of levels x (level + 1) ≡ bucket_of levels y (level + 1)
+    → bucket_of levels x level ≡ bucket_of levels y level
 unfolding bucket_of
 bucket_of-above levels x y level within same =
     let places : x / 2 ^ (levels - (level + 1)) ≡ y / 2 ^ (levels - (level + 1)) = omega arith in
@@ -62,7 +69,8 @@ pub bucket_of-same : (levels x y low high : ℕ) → low ≤ high → high ≤ l
 bucket_of-same levels x y low zero under within same = (let e : low ≡ 0 = omega arith in rw e same)
 bucket_of-same levels x y low (suc high) under within same =
     elim (cases_lt low (suc high)) [
-      | inl below ↦ bucket_of-same levels x y low high (omega arith) (omega arith) (bucket_of-above levels x y high (omega arith) (rw add-one same))
+      | inl below ↦ bucket_of-same levels x y low high (omega arith) (omega arith)
+          (bucket_of-above levels x y high (omega arith) (rw add-one same))
       | inr last ↦ (let e : low ≡ suc high = omega arith in rw e same)
     ]
 
@@ -90,7 +98,8 @@ unfolding shared_of
 shared_of-ge levels x y level within same =
     elim (cases_lt (greatest (λ level. bucket_of levels x level == bucket_of levels y level) levels) level) [
       | inl under ↦
-          absurd (eqb-false _ _ (greatest_above (λ level. bucket_of levels x level == bucket_of levels y level) levels level under within) same)
+          absurd (eqb-false _ _ (greatest_above (λ level. bucket_of levels x level == bucket_of levels y level)
+          levels level under within) same)
       | inr over ↦ over
     ]
 
@@ -106,7 +115,8 @@ shared_of_is levels x y level within here differ =
     (λ above over up_to. ne_eqb _ _ (differ above over up_to))
 
 -- buckets of two levels are two
-pub bucket_of-apart : (levels x y low high : ℕ) → low ≢ high → low ≤ levels → high ≤ levels → x < 2 ^ levels → y < 2 ^ levels
+pub bucket_of-apart : (levels x y low high : ℕ) → low ≢ high → low ≤ levels → high ≤ levels → x < 2 ^ levels
+    → y < 2 ^ levels
     → bucket_of levels x low ≢ bucket_of levels y high
 bucket_of-apart levels x y low high other in_low in_high in_x in_y same =
     elim (cases_lt low high) [

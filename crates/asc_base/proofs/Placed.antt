@@ -33,7 +33,8 @@ placed shape address layer h within same =
     let index = index_of-lt shape.lines shape.layers address inside in
     let below : layer < shape.layers = omega (arith, layer_of-lt shape.lines shape.layers address inside) in
     let first = facts.firsts layer below in
-    let starts : layer_first shape.lines layer + index_of shape.lines shape.layers address ≡ address = rw same index.1 in
+    let starts : layer_first shape.lines layer + index_of shape.lines shape.layers address ≡ address =
+    rw same index.1 in
     let count : index_of shape.lines shape.layers address < layer_count shape.lines layer = rw same index.0 in
     record {
       layers = facts.layers_to;
@@ -56,7 +57,8 @@ placed shape address layer h within same =
           let end = layer_first-le shape.lines layer shape.layers (omega arith) in
           let counts : layer_count shape.lines layer ≡ (layer_count shape.lines (layer - 1) + 31) / 32 =
           sym (ap (layer_count shape.lines) back) ∙ counted in
-          let rises : layer_first shape.lines layer ≡ layer_first shape.lines (layer - 1) + layer_count shape.lines (layer - 1) =
+          let rises : layer_first shape.lines layer ≡ layer_first shape.lines (layer - 1) + layer_count shape.lines
+          (layer - 1) =
           sym (ap (layer_first shape.lines) back) ∙ rise in (
             facts.firsts (layer - 1) under,
             facts.counts (layer - 1) under,
@@ -75,3 +77,13 @@ pub children_in_is : (shape : Shape) (address : Address) (first number other cou
     → children_of shape.lines shape.layers address.0 ≡ Some (first, number) → other ≡ first → count ≡ number
     → (let child : Address = record { 0 = other } in Some (child, count) ≡ children_in shape address)
 children_in_is shape address first number other count e same_first same_number = rw (e, same_first, same_number) refl
+
+-- and as the definition does, with the shape's own numbers
+pub parent_of_is : (shape : Shape) (address above other : ℕ) → parent_of shape.lines shape.layers address ≡ Some above
+    → other ≡ above → parent_of shape.lines shape.layers address ≡ Some other
+parent_of_is shape address above other e same = rw same e
+
+pub children_of_is : (shape : Shape) (address first number other count : ℕ)
+    → children_of shape.lines shape.layers address ≡ Some (first, number) → other ≡ first → count ≡ number
+    → children_of shape.lines shape.layers address ≡ Some (other, count)
+children_of_is shape address first number other count e same_first same_number = rw (same_first, same_number) e

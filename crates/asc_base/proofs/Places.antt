@@ -14,7 +14,8 @@ pub get_or-places : (value : ℕ → ℕ) (layers layer : ℕ) → layer < layer
 unfolding places_of
 get_or-places value layers zero below within = (let there : nat_lt 0 layers ≡ true = le-leb _ _ below in rw there)
 get_or-places value layers (suc zero) below within = (let there : nat_lt 1 layers ≡ true = le-leb _ _ below in rw there)
-get_or-places value layers (suc (suc zero)) below within = (let there : nat_lt 2 layers ≡ true = le-leb _ _ below in rw there)
+get_or-places value layers (suc (suc zero)) below within = (let there : nat_lt 2 layers ≡ true = le-leb _ _ below in
+    rw there)
 get_or-places value layers (suc (suc (suc zero))) below within =
     (let there : nat_lt 3 layers ≡ true = le-leb _ _ below in rw there)
 get_or-places value layers (suc (suc (suc (suc zero)))) below within =

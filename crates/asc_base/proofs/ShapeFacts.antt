@@ -8,7 +8,8 @@ use Rattle.asc_base.specs.declared.shape.Shape.{Shape}
 use Rattle.asc_base.specs.Shape.{IsShape, shape_of, layered}
 use Rattle.asc_base.specs.TreeShape.{layer_count, layer_first, top_layer, levels_of, buckets_of}
 use Rattle.asc_base.proofs.Extremes.{least_is, least_holds, least_below}
-use Rattle.asc_base.proofs.Layers.{small_layers, layer_count-zero, layer_count-next, layer_count-pos, count_falls, layer_first-le, layer_first-zero, layer_first-next}
+use Rattle.asc_base.proofs.Layers.{small_layers, layer_count-zero, layer_count-next, layer_count-pos, count_falls}
+use Rattle.asc_base.proofs.Layers.{layer_first-le, layer_first-zero, layer_first-next}
 use Rattle.asc_base.proofs.Levels.{IsLevel, levels_of_level}
 use Rattle.asc_base.proofs.Places.{get_or-places}
 
@@ -67,7 +68,8 @@ top_layer_first lines roots some rooted =
       | inl one ↦ omega arith
       | inr low ↦ absurd (omega (arith, layer_count-pos lines lines some))
     ] in
-    let low = least_holds (λ layer. nat_le (layer_count lines layer) roots) lines lines (omega arith) (le-leb _ _ last) in (
+    let low = least_holds (λ layer. nat_le (layer_count lines layer) roots) lines lines (omega arith)
+    (le-leb _ _ last) in (
       leb-true _ _ low.1,
       λ layer below. leb-false _ _ (least_below (λ layer. nat_le (layer_count lines layer) roots) lines layer below),
     )
@@ -113,8 +115,10 @@ shape_of_layered lines roots some within rooted =
       );
       total_to = omega (arith, total, small.total);
       total = refl;
-      firsts = λ layer below. get_or-places (layer_first lines) (top_layer lines roots + 1) layer below (omega (arith, top.0));
-      counts = λ layer below. get_or-places (layer_count lines) (top_layer lines roots + 1) layer below (omega (arith, top.0));
+      firsts = λ layer below. get_or-places (layer_first lines) (top_layer lines roots + 1) layer below
+          (omega (arith, top.0));
+      counts = λ layer below. get_or-places (layer_count lines) (top_layer lines roots + 1) layer below
+          (omega (arith, top.0));
       levels = refl;
       levels_from = level.some;
       levels_to = most;

@@ -37,12 +37,14 @@ stacked lines roots top firsts counts small rooted within f c =
       ];
     }
 
-pub stacked_firsts : (lines top first : ℕ) (firsts : List ℕ) → top < 4 → firsts ≡ places_of (layer_first lines) (top + 1)
+pub stacked_firsts : (lines top first : ℕ) (firsts : List ℕ) → top < 4
+    → firsts ≡ places_of (layer_first lines) (top + 1)
     → first ≡ layer_first lines (top + 1) → set firsts (top + 1) first ≡ places_of (layer_first lines) (top + 1 + 1)
 stacked_firsts lines top first firsts below f e =
     rw (f, e) (set-places (layer_first lines) (top + 1) (omega arith))
 
-pub stacked_counts : (lines top count above : ℕ) (counts : List ℕ) → top < 4 → counts ≡ places_of (layer_count lines) (top + 1)
+pub stacked_counts : (lines top count above : ℕ) (counts : List ℕ) → top < 4
+    → counts ≡ places_of (layer_count lines) (top + 1)
     → count ≡ layer_count lines top → above ≡ count / 32 + min 1 (count % 32)
     → set counts (top + 1) above ≡ places_of (layer_count lines) (top + 1 + 1)
 stacked_counts lines top count above counts below f e a =

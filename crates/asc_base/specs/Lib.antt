@@ -1,4 +1,6 @@
+pub mod Bytes
 pub mod Greatest
+pub mod Lookup
 pub mod Memory
 pub mod Settings
 pub mod Shape

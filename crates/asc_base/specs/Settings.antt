@@ -1,6 +1,6 @@
 -- The ranges of the settings, and the configurations that come of settings in their ranges.
 use Rattle.std.specs.Prelude.{◌≡◌, ℕ, ◌+◌, ◌-◌, ◌/◌, ◌%◌, ◌^◌, ◌<◌, ◌≤◌, max}
-use Rattle.std.specs.Prelude.{List, ◌++◌, All, fold, take, drop, replicate}
+use Rattle.std.specs.Prelude.{List, ◌++◌, length, All, fold, take, drop, replicate}
 use Rattle.std.specs.List.Sorted.{IsStrictlyIncreasing}
 use Rattle.asc_base.specs.Memory.{IsMemory}
 use Rattle.asc_base.specs.Shape.{IsShape, shape_of}
@@ -118,6 +118,7 @@ pub record IsConfig (config : Config) : Type 0 where
   pub time : IsFromTo 1 268435456 config.time
   pub leak : config.leak ≤ 60
   pub rates : AreRates config.rates.list config.rates.count
+  pub sixteen : length config.rates.list ≡ 16
   pub rest : drop config.rates.count config.rates.list ≡ replicate (16 - config.rates.count) 0
   pub first : config.first < config.rates.count
   pub epoch : IsFromTo (olat_of config.shape.levels + greatest_rate config.rates.list config.rates.count)

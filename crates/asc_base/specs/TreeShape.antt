@@ -29,9 +29,17 @@ levels_of total = max 1 (greatest (λ level. nat_le (2 ^ (level + 1)) total) tot
 unfoldable pub buckets_of : ℕ → ℕ
 buckets_of levels = 2 ^ (levels + 1) - 1
 
--- the cycles of a slot: a read and a write, of 40 cycles each, of every bucket of a path, and 16 between them
+-- the cycles of a bucket's read or write
+abbrev pub move_cycles : ℕ
+move_cycles = 40
+
+-- the cycles between a path's reads and its writes
+abbrev pub turn_cycles : ℕ
+turn_cycles = 16
+
+-- the cycles of a slot: a read and a write of every bucket of a path, and the turn between them
 abbrev pub olat_of : ℕ → ℕ
-olat_of levels = 2 * (levels + 1) * 40 + 16
+olat_of levels = 2 * (levels + 1) * move_cycles + turn_cycles
 
 -- The following speak of the blocks of the first `layers` layers over `lines` data lines.
 

@@ -1,5 +1,5 @@
 ghost use Rattle.std.specs.Prelude.{◌≡◌, ℕ, ◌+◌, ◌-◌, ◌/◌, ◌<◌, ◌≤◌, ◌↔◌, IsTrue, IsNone, IfSome, IsOk, IfOk, Err};
-ghost use Rattle.std.specs.Prelude.{take, drop, replicate};
+ghost use Rattle.std.specs.Prelude.{length, take, drop, replicate};
 ghost use Rattle.std.specs.List.Sorted.{IsStrictlyIncreasing};
 ghost use Rattle.asc_base.specs.declared.settings.Setting.{Setting as SettingValue};
 ghost use Rattle.asc_base.specs.Shape.{IsShape, shape_of};
@@ -281,6 +281,7 @@ impl WideRates {
         ensures rates { result ≡ narrow_rates self.now }
         ensures kept { take result.count result.list ≡ take self.now.count self.now.list }
         ensures rest { drop result.count result.list ≡ replicate (16 - result.count) 0 }
+        ensures sixteen { length result.list ≡ 16 }
     {
         let mut list = [0; 16];
         for place in 0..self.count as usize {

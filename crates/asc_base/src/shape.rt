@@ -1,7 +1,7 @@
-ghost use Rattle.std.specs.Prelude.{◌≡◌, ℕ, ◌+◌, ◌*◌, ◌^◌, ◌<◌, ◌≤◌, ◌⊎◌, ◌↔◌, IsNone, IfSome, Some};
+ghost use Rattle.std.specs.Prelude.{◌≡◌, ℕ, ◌+◌, ◌*◌, ◌^◌, ◌<◌, ◌≤◌, ◌⊎◌, ◌↔◌, IsNone, IfSome, IfNone, Some, None};
 ghost use Rattle.asc_base.specs.Shape.{IsShape, IsAddress, shape_of, places_of, parent_in, children_in};
 ghost use Rattle.asc_base.specs.TreeShape.{layer_count, layer_first, top_layer, levels_of, layer_of, index_of};
-ghost use Rattle.asc_base.specs.TreeShape.{child_index_of, bucket_of, shared_of, olat_of};
+ghost use Rattle.asc_base.specs.TreeShape.{parent_of, children_of, child_index_of, bucket_of, shared_of, olat_of};
 
 use crate::block::{Address, Leaf};
 
@@ -12,10 +12,10 @@ const MOST_LINES: u32 = 262_144;
 const CHILDREN: u32 = 32;
 
 /// The cycles of a bucket's read or write.
-const MOVE_CYCLES: u64 = 40;
+pub const MOVE_CYCLES: u64 = 40;
 
 /// The cycles between a path's reads and its writes.
-const TURN_CYCLES: u64 = 16;
+pub const TURN_CYCLES: u64 = 16;
 
 /// The shape of the tree and of the addresses of its blocks.
 ///
@@ -75,7 +75,8 @@ impl Shape {
     pub fn layer(&self, address: Address) -> u32
         requires shape { IsShape self.now }
         requires address { IsAddress self.now address }
-        ensures { result ≡ layer_of self.now.lines self.now.layers address.0 }
+        ensures layer { result ≡ layer_of self.now.lines self.now.layers address.0 }
+        ensures inside { result < self.now.layers }
     {
         for layer in 1..self.layers {
             if address.0 < self.firsts[layer as usize] {
@@ -91,6 +92,8 @@ impl Shape {
         requires shape { IsShape self.now }
         requires address { IsAddress self.now address }
         ensures parent { result ≡ parent_in self.now address }
+        ensures above { IfSome result (λ above. parent_of self.now.lines self.now.layers address.0 ≡ Some above.0) }
+        ensures top { IfNone result (parent_of self.now.lines self.now.layers address.0 ≡ None) }
         ensures inside { IfSome result (IsAddress self.now) }
     {
         let layer = self.layer(address);
@@ -105,7 +108,8 @@ impl Shape {
     pub fn child_index(&self, address: Address) -> u32
         requires shape { IsShape self.now }
         requires address { IsAddress self.now address }
-        ensures { result ≡ child_index_of self.now.lines self.now.layers address.0 }
+        ensures place { result ≡ child_index_of self.now.lines self.now.layers address.0 }
+        ensures inside { result < 32 }
     {
         let layer = self.layer(address);
         (address.0 - self.firsts[layer as usize]) % CHILDREN
@@ -117,6 +121,9 @@ impl Shape {
         requires shape { IsShape self.now }
         requires address { IsAddress self.now address }
         ensures children { result ≡ children_in self.now address }
+        ensures below { IfSome result (λ (first, number).
+            children_of self.now.lines self.now.layers address.0 ≡ Some (first.0, number)) }
+        ensures line { IfNone result (children_of self.now.lines self.now.layers address.0 ≡ None) }
         ensures inside { IfSome result (λ (first, number).
             (first.0 + number ≤ self.now.total) × (1 ≤ number) × (number ≤ 32)) }
     {

@@ -1,6 +1,9 @@
 //! Shapes and settings whose numbers were computed by hand.
 
-use crate::{Address, Config, Leaf, Setting, Settings, Shape, WideRates};
+use crate::{
+    Address, Config, Leaf, Setting, Settings, Shape, WideRates, first_is_changed,
+    first_is_promoted, first_is_taken_out,
+};
 
 /// The settings that stand where none are given.
 fn defaults() -> Settings {
@@ -294,4 +297,11 @@ fn rates_and_two_faults(rt: HostRuntime) {
         (config.size, config.base, config.ways, config.epoch),
         (1_048_576, 0, 8, 268_435_456)
     );
+}
+
+#[test]
+fn lists_of_any_type() {
+    first_is_taken_out::<Address>();
+    first_is_changed::<Setting>();
+    first_is_promoted::<u8>();
 }

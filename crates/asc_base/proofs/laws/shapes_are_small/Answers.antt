@@ -20,3 +20,6 @@ returns-clause-buckets c shape is_shape = omega (arith, (shape_layered shape is_
 
 pub returns-clause-most_buckets : goal.returns-clause-most_buckets
 returns-clause-most_buckets c shape is_shape = (shape_layered shape is_shape).buckets_to
+
+pub returns-clause-blocks : goal.returns-clause-blocks
+returns-clause-blocks c shape is_shape = (shape_layered shape is_shape).total

@@ -8,8 +8,11 @@ use Rattle.asc_base.proofs.settings.Settings.allows.Goals as goal
 -- the sum is at most the limit where it may be subtracted from
 in_base : (base size : ℕ) → size ≤ 16777216 → base % 4096 ≡ 0
     → IsTrue (leb base (4294901760 - size)) ↔ ((base % 4096 ≡ 0) × (base + size ≤ 4294901760))
-in_base base size small pages =
-    (λ low. let fits : base ≤ 4294901760 - size = leb-true _ _ low in (pages, omega arith), λ both. let sum = both.1 in le-leb _ _ (omega arith))
+in_base base size small pages = (
+  λ low. let fits : base ≤ 4294901760 - size = leb-true _ _ low in (pages, omega arith),
+  λ both. let sum =
+      both.1 in le-leb _ _ (omega arith),
+)
 
 pub overflow_sub-result : goal.overflow_sub-result
 overflow_sub-result c =

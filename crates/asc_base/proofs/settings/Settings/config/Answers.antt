@@ -1,11 +1,12 @@
-use Rattle.std.proofs.Common.{◌≡◌, ℕ, ◌-◌, ◌/◌, List, take, drop, replicate, refl, sym, ap, subst, arith}
+use Rattle.std.proofs.Common.{◌≡◌, ℕ, ◌-◌, ◌/◌, List, length, take, drop, replicate, refl, sym, ap, subst, arith}
 use Rattle.std.proofs.Math.Pow.{pow_mono}
 use Rattle.std.specs.Prelude.{All, fold, max}
 use Rattle.std.specs.List.Sorted.{IsStrictlyIncreasing}
 use Rattle.asc_base.specs.declared.settings.Config.{Config}
 use Rattle.asc_base.specs.declared.settings.Rates.{Rates as RateList}
 use Rattle.asc_base.specs.declared.settings.Settings.{Settings}
-use Rattle.asc_base.specs.declared.settings.Setting.TheVariants.{Size, Base, Sets, Ways, Plb, Roots, Ic, Stash, Budget, Time, Leak, Rates, First, Epoch}
+use Rattle.asc_base.specs.declared.settings.Setting.TheVariants.{Size, Base, Sets, Ways, Plb, Roots, Ic, Stash}
+use Rattle.asc_base.specs.declared.settings.Setting.TheVariants.{Budget, Time, Leak, Rates, First, Epoch}
 use Rattle.asc_base.specs.declared.shape.Shape.{Shape}
 use Rattle.asc_base.specs.Settings.{IsFromTo, AreAllowed, IsConfig, config_of, narrow_rates, greatest_rate}
 use Rattle.asc_base.specs.Shape.{IsShape, shape_of}
@@ -40,10 +41,10 @@ made_is settings rates shape r s = rw (r, s) refl
 -- where the settings are in their ranges, it is one that there is
 made_config : (settings : Settings) (rates : RateList) (shape : Shape) → AreAllowed settings
     → rates.count ≡ settings.rates.count → take rates.count rates.list ≡ take settings.rates.count settings.rates.list
-    → drop rates.count rates.list ≡ replicate (16 - rates.count) 0
+    → drop rates.count rates.list ≡ replicate (16 - rates.count) 0 → length rates.list ≡ 16
     → IsShape shape → shape ≡ shape_of (settings.size / 64) settings.roots → IsConfig (made settings rates shape)
 unfolding made
-made_config settings rates shape allowed count kept rest is_shape same = record {
+made_config settings rates shape allowed count kept rest sixteen is_shape same = record {
   memory = record {
     size_from = (allowed Size).0.0;
     size_to = (allowed Size).0.1;
@@ -65,9 +66,11 @@ made_config settings rates shape allowed count kept rest is_shape same = record 
     rise = subst (λ (l : List ℕ). IsStrictlyIncreasing l) (sym kept) (allowed Rates).rise;
     bounds = subst (λ (l : List ℕ). All (IsFromTo 64 1048576) l) (sym kept) (allowed Rates).bounds;
   };
+  sixteen = sixteen;
   rest = rest;
   first = rw count (allowed First);
-  epoch = (let greatest : greatest_rate rates.list rates.count ≡ greatest_rate settings.rates.list settings.rates.count =
+  epoch = (let greatest : greatest_rate rates.list rates.count ≡ greatest_rate settings.rates.list
+      settings.rates.count =
       ap (λ (l : List ℕ). fold max 0 l) kept in
       rw (greatest, same) (allowed Epoch));
   is_shape = is_shape;
@@ -114,11 +117,13 @@ overflow_cast-result-10 c =
 pub returns-clause-config : goal.returns-clause-config
 unfolding made
 returns-clause-config c =
-    made_is c.args.self.now c.narrowed-rates.result c.shape-shape.result c.narrowed-rates.ensures.rates c.shape-shape.ensures.shape
+    made_is c.args.self.now c.narrowed-rates.result c.shape-shape.result c.narrowed-rates.ensures.rates
+    c.shape-shape.ensures.shape
 
 pub returns-clause-is_config : goal.returns-clause-is_config
 unfolding made narrow_rates
 returns-clause-is_config c =
     made_config c.args.self.now c.narrowed-rates.result c.shape-shape.result c.requires
-    (ap (λ (r : RateList). r.count) c.narrowed-rates.ensures.rates) c.narrowed-rates.ensures.kept c.narrowed-rates.ensures.rest
-    c.shape-shape.ensures.is_shape c.shape-shape.ensures.shape
+    (ap (λ (r : RateList). r.count) c.narrowed-rates.ensures.rates) c.narrowed-rates.ensures.kept
+    c.narrowed-rates.ensures.rest
+    c.narrowed-rates.ensures.sixteen c.shape-shape.ensures.is_shape c.shape-shape.ensures.shape

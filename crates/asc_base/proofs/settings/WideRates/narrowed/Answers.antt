@@ -15,7 +15,11 @@ bounds-self-place c = omega (arith, (rate_count-le _ _ c.requires).1)
 
 pub overflow_cast-list : goal.overflow_cast-list
 overflow_cast-list c =
-    omega (arith, rate-le c.args.self.now.list c.args.self.now.count c.loop-place.place c.requires (search rules) c.loop-place-test.true)
+    omega (
+      arith,
+      rate-le c.args.self.now.list c.args.self.now.count c.loop-place.place c.requires (search rules)
+          c.loop-place-test.true,
+    )
 
 pub bounds-list-place : goal.bounds-list-place
 bounds-list-place c = omega (arith, (rate_count-le _ _ c.requires).1)
@@ -23,17 +27,21 @@ bounds-list-place c = omega (arith, (rate_count-le _ _ c.requires).1)
 pub loop-place-preserved : goal.loop-place-preserved
 loop-place-preserved c =
     rw c.loop-place.invariant
-    (set-narrow c.args.self.now.list c.loop-place.place _ (search rules) (omega (arith, (rate_count-le _ _ c.requires).1)) refl)
+    (set-narrow c.args.self.now.list c.loop-place.place _ (search rules)
+    (omega (arith, (rate_count-le _ _ c.requires).1)) refl)
 
 pub returns-clause-rates : goal.returns-clause-rates
-returns-clause-rates c = narrow_is c.args.self.now c.loop-place.list c.loop-place.place c.loop-place.invariant (omega arith)
+returns-clause-rates c = narrow_is c.args.self.now c.loop-place.list c.loop-place.place c.loop-place.invariant
+    (omega arith)
 
 pub returns-clause-kept : goal.returns-clause-kept
 returns-clause-kept c =
     let last : c.loop-place.place ≡ c.args.self.now.count = omega arith in
-    rw (c.loop-place.invariant, last) (take-narrow c.args.self.now.list c.args.self.now.count (search rules) (rate_count-le _ _ c.requires).1)
+    rw (c.loop-place.invariant, last) (take-narrow c.args.self.now.list c.args.self.now.count (search rules)
+    (rate_count-le _ _ c.requires).1)
 
 pub returns-clause-rest : goal.returns-clause-rest
 returns-clause-rest c =
     let last : c.loop-place.place ≡ c.args.self.now.count = omega arith in
-    rw (c.loop-place.invariant, last) (drop-narrow c.args.self.now.list c.args.self.now.count (search rules) (rate_count-le _ _ c.requires).1)
+    rw (c.loop-place.invariant, last) (drop-narrow c.args.self.now.list c.args.self.now.count (search rules)
+    (rate_count-le _ _ c.requires).1)

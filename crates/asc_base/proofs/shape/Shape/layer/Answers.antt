@@ -20,8 +20,8 @@ bounds-self-layer c =
     let facts : IsLayered c.args.self.now = shape_layered c.args.self.now c.requires.shape in
     omega arith
 
-pub returns-then-address-self : goal.returns-then-address-self
-returns-then-address-self c =
+pub returns-then-address-self-clause-layer : goal.returns-then-address-self-clause-layer
+returns-then-address-self-clause-layer c =
     let facts : IsLayered c.args.self.now = shape_layered c.args.self.now c.requires.shape in
     between c.args.self.now.lines c.args.self.now.layers c.loop-layer.layer c.args.address.0 (omega arith) (omega arith)
     c.loop-layer.invariant (omega (arith, facts.firsts c.loop-layer.layer (omega arith)))
@@ -38,9 +38,15 @@ overflow_sub-result-2 c =
     let facts : IsLayered c.args.self.now = shape_layered c.args.self.now c.requires.shape in
     omega arith
 
-pub returns : goal.returns
-returns c =
+pub returns-clause-layer : goal.returns-clause-layer
+returns-clause-layer c =
     let facts : IsLayered c.args.self.now = shape_layered c.args.self.now c.requires.shape in
     let last : c.loop-layer.layer ≡ c.args.self.now.layers = omega arith in
-    between c.args.self.now.lines c.args.self.now.layers c.args.self.now.layers c.args.address.0 (omega arith) (omega arith)
+    between c.args.self.now.lines c.args.self.now.layers c.args.self.now.layers c.args.address.0 (omega arith)
+    (omega arith)
     (rw (sym last) c.loop-layer.invariant) (omega (arith, facts.total, c.requires.address))
+
+pub returns-clause-inside : goal.returns-clause-inside
+returns-clause-inside c =
+    let facts : IsLayered c.args.self.now = shape_layered c.args.self.now c.requires.shape in
+    omega arith

@@ -34,7 +34,8 @@ overflow_sub-buckets c = (bucket_count c.levels_under-levels.result c.levels_und
 
 pub returns-clause-shape : goal.returns-clause-shape
 returns-clause-shape c =
-    from_parts c.args.lines c.args.roots c.over-layers.result.layers c.over-layers.result.firsts c.over-layers.result.counts
+    from_parts c.args.lines c.args.roots c.over-layers.result.layers c.over-layers.result.firsts
+    c.over-layers.result.counts
     c.levels_under-levels.result c.over-layers.result.total _ c.over-layers.ensures.layers c.over-layers.ensures.firsts
     c.over-layers.ensures.counts c.levels_under-levels.ensures.level c.over-layers.ensures.total
     (bucket_count c.levels_under-levels.result c.levels_under-levels.ensures.few).0
@@ -47,8 +48,10 @@ returns-clause-is_shape c = record {
     c.args.roots,
     omega arith,
     from_parts c.args.lines c.args.roots c.over-layers.result.layers
-        c.over-layers.result.firsts c.over-layers.result.counts c.levels_under-levels.result c.over-layers.result.total _
-        c.over-layers.ensures.layers c.over-layers.ensures.firsts c.over-layers.ensures.counts c.levels_under-levels.ensures.level
+        c.over-layers.result.firsts c.over-layers.result.counts c.levels_under-levels.result
+        c.over-layers.result.total _
+        c.over-layers.ensures.layers c.over-layers.ensures.firsts c.over-layers.ensures.counts
+        c.levels_under-levels.ensures.level
         c.over-layers.ensures.total (bucket_count c.levels_under-levels.result c.levels_under-levels.ensures.few).0,
   );
 }
