@@ -35,7 +35,7 @@ pub without_first-no : {A : Type 0} (test : A → Bool) (x : A) (xs : List A) �
 unfolding without_first
 without_first-no test x xs other = rw other refl
 
-without_first-nil : {A : Type 0} (test : A → Bool) → without_first test [] ≡ []
+pub without_first-nil : {A : Type 0} (test : A → Bool) → without_first test [] ≡ []
 unfolding without_first
 without_first-nil test = refl
 
@@ -49,7 +49,7 @@ pub changed_first-no : {A : Type 0} (change : A → A) (test : A → Bool) (x : 
 unfolding changed_first
 changed_first-no change test x xs other = rw other refl
 
-changed_first-nil : {A : Type 0} (change : A → A) (test : A → Bool) → changed_first change test [] ≡ []
+pub changed_first-nil : {A : Type 0} (change : A → A) (test : A → Bool) → changed_first change test [] ≡ []
 unfolding changed_first
 changed_first-nil change test = refl
 
