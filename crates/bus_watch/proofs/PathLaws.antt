@@ -1,7 +1,7 @@
 -- One move more along a path.
 use Rattle.std.proofs.Common.{◌≡◌, ◌≤◌, ◌+◌, ◌*◌, ℕ, zero, suc, Bool, [], ◌∷◌, ◌++◌, length, refl, sym, ◌∙◌, ap₂, subst}
 use Rattle.std.proofs.Common.{arith, add-one, length-append}
-use Rattle.asc_base.specs.TreeShape.{bucket_of}
+use Rattle.asc_base.specs.TreeShape.{bucket_of, move_cycles}
 use Rattle.asc_outside.specs.Memory.{MemoryState}
 use Rattle.bus_watch.specs.declared.bus.Bus.{Bus}
 use Rattle.bus_watch.specs.declared.log.Move.{Move}
@@ -38,7 +38,7 @@ length-along levels write first leaf (suc level) =
     )
 
 -- the moves down to a level, and then the one at it
-pub along-last : (levels : ℕ) (write : Bool) (first leaf level at number : ℕ) → at ≡ first + 40 * level
+pub along-last : (levels : ℕ) (write : Bool) (first leaf level at number : ℕ) → at ≡ first + move_cycles * level
     → number ≡ bucket_of levels leaf level
     → along levels write first leaf level ++ move_at write at number ∷ [] ≡ along levels write first leaf (level + 1)
 along-last levels write first leaf level at number at_is number_is =
@@ -51,7 +51,7 @@ made_root levels write first leaf m t =
     subst (λ moves. Made Whole moves [] m m t t) (sym (along-none levels write first leaf)) (made_none m t)
 
 pub made_next : {end : RunEnd} {m m' m'' : MemoryState} {t t' t'' : TapState} (levels : ℕ) (write : Bool)
-    (first leaf level at number : ℕ) → at ≡ first + 40 * level → number ≡ bucket_of levels leaf level
+    (first leaf level at number : ℕ) → at ≡ first + move_cycles * level → number ≡ bucket_of levels leaf level
     → Made Whole (along levels write first leaf level) [] m m' t t'
     → Made end (move_at write at number ∷ []) [] m' m'' t' t''
     → Made end (along levels write first leaf (level + 1)) [] m m'' t t''
@@ -76,7 +76,7 @@ module _ {M W : Type 0} (memory_of : M → MemoryState) (tap_of : W → TapState
     made = made_root levels write first leaf (memory_of bus.memory.now) (tap_of bus.tap.now);
   }
 
-  pub ran_next : {end : RunEnd} {a b c : Bus M W} (level at number : ℕ) → at ≡ first + 40 * level
+  pub ran_next : {end : RunEnd} {a b c : Bus M W} (level at number : ℕ) → at ≡ first + move_cycles * level
       → number ≡ bucket_of levels leaf level
       → Ran memory_of tap_of Whole (along levels write first leaf level) [] a b
       → Ran memory_of tap_of end (move_at write at number ∷ []) [] b c
