@@ -1,5 +1,5 @@
 pub mod DigitLaws
 pub mod LineLaws
 pub mod PieceLaws
-pub mod CounterLaws
-pub mod AskedLaws
+pub mod Order
+pub mod ChangeLaws

@@ -1,3 +1,4 @@
 pub mod Digits
 pub mod Group
 pub mod Counters
+pub mod Families

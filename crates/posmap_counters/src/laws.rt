@@ -1,12 +1,13 @@
-//! Laws of groups of counters. The functions do nothing: each states a law in its contract.
+//! Laws of counters, of what changes them, and of the lines that hold them. The functions do nothing: each states laws in
+//! its contract.
 
-ghost use Rattle.std.specs.Prelude.{◌≡◌, ◌≢◌, ℕ, ◌+◌, ◌-◌, ◌%◌, ◌^◌, ◌<◌, ◌≤◌, false, Some, is_none, All, AllPairs};
-ghost use Rattle.std.specs.Prelude.{List, [], ◌∷◌, length, replicate, slice_index, slice_set};
-ghost use Rattle.asc_base.specs.TreeShape.{parent_of, children_of};
+ghost use Rattle.std.specs.Prelude.{◌≡◌, ◌≢◌, ℕ, ◌+◌, ◌^◌, ◌<◌, ◌≤◌, ◌==◌, ◌⊎◌, All, AllPairs, if◌then◌else◌};
+ghost use Rattle.std.specs.Prelude.{List, [], ◌∷◌, ◌++◌, length};
+ghost use Rattle.asc_base.specs.declared.block.Counter.{Counter};
 ghost use Rattle.posmap_counters.specs.Group.{AreOwn, AreBytes, line_of, group_of, own_of};
-ghost use Rattle.posmap_counters.specs.Counters.{Counters, counter_at, Change, Access, GroupMove, siblings, after};
-ghost use Rattle.posmap_counters.specs.Counters.{after_all, all_points, asked_changes, HasRoom, NoneWraps};
-ghost use Rattle.posmap_counters.specs.Counters.{IsBefore, IsNotAfter, HasCounters};
+ghost use Rattle.posmap_counters.specs.Counters.{Counters, counter_at, first_counter, IsBefore, IsNotAfter};
+ghost use Rattle.posmap_counters.specs.Counters.{Change, block_of, changed_counter, after, after_all, points, all_points};
+ghost use Rattle.posmap_counters.specs.Counters.{HasRoom, NoneWraps};
 
 /// Lines and counters are inverse: what is read from the line of counters are these counters, and the line of the
 /// counters that are read from a line is that line. So every line is that of exactly one group of counters.
@@ -19,19 +20,45 @@ pub fn lines_and_counters()
         → line_of (group_of line) (own_of line) ≡ line }
 {}
 
-/// Counters rise: a change that wraps no group counter lowers no block's counter, and gives each block that it
-/// accesses or moves a later one.
+/// The order of counters is strict and total, and nothing is before (0,0).
+pub fn counters_are_ordered()
+    ensures irreflexive { (c : Counter) → IsBefore c c → ⊥ }
+    ensures transitive { (c d e : Counter) → IsBefore c d → IsBefore d e → IsBefore c e }
+    ensures before_then { (c d e : Counter) → IsBefore c d → IsNotAfter d e → IsBefore c e }
+    ensures then_before { (c d e : Counter) → IsNotAfter c d → IsBefore d e → IsBefore c e }
+    ensures not_after { (c d e : Counter) → IsNotAfter c d → IsNotAfter d e → IsNotAfter c e }
+    ensures total { (c d : Counter) → IsBefore c d ⊎ IsNotAfter d c }
+    ensures first { (c : Counter) → IsNotAfter first_counter c }
+{}
+
+/// A change gives its own block a counter, and leaves those of all others, as do changes one after another.
+pub fn changes_are_of_one_block()
+    ensures put { (lines layers : ℕ) (counters : Counters) (change : Change) (address : ℕ)
+        → counter_at (after lines layers counters change) address
+        ≡ (if address == block_of change then changed_counter lines layers counters change
+        else counter_at counters address) }
+    ensures block { (lines layers : ℕ) (counters : Counters) (change : Change)
+        → counter_at (after lines layers counters change) (block_of change)
+        ≡ changed_counter lines layers counters change }
+    ensures other { (lines layers : ℕ) (counters : Counters) (change : Change) (address : ℕ)
+        → address ≢ block_of change
+        → counter_at (after lines layers counters change) address ≡ counter_at counters address }
+    ensures others { (lines layers : ℕ) (counters : Counters) (changes : List Change) (address : ℕ)
+        → All (λ change. address ≢ block_of change) changes
+        → counter_at (after_all lines layers counters changes) address ≡ counter_at counters address }
+{}
+
+/// Counters rise: changes that wrap no group counter lower no block's counter, and each gives its own block a later one.
 pub fn counters_rise()
-    ensures access { (lines layers : ℕ) (counters : Counters) (address : ℕ)
-        → HasRoom lines layers counters (Access address)
-        → IsBefore (counter_at counters address) (counter_at (after lines layers counters (Access address)) address) }
-    ensures moved { (lines layers : ℕ) (counters : Counters) (address : ℕ) (held : List ℕ)
-        → HasRoom lines layers counters (GroupMove address held)
-        → All (λ child. IsBefore (counter_at counters child)
-        (counter_at (after lines layers counters (GroupMove address held)) child)) (siblings lines layers address) }
+    ensures block { (lines layers : ℕ) (counters : Counters) (change : Change) → HasRoom lines layers counters change
+        → IsBefore (counter_at counters (block_of change))
+        (counter_at (after lines layers counters change) (block_of change)) }
     ensures others { (lines layers : ℕ) (counters : Counters) (change : Change) (address : ℕ)
         → HasRoom lines layers counters change
         → IsNotAfter (counter_at counters address) (counter_at (after lines layers counters change) address) }
+    ensures all { (lines layers : ℕ) (counters : Counters) (changes : List Change) (address : ℕ)
+        → NoneWraps lines layers counters changes
+        → IsNotAfter (counter_at counters address) (counter_at (after_all lines layers counters changes) address) }
 {}
 
 /// No pair of an address and a counter is accessed twice, as long as no group counter wraps.
@@ -40,43 +67,26 @@ pub fn no_point_twice()
         → AllPairs (λ p q. p ≢ q) (all_points lines layers counters changes) }
 {}
 
-/// A group that has the counters of the children of one block keeps them: a step is an access to a child, and moving
-/// is a group move of all of them.
-pub fn groups_have_counters()
-    ensures step { (lines layers : ℕ) (counters : Counters) (first number child group : ℕ) (own : List ℕ)
-        → child < number → number ≤ length own → is_none (parent_of lines layers (first + child)) ≡ false
-        → HasCounters counters first number group own
-        → HasCounters (after lines layers counters (Access (first + child))) first number group
-        (slice_set own child (slice_index own child + 1)) }
-    ensures moved { (lines layers address parent first number group : ℕ) (counters : Counters) (own held : List ℕ)
-        → parent_of lines layers address ≡ Some parent → children_of lines layers parent ≡ Some (first, number)
-        → HasCounters counters first number group own
-        → HasCounters (after lines layers counters (GroupMove address held)) first number ((group + 1) % 2 ^ 64)
-        (replicate 32 0) }
+/// Changes one after another: those of two lists joined are those of the first, and then those of the second.
+pub fn changes_join()
+    ensures counters { (lines layers : ℕ) (counters : Counters) (xs ys : List Change)
+        → after_all lines layers counters (xs ++ ys) ≡ after_all lines layers (after_all lines layers counters xs) ys }
+    ensures points { (lines layers : ℕ) (counters : Counters) (xs ys : List Change)
+        → all_points lines layers counters (xs ++ ys)
+        ≡ all_points lines layers counters xs ++ all_points lines layers (after_all lines layers counters xs) ys }
+    ensures room { (lines layers : ℕ) (counters : Counters) (xs ys : List Change) → NoneWraps lines layers counters xs
+        → NoneWraps lines layers (after_all lines layers counters xs) ys → NoneWraps lines layers counters (xs ++ ys) }
 {}
 
-/// What an access to a child changes, where a group has the counters of the children of its parent. Where the child's
-/// own count is at least `2^ic - 1`, which is where a step answers `MustMove`, all children move first and then the
-/// child is accessed: all have the next group counter, and own counts of 0 but for the child's, which is 1. Else a step
-/// answers `Stepped`: the child alone is accessed, and the counters are those that the step makes.
-pub fn asked_changes_are_steps()
-    ensures must_move { (ic first number child group : ℕ) (counters : Counters) (own held : List ℕ)
-        → child < number → HasCounters counters first number group own → 2 ^ ic - 1 ≤ slice_index own child
-        → asked_changes ic held counters (first + child)
-        ≡ GroupMove (first + child) held ∷ Access (first + child) ∷ [] }
-    ensures stepped { (ic first number child group : ℕ) (counters : Counters) (own held : List ℕ)
-        → child < number → HasCounters counters first number group own → slice_index own child < 2 ^ ic - 1
-        → asked_changes ic held counters (first + child) ≡ Access (first + child) ∷ [] }
-    ensures counters_moved { (lines layers ic parent first number child group : ℕ) (counters : Counters)
-        (own held : List ℕ) → parent_of lines layers (first + child) ≡ Some parent
-        → children_of lines layers parent ≡ Some (first, number) → child < number
-        → HasCounters counters first number group own → 2 ^ ic - 1 ≤ slice_index own child
-        → HasCounters (after_all lines layers counters (asked_changes ic held counters (first + child))) first number
-        ((group + 1) % 2 ^ 64) (slice_set (replicate 32 0) child 1) }
-    ensures counters_stepped { (lines layers ic parent first number child group : ℕ) (counters : Counters)
-        (own held : List ℕ) → parent_of lines layers (first + child) ≡ Some parent
-        → child < number → number ≤ length own
-        → HasCounters counters first number group own → slice_index own child < 2 ^ ic - 1
-        → HasCounters (after_all lines layers counters (asked_changes ic held counters (first + child))) first number
-        group (slice_set own child (slice_index own child + 1)) }
+/// A change raises no group counter by more than one. So none wraps in changes that are few enough: from the start on, in
+/// fewer than 2 ^ 64.
+pub fn few_changes_wrap_none()
+    ensures bound { (lines layers : ℕ) (counters : Counters) (changes : List Change) (bound : ℕ)
+        → ((address : ℕ) → (counter_at counters address).group ≤ bound) → (address : ℕ)
+        → (counter_at (after_all lines layers counters changes) address).group ≤ bound + length changes }
+    ensures room { (lines layers : ℕ) (counters : Counters) (changes : List Change) (bound : ℕ)
+        → ((address : ℕ) → (counter_at counters address).group ≤ bound) → bound + length changes < 2 ^ 64
+        → NoneWraps lines layers counters changes }
+    ensures start { (lines layers : ℕ) (changes : List Change) → length changes < 2 ^ 64
+        → NoneWraps lines layers [] changes }
 {}

@@ -6,8 +6,8 @@ mod laws;
 
 pub use group::{Group, Step};
 pub use laws::{
-    asked_changes_are_steps, counters_rise, groups_have_counters, lines_and_counters,
-    no_point_twice,
+    changes_are_of_one_block, changes_join, counters_are_ordered, counters_rise,
+    few_changes_wrap_none, lines_and_counters, no_point_twice,
 };
 
 #[cfg(test)]
