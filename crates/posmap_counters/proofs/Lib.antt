@@ -3,3 +3,5 @@ pub mod LineLaws
 pub mod PieceLaws
 pub mod Order
 pub mod ChangeLaws
+pub mod FamilyLaws
+pub mod MoveLaws

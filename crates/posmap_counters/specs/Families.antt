@@ -1,10 +1,11 @@
 -- The counters of the children of one block, its family: `number` blocks from address `first` on. The counters of all
 -- blocks are given here by a function of their addresses.
-use Rattle.std.specs.Prelude.{◌≡◌, ℕ, ◌+◌, ◌-◌, ◌<◌, ◌≤◌, nat_lt, List, map, slice_index, Option, None, Some, if◌then◌else◌}
+use Rattle.std.specs.Prelude.{◌≡◌, ℕ, ◌+◌, ◌-◌, ◌<◌, ◌≤◌, nat_lt, List, map, filter, slice_index, not, None, if◌then◌else◌}
 use Rattle.std.specs.List.{range_with_len}
 use Rattle.asc_base.specs.TreeShape.{layer_first, parent_of}
 use Rattle.asc_base.specs.declared.block.Counter.{Counter}
-use Rattle.posmap_counters.specs.Counters.{next_group}
+use Rattle.asc_base.specs.declared.block.Point.{Point}
+use Rattle.posmap_counters.specs.Counters.{next_group, point_of, is_among}
 use Rattle.posmap_counters.specs.Group.{GroupState, child_counter, line_in}
 
 -- A family has the counters of a group, whose own counts past the family are 0.
@@ -17,6 +18,13 @@ pub record HasCounters (count : ℕ → Counter) (first number : ℕ) (group : G
 pub record IsMoving (count : ℕ → Counter) (first number done : ℕ) (group : GroupState) : Type 0 where
   pub moved : (child : ℕ) → child < done → count (first + child) ≡ next_group (child_counter group child)
   pub left : (child : ℕ) → done ≤ child → child < number → count (first + child) ≡ child_counter group child
+
+-- The points of a group move of a family while these blocks are held: each child under its counter of the group, in rising
+-- order, but for those that are held.
+abbrev pub move_points : List ℕ → ℕ → ℕ → GroupState → List Point
+move_points held first number group =
+    map (λ child. point_of (first + child) (child_counter group child))
+    (filter (λ child. not (is_among held (first + child))) (range_with_len 0 number))
 
 -- the members of a family share their group counter
 abbrev pub HasOneGroup : (ℕ → Counter) → ℕ → ℕ → Type 0

@@ -50,6 +50,10 @@ group_in line = record { group = group_of line; own = own_of line }
 abbrev pub child_counter : GroupState → ℕ → Counter
 child_counter group child = record { group = group.group; own = slice_index group.own child }
 
+-- the group of children that were never accessed
+abbrev pub first_group : GroupState
+first_group = record { group = 0; own = replicate 32 0 }
+
 -- The group after an access to a child, where own counts have `ic` bits: the child's own count is one more. At the
 -- greatest number of so many bits, or above it, the group stays.
 abbrev pub stepped_group : ℕ → GroupState → ℕ → GroupState

@@ -2,12 +2,15 @@
 //! its contract.
 
 ghost use Rattle.std.specs.Prelude.{◌≡◌, ◌≢◌, ℕ, ◌+◌, ◌^◌, ◌<◌, ◌≤◌, ◌==◌, ◌⊎◌, All, AllPairs, if◌then◌else◌};
-ghost use Rattle.std.specs.Prelude.{List, [], ◌∷◌, ◌++◌, length};
+ghost use Rattle.std.specs.Prelude.{◌-◌, List, [], ◌∷◌, ◌++◌, length, take, slice_index, is_none, false, Some};
 ghost use Rattle.asc_base.specs.declared.block.Counter.{Counter};
 ghost use Rattle.posmap_counters.specs.Group.{AreOwn, AreBytes, line_of, group_of, own_of};
 ghost use Rattle.posmap_counters.specs.Counters.{Counters, counter_at, first_counter, IsBefore, IsNotAfter};
 ghost use Rattle.posmap_counters.specs.Counters.{Change, block_of, changed_counter, after, after_all, points, all_points};
-ghost use Rattle.posmap_counters.specs.Counters.{HasRoom, NoneWraps};
+ghost use Rattle.posmap_counters.specs.Counters.{Access, child_move, siblings, group_move, HasRoom, NoneWraps};
+ghost use Rattle.posmap_counters.specs.Families.{HasCounters, IsMoving, HasOneGroup, move_points};
+ghost use Rattle.posmap_counters.specs.Group.{GroupState, first_group, stepped_group, moved_group};
+ghost use Rattle.asc_base.specs.TreeShape.{layer_first, parent_of, children_of};
 
 /// Lines and counters are inverse: what is read from the line of counters are these counters, and the line of the
 /// counters that are read from a line is that line. So every line is that of exactly one group of counters.
@@ -89,4 +92,77 @@ pub fn few_changes_wrap_none()
         → NoneWraps lines layers counters changes }
     ensures start { (lines layers : ℕ) (changes : List Change) → length changes < 2 ^ 64
         → NoneWraps lines layers [] changes }
+{}
+
+/// A family, the children of one block, has the counters of a group: at the start those of the first group; after an
+/// access to a child, whose own count isn't at its greatest, those of the stepped group; and changes of other families
+/// leave them. So it has one group counter.
+pub fn families_keep_counters()
+    ensures start { (first number : ℕ) → HasCounters (counter_at []) first number first_group }
+    ensures one_group { (count : ℕ → Counter) (first number : ℕ) (group : GroupState)
+        → HasCounters count first number group → HasOneGroup count first number }
+    ensures step { (lines layers : ℕ) (counters : Counters) (ic first number child : ℕ) (group : GroupState)
+        → child < number → number ≤ length group.own → is_none (parent_of lines layers (first + child)) ≡ false
+        → slice_index group.own child < 2 ^ ic - 1 → HasCounters (counter_at counters) first number group
+        → HasCounters (counter_at (after lines layers counters (Access (first + child)))) first number
+        (stepped_group ic group child) }
+    ensures other { (lines layers : ℕ) (counters : Counters) (change : Change) (parent first number : ℕ)
+        (group : GroupState) → parent < layer_first lines layers
+        → children_of lines layers parent ≡ Some (first, number)
+        → parent_of lines layers (block_of change) ≢ Some parent
+        → HasCounters (counter_at counters) first number group
+        → HasCounters (counter_at (after lines layers counters change)) first number group }
+{}
+
+/// A group move goes a child at a time, and each of its prefixes has its counters: the children that are done have the
+/// next group counter, the others still theirs. In the end the family has the counters of the moved group.
+pub fn families_move()
+    ensures begins { (count : ℕ → Counter) (first number : ℕ) (group : GroupState)
+        → HasCounters count first number group → IsMoving count first number 0 group }
+    ensures child { (lines layers : ℕ) (counters : Counters) (first number done : ℕ) (group : GroupState) (held : List ℕ)
+        → done < number → IsMoving (counter_at counters) first number done group
+        → IsMoving (counter_at (after lines layers counters (child_move held (first + done)))) first number (done + 1)
+        group }
+    ensures ends { (count : ℕ → Counter) (first number : ℕ) (group : GroupState)
+        → IsMoving count first number number group → HasCounters count first number (moved_group group) }
+    ensures prefix { (lines layers : ℕ) (counters : Counters) (address parent first number done : ℕ)
+        (group : GroupState) (held : List ℕ) → parent_of lines layers address ≡ Some parent
+        → children_of lines layers parent ≡ Some (first, number) → done ≤ number
+        → HasCounters (counter_at counters) first number group
+        → IsMoving (counter_at (after_all lines layers counters (take done (group_move lines layers held address))))
+        first number done group }
+    ensures whole { (lines layers : ℕ) (counters : Counters) (address parent first number : ℕ) (group : GroupState)
+        (held : List ℕ) → parent_of lines layers address ≡ Some parent
+        → children_of lines layers parent ≡ Some (first, number) → HasCounters (counter_at counters) first number group
+        → HasCounters (counter_at (after_all lines layers counters (group_move lines layers held address))) first number
+        (moved_group group) }
+{}
+
+/// A group move has the points that the group gives. It is of the children of one block, and leaves the counters of all
+/// others.
+pub fn moves_are_of_one_family()
+    ensures points { (lines layers : ℕ) (counters : Counters) (address parent first number : ℕ) (group : GroupState)
+        (held : List ℕ) → parent_of lines layers address ≡ Some parent
+        → children_of lines layers parent ≡ Some (first, number) → HasCounters (counter_at counters) first number group
+        → all_points lines layers counters (group_move lines layers held address)
+        ≡ move_points held first number group }
+    ensures siblings { (lines layers address parent : ℕ) → address < layer_first lines layers
+        → parent_of lines layers address ≡ Some parent
+        → All (λ sibling. parent_of lines layers sibling ≡ Some parent) (siblings lines layers address) }
+    ensures children { (lines layers address parent : ℕ) (held : List ℕ) → address < layer_first lines layers
+        → parent_of lines layers address ≡ Some parent
+        → All (λ change. parent_of lines layers (block_of change) ≡ Some parent)
+        (group_move lines layers held address) }
+    ensures others { (lines layers : ℕ) (counters : Counters) (held : List ℕ) (address parent other : ℕ)
+        → address < layer_first lines layers → parent_of lines layers address ≡ Some parent
+        → parent_of lines layers other ≢ Some parent
+        → counter_at (after_all lines layers counters (group_move lines layers held address)) other
+        ≡ counter_at counters other }
+    ensures families { (lines layers : ℕ) (counters : Counters) (held : List ℕ)
+        (address parent other first number : ℕ) (group : GroupState)
+        → address < layer_first lines layers → parent_of lines layers address ≡ Some parent
+        → other < layer_first lines layers → children_of lines layers other ≡ Some (first, number) → other ≢ parent
+        → HasCounters (counter_at counters) first number group
+        → HasCounters (counter_at (after_all lines layers counters (group_move lines layers held address))) first number
+        group }
 {}

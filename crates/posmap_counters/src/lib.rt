@@ -7,7 +7,8 @@ mod laws;
 pub use group::{Group, Step};
 pub use laws::{
     changes_are_of_one_block, changes_join, counters_are_ordered, counters_rise,
-    few_changes_wrap_none, lines_and_counters, no_point_twice,
+    families_keep_counters, families_move, few_changes_wrap_none, lines_and_counters,
+    moves_are_of_one_family, no_point_twice,
 };
 
 #[cfg(test)]
