@@ -5,3 +5,4 @@ pub mod Order
 pub mod ChangeLaws
 pub mod FamilyLaws
 pub mod MoveLaws
+pub mod FamilyLines

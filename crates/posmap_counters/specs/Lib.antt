@@ -2,3 +2,4 @@ pub mod Digits
 pub mod Group
 pub mod Counters
 pub mod Families
+pub mod Bounds

@@ -2,25 +2,47 @@
 //! its contract.
 
 ghost use Rattle.std.specs.Prelude.{◌≡◌, ◌≢◌, ℕ, ◌+◌, ◌^◌, ◌<◌, ◌≤◌, ◌==◌, ◌⊎◌, All, AllPairs, if◌then◌else◌};
-ghost use Rattle.std.specs.Prelude.{◌-◌, List, [], ◌∷◌, ◌++◌, length, take, slice_index, is_none, false, Some};
+ghost use Rattle.std.specs.Prelude.{◌-◌, List, [], ◌∷◌, ◌++◌, length, take, slice_index, replicate, is_none, false, Some};
 ghost use Rattle.asc_base.specs.declared.block.Counter.{Counter};
-ghost use Rattle.posmap_counters.specs.Group.{AreOwn, AreBytes, line_of, group_of, own_of};
+ghost use Rattle.posmap_counters.specs.Group.{AreBytes, IsGroup, line_of, line_in, group_in};
 ghost use Rattle.posmap_counters.specs.Counters.{Counters, counter_at, first_counter, IsBefore, IsNotAfter};
 ghost use Rattle.posmap_counters.specs.Counters.{Change, block_of, changed_counter, after, after_all, points, all_points};
 ghost use Rattle.posmap_counters.specs.Counters.{Access, child_move, siblings, group_move, HasRoom, NoneWraps};
-ghost use Rattle.posmap_counters.specs.Families.{HasCounters, IsMoving, HasOneGroup, move_points};
+ghost use Rattle.posmap_counters.specs.Families.{HasCounters, IsMoving, HasOneGroup, move_points, family_group, family_line};
 ghost use Rattle.posmap_counters.specs.Group.{GroupState, first_group, stepped_group, moved_group};
 ghost use Rattle.asc_base.specs.TreeShape.{layer_first, parent_of, children_of};
 
-/// Lines and counters are inverse: what is read from the line of counters are these counters, and the line of the
-/// counters that are read from a line is that line. So every line is that of exactly one group of counters.
-pub fn lines_and_counters()
-    ensures group { (group : ℕ) (own : List ℕ) → group < 2 ^ 64 → length own ≡ 32 → AreOwn own
-        → group_of (line_of group own) ≡ group }
-    ensures own { (group : ℕ) (own : List ℕ) → group < 2 ^ 64 → length own ≡ 32 → AreOwn own
-        → own_of (line_of group own) ≡ own }
-    ensures line { (line : List ℕ) → length line ≡ 64 → AreBytes line
-        → line_of (group_of line) (own_of line) ≡ line }
+/// Lines and groups are inverse: what is read from the line of a group is that group, and the line of the group that is
+/// read from a line is that line. So every line is that of exactly one group.
+pub fn lines_and_groups()
+    ensures group { (group : GroupState) → IsGroup group → group_in (line_in group) ≡ group }
+    ensures line { (line : List ℕ) → length line ≡ 64 → AreBytes line → line_in (group_in line) ≡ line }
+    ensures zeros { line_in first_group ≡ replicate 64 0 }
+{}
+
+/// What is read from a line is a group, and a group that is stepped or moved is one.
+pub fn groups_are_groups()
+    ensures read { (line : List ℕ) → length line ≡ 64 → AreBytes line → IsGroup (group_in line) }
+    ensures stepped { (ic child : ℕ) (group : GroupState) → ic ≤ 14 → IsGroup group
+        → IsGroup (stepped_group ic group child) }
+    ensures moved { (group : GroupState) → IsGroup (moved_group group) }
+{}
+
+/// The line of a position-map block by its children's counters. Where they share their group counter, they are those of
+/// the family's group, which is read back from the line where they are in range; no other group has them; and the line of
+/// a family that was never accessed is zeros.
+pub fn families_have_lines()
+    ensures family { (count : ℕ → Counter) (first number : ℕ) → number ≤ 32 → HasOneGroup count first number
+        → HasCounters count first number (family_group count (first, number)) }
+    ensures only { (count : ℕ → Counter) (first number : ℕ) (group : GroupState) → 1 ≤ number
+        → length group.own ≡ 32 → HasCounters count first number group
+        → group ≡ family_group count (first, number) }
+    ensures group { (count : ℕ → Counter) (first number : ℕ) → number ≤ 32 → (count first).group < 2 ^ 64
+        → ((child : ℕ) → child < number → (count (first + child)).own < 16384)
+        → IsGroup (family_group count (first, number)) }
+    ensures blank { (count : ℕ → Counter) (first number : ℕ) → 1 ≤ number
+        → ((child : ℕ) → child < number → count (first + child) ≡ first_counter)
+        → family_line count (first, number) ≡ replicate 64 0 }
 {}
 
 /// The order of counters is strict and total, and nothing is before (0,0).
