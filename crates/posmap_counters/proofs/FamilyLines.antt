@@ -16,6 +16,7 @@ use Rattle.posmap_counters.specs.Families.{HasCounters, HasOneGroup, own_counts,
 use Rattle.posmap_counters.proofs.DigitLaws.{length-digits, number_below}
 use Rattle.posmap_counters.proofs.LineLaws.{group-line, own-line, line-counters, Below-take}
 use Rattle.posmap_counters.proofs.PieceLaws.{own_below, own_set, zeros_below}
+use Rattle.posmap_counters.proofs.FamilyLaws.{zeros_at}
 use Rattle.posmap_counters.proofs.Order.{same_counter}
 
 -- groups with the same counters are one
@@ -117,11 +118,6 @@ family_blank count first number some blank =
     }) in
     ap line_in (sym is)
   where
-    zeros_at : (n k : ℕ) → get_or (replicate n zero) k zero ≡ zero
-    zeros_at zero k = refl
-    zeros_at (suc n) zero = refl
-    zeros_at (suc n) (suc k) = zeros_at n k
-
     zeros : (child : ℕ) → get_or first_group.own child 0 ≡ 0
     zeros child = zeros_at 32 child
 

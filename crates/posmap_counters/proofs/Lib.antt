@@ -6,3 +6,5 @@ pub mod ChangeLaws
 pub mod FamilyLaws
 pub mod MoveLaws
 pub mod FamilyLines
+pub mod AskedLaws
+pub mod RootLaws
