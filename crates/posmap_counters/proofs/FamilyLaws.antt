@@ -76,7 +76,7 @@ block_of-child held child = by (is_among held child)
     by false = refl
 
 module _ (lines layers : ℕ) where
-  child_moved : (counters : Counters) (held : List ℕ) (child : ℕ)
+  pub child_moved : (counters : Counters) (held : List ℕ) (child : ℕ)
       → changed_counter lines layers counters (child_move held child) ≡ next_group (counter_at counters child)
   child_moved counters held child = by (is_among held child)
     where

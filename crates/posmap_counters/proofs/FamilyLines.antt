@@ -7,9 +7,11 @@ use Rattle.std.proofs.lemmas.Bool.Decides.{leb_tells}
 use Rattle.std.specs.Int.Digits.{number_from_digits}
 use Rattle.std.proofs.lemmas.List.{get_or_past, length-set, length-take-le}
 use Rattle.std.proofs.lemmas.List.FromFn.{length-map-range_with_len, get_or-map-range_with_len, fill_by_all}
+use Rattle.asc_base.specs.Bytes.{AreBytes}
 use Rattle.asc_base.specs.declared.block.Counter.{Counter}
+use Rattle.asc_base.proofs.Bytes.{byte_of}
 use Rattle.posmap_counters.specs.Digits.{digits}
-use Rattle.posmap_counters.specs.Group.{GroupState, IsGroup, AreOwn, AreBytes, line_of, line_in, group_of, own_of, group_in}
+use Rattle.posmap_counters.specs.Group.{GroupState, IsGroup, AreOwn, line_of, line_in, group_of, own_of, group_in}
 use Rattle.posmap_counters.specs.Group.{child_counter, first_group, stepped_group, moved_group}
 use Rattle.posmap_counters.specs.Counters.{first_counter}
 use Rattle.posmap_counters.specs.Families.{HasCounters, HasOneGroup, own_counts, family_group, family_line}
@@ -127,7 +129,7 @@ unfolding group_of own_of
 read_is line long are = record {
   fits =
       let size : length (take 8 line) ≡ 8 = length-take-le 8 line (omega arith) in
-      rw size at (number_below 256 (take 8 line) (Below-take 256 8 line (omega arith) are));
+      rw size at (number_below 256 (take 8 line) (Below-take 256 8 line (omega arith) (λ k. byte_of line k are)));
   children = length-digits 16384 32 (number_from_digits 256 (drop 8 line));
   own = own_below line;
 }

@@ -8,3 +8,4 @@ pub mod MoveLaws
 pub mod FamilyLines
 pub mod AskedLaws
 pub mod RootLaws
+pub mod BoundLaws

@@ -6,7 +6,9 @@ use Rattle.std.proofs.lemmas.Bool.{cases_lt}
 use Rattle.std.proofs.Math.Nat.{mod-eq_of_lt}
 use Rattle.std.proofs.Common.{inl, inr}
 use Rattle.posmap_counters.specs.Digits.{digits}
-use Rattle.posmap_counters.specs.Group.{AreOwn, AreBytes, line_of, group_of, own_of}
+use Rattle.asc_base.specs.Bytes.{AreBytes}
+use Rattle.asc_base.proofs.Bytes.{byte_of}
+use Rattle.posmap_counters.specs.Group.{AreOwn, line_of, group_of, own_of}
 use Rattle.posmap_counters.proofs.DigitLaws.{Below, number-digits, digits-number, number_below, length-digits}
 
 -- the numbers of a part are below the base
@@ -42,14 +44,15 @@ own-line group own long are =
     ∙ digits-number 16384 32 own (omega arith) are long
 
 -- the number of 56 bytes is one of 32 counters
-line_number : (line : List ℕ) → length line ≡ 64 → AreBytes line → number_from_digits 256 (drop 8 line) < 16384 ^ 32
+line_number : (line : List ℕ) → length line ≡ 64 → Below 256 line → number_from_digits 256 (drop 8 line) < 16384 ^ 32
 line_number line long are =
     let size : length (drop 8 line) ≡ 56 = omega (arith, length-drop 8 line) in
     rw size at (number_below 256 (drop 8 line) (Below-drop 256 8 line are))
 
 pub line-counters : (line : List ℕ) → length line ≡ 64 → AreBytes line → line_of (group_of line) (own_of line) ≡ line
 unfolding line_of own_of group_of
-line-counters line long are =
+line-counters line long bytes =
+    let are : Below 256 line = λ k. byte_of line k bytes in
     let front : digits 256 8 (number_from_digits 256 (take 8 line)) ≡ take 8 line =
     digits-number 256 8 (take 8 line) (omega arith) (Below-take 256 8 line (omega arith) are) (length-take-le 8 line (omega arith)) in
     let number : number_from_digits 16384 (digits 16384 32 (number_from_digits 256 (drop 8 line))) ≡ number_from_digits 256 (drop 8 line) =

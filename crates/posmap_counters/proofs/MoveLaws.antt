@@ -93,7 +93,7 @@ module _ (lines layers : ℕ) where
   unfolding siblings
   siblings-parent a parent first number above children = rw (above, children) refl
 
-  move_is : (held : List ℕ) (a parent first number : ℕ) → parent_of lines layers a ≡ Some parent
+  pub move_is : (held : List ℕ) (a parent first number : ℕ) → parent_of lines layers a ≡ Some parent
       → children_of lines layers parent ≡ Some (first, number)
       → group_move lines layers held a ≡ map (child_move held) (addresses_from first number)
   unfolding group_move

@@ -9,7 +9,7 @@ use Rattle.std.proofs.lemmas.Slice.{take-put_mid}
 use Rattle.std.proofs.lemmas.Nat.{one_shl}
 use Rattle.std.proofs.Math.Nat.{pow-le-pow_right}
 use Rattle.posmap_counters.specs.Digits.{digits}
-use Rattle.posmap_counters.specs.Group.{AreOwn, AreBytes, line_of, own_of}
+use Rattle.posmap_counters.specs.Group.{AreOwn, line_of, own_of}
 use Rattle.posmap_counters.proofs.DigitLaws.{Below, number_after, number_below, digits-append, length-digits, digits_below}
 use Rattle.posmap_counters.proofs.LineLaws.{Below-take, Below-drop}
 
@@ -133,7 +133,7 @@ line_whole group p line own long size last held =
     ∙ ap (λ x. digits 256 8 group ++ digits 256 56 (number_from_digits 16384 x)) (take_all 32 own (omega arith))
 
 -- one more piece of own counts
-pub own_more : (p k : ℕ) (line four own : List ℕ) → length line ≡ 64 → length own ≡ 32 → AreBytes line → p < 8 → k ≡ 4
+pub own_more : (p k : ℕ) (line four own : List ℕ) → length line ≡ 64 → length own ≡ 32 → Below 256 line → p < 8 → k ≡ 4
     → take (4 * p) own ≡ digits 16384 (4 * p) (number_from_digits 256 (take (7 * p) (drop 8 line)))
     → four ≡ digits 16384 4 (number_from_digits 256 (take 7 (drop (8 + 7 * p) line)))
     → (length (put_mid (4 * p) k own four) ≡ 32)
@@ -199,5 +199,5 @@ room ic own most below =
     omega (arith, whole, bound)
 
 -- bytes are below 256
-pub bytes_fit : (bytes : List ℕ) → ((i : ℕ) → Fits w8 (get_or bytes i 0)) → AreBytes bytes
+pub bytes_fit : (bytes : List ℕ) → ((i : ℕ) → Fits w8 (get_or bytes i 0)) → Below 256 bytes
 bytes_fit bytes fit i = search (rules, fit i)

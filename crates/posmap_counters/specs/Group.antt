@@ -11,10 +11,6 @@ use Rattle.posmap_counters.specs.Digits.{digits}
 abbrev pub AreOwn : List ℕ → Type 0
 AreOwn own = (child : ℕ) → slice_index own child < 16384
 
--- each is a byte
-abbrev pub AreBytes : List ℕ → Type 0
-AreBytes bytes = (i : ℕ) → slice_index bytes i < 256
-
 -- the counters of the children of one block: the group counter, which all share, and the own count of each
 pub record GroupState : Type 0 where
   pub group : ℕ

@@ -5,11 +5,13 @@ ghost use Rattle.std.specs.Prelude.{◌≡◌, ◌≢◌, ℕ, ◌+◌, ◌^◌,
 ghost use Rattle.std.specs.Prelude.{◌-◌, ◌%◌, List, [], ◌∷◌, ◌++◌, length, take, replicate, slice_index, slice_set};
 ghost use Rattle.std.specs.Prelude.{is_none, false, None, Some};
 ghost use Rattle.asc_base.specs.declared.block.Counter.{Counter};
-ghost use Rattle.posmap_counters.specs.Group.{AreBytes, IsGroup, line_of, line_in, group_in};
+ghost use Rattle.asc_base.specs.Bytes.{AreBytes};
+ghost use Rattle.posmap_counters.specs.Group.{IsGroup, line_of, line_in, group_in};
 ghost use Rattle.posmap_counters.specs.Counters.{Counters, counter_at, first_counter, IsBefore, IsNotAfter};
 ghost use Rattle.posmap_counters.specs.Counters.{Change, block_of, changed_counter, after, after_all, points, all_points};
-ghost use Rattle.posmap_counters.specs.Counters.{Access, child_move, siblings, group_move, asked_changes};
+ghost use Rattle.posmap_counters.specs.Counters.{Access, MoveChild, RenumberChild, child_move, siblings, group_move, asked_changes};
 ghost use Rattle.posmap_counters.specs.Counters.{HasRoom, NoneWraps};
+ghost use Rattle.posmap_counters.specs.Bounds.{AreCounters};
 ghost use Rattle.posmap_counters.specs.Families.{HasCounters, IsMoving, HasOneGroup, move_points, family_group, family_line, HasRoots};
 ghost use Rattle.posmap_counters.specs.Group.{GroupState, first_group, stepped_group, moved_group};
 ghost use Rattle.asc_base.specs.TreeShape.{layer_first, layer_count, parent_of, children_of};
@@ -239,4 +241,28 @@ pub fn roots_keep_counters()
         → address < layer_first lines layers → parent_of lines layers address ≡ None
         → HasRoots lines layers (counter_at counters) roots
         → asked_changes lines layers ic held counters address ≡ Access address ∷ [] }
+{}
+
+/// Counters stay bounded
+pub fn counters_are_bounded()
+    ensures start { (lines layers ic : ℕ) → AreCounters lines layers ic (counter_at []) None 0 }
+    ensures access { (lines layers ic : ℕ) (counters : Counters) (address accesses : ℕ)
+        → address < layer_first lines layers → (counter_at counters address).own < 2 ^ ic - 1
+        → AreCounters lines layers ic (counter_at counters) None accesses
+        → AreCounters lines layers ic (counter_at (after lines layers counters (Access address))) None (accesses + 1) }
+    ensures moves { (lines layers ic : ℕ) (count : ℕ → Counter) (parent accesses : ℕ)
+        → AreCounters lines layers ic count None accesses → AreCounters lines layers ic count (Some parent) accesses }
+    ensures child { (lines layers ic : ℕ) (counters : Counters) (address parent accesses : ℕ)
+        → parent_of lines layers address ≡ Some parent
+        → AreCounters lines layers ic (counter_at counters) (Some parent) accesses
+        → AreCounters lines layers ic (counter_at (after lines layers counters (MoveChild address))) (Some parent)
+        (accesses + 1) }
+    ensures renumbered { (lines layers ic : ℕ) (counters : Counters) (address parent accesses : ℕ)
+        → parent_of lines layers address ≡ Some parent → (counter_at counters address).group < accesses
+        → AreCounters lines layers ic (counter_at counters) (Some parent) accesses
+        → AreCounters lines layers ic (counter_at (after lines layers counters (RenumberChild address))) (Some parent)
+        accesses }
+    ensures moved { (lines layers ic : ℕ) (count : ℕ → Counter) (parent first number accesses : ℕ)
+        → children_of lines layers parent ≡ Some (first, number) → HasOneGroup count first number
+        → AreCounters lines layers ic count (Some parent) accesses → AreCounters lines layers ic count None accesses }
 {}

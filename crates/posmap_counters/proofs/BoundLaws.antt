@@ -1,0 +1,189 @@
+-- Counters stay bounded: by the number of accesses, and their own counts by their bits.
+use Rattle.std.proofs.Common.{◌≡◌, ◌≢◌, ℕ, zero, suc, ◌+◌, ◌-◌, ◌%◌, ◌^◌, ◌<◌, ◌≤◌, inl, inr, arith, refl, sym, ap, ◌∙◌, subst}
+use Rattle.std.proofs.Common.{Bool, true, false, cond, List, [], ◌∷◌, ◌++◌, length, get_or, map, All, Option, None, Some, is_none}
+use Rattle.std.specs.Bool.{OnTrue}
+use Rattle.std.proofs.Math.Nat.{mod-le}
+use Rattle.std.proofs.lemmas.Bool.{cases_Bool, cases_eq, cases_lt}
+use Rattle.std.proofs.lemmas.Bool.Decides.{eqb_tells}
+use Rattle.std.proofs.lemmas.List.{length-append}
+use Rattle.asc_base.specs.TreeShape.{layer_first, parent_of, children_of, child_index_of}
+use Rattle.asc_base.specs.declared.block.Counter.{Counter}
+use Rattle.asc_base.proofs.Families.{parent_of_child, child_of_parent, children_few}
+use Rattle.posmap_counters.specs.Bounds.{AreCounters}
+use Rattle.posmap_counters.specs.Group.{GroupState, child_counter, moved_group}
+use Rattle.posmap_counters.specs.Counters.{Counters, counter_at, first_counter, next_group, next_own, addresses_from, is_among}
+use Rattle.posmap_counters.specs.Counters.{Change, Access, MoveChild, RenumberChild, block_of, changed_counter, child_move}
+use Rattle.posmap_counters.specs.Counters.{after, after_all, points, all_points, HasRoom, NoneWraps, group_move, asked_changes}
+use Rattle.posmap_counters.specs.Families.{HasCounters, HasOneGroup, IsMoving, family_group}
+use Rattle.posmap_counters.proofs.ChangeLaws.{after_at, after_other, counters_join, points_join, room_joins}
+use Rattle.posmap_counters.proofs.FamilyLaws.{some_is, one_group, other_family, block_of-child, child_moved}
+use Rattle.posmap_counters.proofs.FamilyLines.{family_has}
+use Rattle.posmap_counters.proofs.MoveLaws.{move_begins, child_moves, move_ends, move_is}
+use Rattle.posmap_counters.proofs.AskedLaws.{some_room, asked-full, asked-room}
+
+pub start_bounded : (lines layers ic : ℕ) → AreCounters lines layers ic (counter_at []) None 0
+unfolding counter_at
+start_bounded lines layers ic = record {
+  few = λ a. omega arith;
+  own = λ a. omega arith;
+  top = λ a inside none. refl;
+  families = λ parent first number inside children still child within. refl;
+}
+
+-- a move begins, and ends once its family has one group counter
+pub move_opens : (lines layers ic : ℕ) (count : ℕ → Counter) (p accesses : ℕ) → AreCounters lines layers ic count None accesses
+    → AreCounters lines layers ic count (Some p) accesses
+move_opens lines layers ic count p accesses are = record {
+  few = are.few;
+  own = are.own;
+  top = are.top;
+  families = λ parent first number inside children still. are.families parent first number inside children none_is_not;
+}
+  where
+    none_is_not : {a : ℕ} → None ≡ Some a → ⊥
+    none_is_not e = cc
+
+pub move_closes : (lines layers ic : ℕ) (count : ℕ → Counter) (p first number accesses : ℕ) → children_of lines layers p ≡ Some (first, number)
+    → HasOneGroup count first number → AreCounters lines layers ic count (Some p) accesses
+    → AreCounters lines layers ic count None accesses
+move_closes lines layers ic count p first number accesses children one are = record {
+  few = are.few;
+  own = are.own;
+  top = are.top;
+  families = λ parent f n inside of_parent still. elim (cases_eq p parent) [
+    | inl same ↦ family parent f n (sym of_parent ∙ ap (children_of lines layers) (sym same) ∙ children)
+    | inr other ↦ are.families parent f n inside of_parent (λ e. other (some_is e))
+  ];
+}
+  where
+    pair_is : {x y : ℕ × ℕ} → Some x ≡ Some y → x ≡ y
+    pair_is e = cc
+
+    family : (parent f n : ℕ) → ◌≡◌ {A = Option (ℕ × ℕ)} (Some (f, n)) (Some (first, number)) → HasOneGroup count f n
+    family parent f n same =
+        let both = pair_is same in
+        subst (λ (x : ℕ × ℕ). HasOneGroup count x.0 x.1) (sym both) one
+
+-- the next group counter is one more at most
+next-le : (c : Counter) → (next_group c).group ≤ c.group + 1
+next-le c = mod-le (c.group + 1) (2 ^ 64)
+
+module _ (lines layers ic : ℕ) where
+  -- a change that gives its block a counter within the bounds
+  bounded : (counters : Counters) (change : Change) (moving : Option ℕ) (n m : ℕ) → n ≤ m
+      → (changed_counter lines layers counters change).group + (changed_counter lines layers counters change).own ≤ m
+      → (changed_counter lines layers counters change).own ≤ 2 ^ ic - 1
+      → (block_of change < layer_first lines layers → parent_of lines layers (block_of change) ≡ None
+      → (changed_counter lines layers counters change).own ≡ 0)
+      → ((parent : ℕ) → parent_of lines layers (block_of change) ≡ Some parent → moving ≢ Some parent
+      → (changed_counter lines layers counters change).group ≡ (counter_at counters (block_of change)).group)
+      → AreCounters lines layers ic (counter_at counters) moving n
+      → AreCounters lines layers ic (counter_at (after lines layers counters change)) moving m
+  bounded counters change moving n m more sum own top group are = record {
+    few = λ a. elim (cases_eq a (block_of change)) [
+      | inl same ↦ subst (λ x. (now x).group + (now x).own ≤ m) (sym same) (subst (λ (c : Counter). c.group + c.own ≤ m) (sym here) sum)
+      | inr other ↦ subst (λ (c : Counter). c.group + c.own ≤ m) (sym (there a other)) (let h : (counter_at counters a).group + (counter_at counters a).own ≤ n = are.few a in omega arith)
+    ];
+    own = λ a. elim (cases_eq a (block_of change)) [
+      | inl same ↦ subst (λ x. (now x).own ≤ 2 ^ ic - 1) (sym same) (subst (λ (c : Counter). c.own ≤ 2 ^ ic - 1) (sym here) own)
+      | inr other ↦ subst (λ (c : Counter). c.own ≤ 2 ^ ic - 1) (sym (there a other)) (are.own a)
+    ];
+    top = λ a inside none. elim (cases_eq a (block_of change)) [
+      | inl same ↦ subst (λ x. (now x).own ≡ 0) (sym same) (ap (λ (c : Counter). c.own) here
+          ∙ top (subst (λ x. x < layer_first lines layers) same inside) (ap (parent_of lines layers) (sym same) ∙ none))
+      | inr other ↦ ap (λ (c : Counter). c.own) (there a other) ∙ are.top a inside none
+    ];
+    families = λ parent first number inside children still child within.
+        let some : first + 0 ≡ first = omega arith in
+        let zeroth = subst (λ x. (now x).group ≡ (counter_at counters x).group) some
+        (kept parent first number 0 inside children still (omega arith)) in
+        kept parent first number child inside children still within
+        ∙ are.families parent first number inside children still child within ∙ sym zeroth;
+  }
+    where
+      now : ℕ → Counter
+      now = counter_at (after lines layers counters change)
+
+      here : now (block_of change) ≡ changed_counter lines layers counters change
+      here = after_at lines layers counters change
+
+      there : (a : ℕ) → a ≢ block_of change → now a ≡ counter_at counters a
+      there a other = after_other lines layers counters change a other
+
+      -- group counters stay, unless the family is moving
+      kept : (parent first number child : ℕ) → parent < layer_first lines layers → children_of lines layers parent ≡ Some (first, number)
+          → moving ≢ Some parent → child < number → (now (first + child)).group ≡ (counter_at counters (first + child)).group
+      kept parent first number child inside children still within =
+          elim (cases_eq (first + child) (block_of change)) [
+            | inl same ↦
+                let above = (parent_of_child lines layers parent first number child inside children within).0 in
+                ap (λ (c : Counter). c.group) (ap now same ∙ here)
+                ∙ group parent (ap (parent_of lines layers) (sym same) ∙ above) still
+                ∙ ap (λ x. (counter_at counters x).group) (sym same)
+            | inr other ↦ ap (λ (c : Counter). c.group) (there (first + child) other)
+          ]
+
+  -- an access to a block that has room
+  pub access_bounded : (counters : Counters) (a n : ℕ) → a < layer_first lines layers → (counter_at counters a).own < 2 ^ ic - 1
+      → AreCounters lines layers ic (counter_at counters) None n
+      → AreCounters lines layers ic (counter_at (after lines layers counters (Access a))) None (n + 1)
+  access_bounded counters a n inside room are = by (parent_of lines layers a) refl
+    where
+      few : (counter_at counters a).group + (counter_at counters a).own ≤ n
+      few = are.few a
+
+      is : (top : Bool) → is_none (parent_of lines layers a) ≡ top
+          → changed_counter lines layers counters (Access a) ≡ cond top (next_group (counter_at counters a)) (next_own (counter_at counters a))
+      is top same = ap (λ b. cond b (next_group (counter_at counters a)) (next_own (counter_at counters a))) same
+
+      none_some : {p : ℕ} → None ≡ Some p → ⊥
+      none_some e = cc
+
+      by : (o : Option ℕ) → parent_of lines layers a ≡ o
+          → AreCounters lines layers ic (counter_at (after lines layers counters (Access a))) None (n + 1)
+      by None none =
+          let to = is true (ap is_none none) in
+          bounded counters (Access a) None n (n + 1) (omega arith)
+          (subst (λ (c : Counter). c.group + c.own ≤ n + 1) (sym to) (omega (arith, next-le (counter_at counters a), few)))
+          (subst (λ (c : Counter). c.own ≤ 2 ^ ic - 1) (sym to) (omega arith))
+          (λ inside none. ap (λ (c : Counter). c.own) to)
+          (λ parent above still. absurd (none_some (sym none ∙ above)))
+          are
+      by (Some p) some =
+          let to = is false (ap is_none some) in
+          bounded counters (Access a) None n (n + 1) (omega arith)
+          (subst (λ (c : Counter). c.group + c.own ≤ n + 1) (sym to) (omega (arith, few)))
+          (subst (λ (c : Counter). c.own ≤ 2 ^ ic - 1) (sym to) (omega (arith, room)))
+          (λ inside none. absurd (none_some (sym none ∙ some)))
+          (λ parent above still. ap (λ (c : Counter). c.group) to)
+          are
+
+  some_apart : (p parent a : ℕ) → parent_of lines layers a ≡ Some p → parent_of lines layers a ≡ Some parent → Some p ≢ Some parent → ⊥
+  some_apart p parent a of_p of_parent other = other (sym of_p ∙ of_parent)
+
+  -- a child of a moving family
+  pub child_bounded : (counters : Counters) (a p n : ℕ) → parent_of lines layers a ≡ Some p
+      → AreCounters lines layers ic (counter_at counters) (Some p) n
+      → AreCounters lines layers ic (counter_at (after lines layers counters (MoveChild a))) (Some p) (n + 1)
+  child_bounded counters a p n above are =
+      let few : (counter_at counters a).group + (counter_at counters a).own ≤ n = are.few a in
+      bounded counters (MoveChild a) (Some p) n (n + 1) (omega arith)
+      (omega (arith, next-le (counter_at counters a), few)) (omega arith) (λ inside none. refl)
+      (λ parent of_parent still. absurd (some_apart p parent a above of_parent still))
+      are
+
+  -- one that is renumbered: its group counter is below the number of accesses
+  pub renumber_bounded : (counters : Counters) (a p n : ℕ) → parent_of lines layers a ≡ Some p → (counter_at counters a).group < n
+      → AreCounters lines layers ic (counter_at counters) (Some p) n
+      → AreCounters lines layers ic (counter_at (after lines layers counters (RenumberChild a))) (Some p) n
+  renumber_bounded counters a p n above low are =
+      bounded counters (RenumberChild a) (Some p) n n (omega arith)
+      (omega (arith, next-le (counter_at counters a), low)) (omega arith) (λ inside none. refl)
+      (λ parent of_parent still. absurd (some_apart p parent a above of_parent still))
+      are
+
+  -- changes that stay within bounds and wrap nothing
+  record StayBounded (counters : Counters) (moving : Option ℕ) (n : ℕ) (changes : List Change) : Type 0 where
+    pub bounds : AreCounters lines layers ic (counter_at (after_all lines layers counters changes)) moving
+        (n + length (all_points lines layers counters changes))
+    pub room : n + length (all_points lines layers counters changes) < 2 ^ 64 → NoneWraps lines layers counters changes
