@@ -243,14 +243,17 @@ pub fn roots_keep_counters()
         → asked_changes lines layers ic held counters address ≡ Access address ∷ [] }
 {}
 
-/// Counters stay bounded
+/// Counters stay bounded: the two numbers of a counter are together at most the number of accesses, own counts have their
+/// bits, those of the top layer are 0, and the children of one block share their group counter, unless they are moving.
+/// This holds at the start and after each change, so that no group counter wraps in fewer than 2 ^ 64 accesses, although
+/// a child that is renumbered isn't accessed: an own count has to reach its greatest before.
 pub fn counters_are_bounded()
     ensures start { (lines layers ic : ℕ) → AreCounters lines layers ic (counter_at []) None 0 }
     ensures access { (lines layers ic : ℕ) (counters : Counters) (address accesses : ℕ)
         → address < layer_first lines layers → (counter_at counters address).own < 2 ^ ic - 1
         → AreCounters lines layers ic (counter_at counters) None accesses
         → AreCounters lines layers ic (counter_at (after lines layers counters (Access address))) None (accesses + 1) }
-    ensures moves { (lines layers ic : ℕ) (count : ℕ → Counter) (parent accesses : ℕ)
+    ensures begins { (lines layers ic : ℕ) (count : ℕ → Counter) (parent accesses : ℕ)
         → AreCounters lines layers ic count None accesses → AreCounters lines layers ic count (Some parent) accesses }
     ensures child { (lines layers ic : ℕ) (counters : Counters) (address parent accesses : ℕ)
         → parent_of lines layers address ≡ Some parent
@@ -262,7 +265,16 @@ pub fn counters_are_bounded()
         → AreCounters lines layers ic (counter_at counters) (Some parent) accesses
         → AreCounters lines layers ic (counter_at (after lines layers counters (RenumberChild address))) (Some parent)
         accesses }
-    ensures moved { (lines layers ic : ℕ) (count : ℕ → Counter) (parent first number accesses : ℕ)
+    ensures ends { (lines layers ic : ℕ) (count : ℕ → Counter) (parent first number accesses : ℕ)
         → children_of lines layers parent ≡ Some (first, number) → HasOneGroup count first number
         → AreCounters lines layers ic count (Some parent) accesses → AreCounters lines layers ic count None accesses }
+    ensures asked { (lines layers ic : ℕ) (counters : Counters) (held : List ℕ) (address accesses : ℕ) → 1 ≤ ic
+        → address < layer_first lines layers → AreCounters lines layers ic (counter_at counters) None accesses
+        → AreCounters lines layers ic
+        (counter_at (after_all lines layers counters (asked_changes lines layers ic held counters address))) None
+        (accesses + length (all_points lines layers counters (asked_changes lines layers ic held counters address))) }
+    ensures room { (lines layers ic : ℕ) (counters : Counters) (held : List ℕ) (address accesses : ℕ) → 1 ≤ ic
+        → address < layer_first lines layers → AreCounters lines layers ic (counter_at counters) None accesses
+        → accesses + length (all_points lines layers counters (asked_changes lines layers ic held counters address))
+        < 2 ^ 64 → NoneWraps lines layers counters (asked_changes lines layers ic held counters address) }
 {}
