@@ -1,13 +1,13 @@
 -- What an access that is asked for changes.
-use Rattle.std.proofs.Common.{◌≡◌, ℕ, ◌+◌, ◌-◌, ◌%◌, ◌^◌, ◌<◌, ◌≤◌, inl, inr, arith, refl, sym, ap, ◌∙◌, subst}
-use Rattle.std.proofs.Common.{false, List, [], ◌∷◌, ◌++◌, length, get_or, replicate, Option, Some, is_none}
+use Rattle.std.proofs.Common.{◌≡◌, ℕ, ◌+◌, ◌-◌, ◌^◌, ◌<◌, ◌≤◌, inl, inr, arith, refl, sym, ap, ◌∙◌, subst}
+use Rattle.std.proofs.Common.{cond, List, [], ◌∷◌, ◌++◌, length, get_or, Some, is_none}
 use Rattle.std.proofs.Math.Nat.{pow-le-pow_right}
 use Rattle.std.proofs.Common.{lit<}
 use Rattle.std.proofs.lemmas.Bool.Decides.{leb_tells}
 use Rattle.asc_base.specs.TreeShape.{parent_of, children_of}
 use Rattle.asc_base.specs.declared.block.Counter.{Counter}
-use Rattle.posmap_counters.specs.Group.{GroupState, stepped_group, moved_group}
-use Rattle.posmap_counters.specs.Counters.{Counters, counter_at, Change, Access, after, after_all, group_move, asked_changes}
+use Rattle.posmap_counters.specs.Group.{GroupState, stepped_group, moved_group, asked_group}
+use Rattle.posmap_counters.specs.Counters.{Counters, counter_at, Access, after, after_all, group_move, asked_changes}
 use Rattle.posmap_counters.specs.Families.{HasCounters}
 use Rattle.posmap_counters.proofs.ChangeLaws.{counters_join}
 use Rattle.posmap_counters.proofs.FamilyLaws.{zeros_at, step_counters}
@@ -91,3 +91,20 @@ module _ (lines layers : ℕ) where
       subst (λ changes. HasCounters (counter_at (after_all lines layers counters changes)) first number (stepped_group ic group child))
       (sym (family-room ic first number child group counters held within has room))
       (step_counters lines layers counters ic first number child group within long (ap is_none above) room has)
+
+  -- the group of a family after an access that is asked for
+  pub counters-asked : (ic parent first number child : ℕ) (group : GroupState) (counters : Counters) (held : List ℕ) → 1 ≤ ic
+      → parent_of lines layers (first + child) ≡ Some parent → children_of lines layers parent ≡ Some (first, number)
+      → child < number → number ≤ 32 → length group.own ≡ 32 → HasCounters (counter_at counters) first number group
+      → HasCounters (counter_at (after_all lines layers counters (asked_changes lines layers ic held counters (first + child))))
+      first number (asked_group ic group child)
+  counters-asked ic parent first number child group counters held bits above children within few long has =
+      let moved : GroupState = stepped_group ic (moved_group group) child in
+      let here : GroupState = stepped_group ic group child in
+      let now : ℕ → Counter = counter_at (after_all lines layers counters (asked_changes lines layers ic held counters (first + child))) in
+      elim (leb_tells (2 ^ ic - 1) (get_or group.own child 0)) [
+        | inl full ↦ subst (HasCounters now first number) (sym (ap (λ b. cond b moved here) full.0))
+            (counters-full ic parent first number child group counters held bits above children within few has full.1)
+        | inr rest ↦ subst (HasCounters now first number) (sym (ap (λ b. cond b moved here) rest.0))
+            (counters-room ic parent first number child group counters held above within (omega arith) has rest.1)
+      ]

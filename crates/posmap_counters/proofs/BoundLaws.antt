@@ -1,17 +1,16 @@
 -- Counters stay bounded: by the number of accesses, and their own counts by their bits.
-use Rattle.std.proofs.Common.{◌≡◌, ◌≢◌, ℕ, zero, suc, ◌+◌, ◌-◌, ◌%◌, ◌^◌, ◌<◌, ◌≤◌, inl, inr, arith, refl, sym, ap, ◌∙◌, subst}
-use Rattle.std.proofs.Common.{Bool, true, false, cond, List, [], ◌∷◌, ◌++◌, length, get_or, map, All, Option, None, Some, is_none}
+use Rattle.std.proofs.Common.{◌≡◌, ◌≢◌, ℕ, zero, suc, ◌+◌, ◌-◌, ◌^◌, ◌<◌, ◌≤◌, inl, inr, arith, refl, sym, ap, ◌∙◌, subst}
+use Rattle.std.proofs.Common.{Bool, true, false, cond, List, [], ◌∷◌, ◌++◌, length, get_or, map, Option, None, Some, is_none}
 use Rattle.std.specs.Bool.{OnTrue}
 use Rattle.std.proofs.Math.Nat.{mod-le}
-use Rattle.std.proofs.lemmas.Bool.{cases_Bool, cases_eq, cases_lt}
-use Rattle.std.proofs.lemmas.Bool.Decides.{eqb_tells}
+use Rattle.std.proofs.lemmas.Bool.{cases_eq, cases_lt}
 use Rattle.std.proofs.lemmas.List.{length-append}
 use Rattle.asc_base.specs.TreeShape.{layer_first, parent_of, children_of, child_index_of}
 use Rattle.asc_base.specs.declared.block.Counter.{Counter}
 use Rattle.asc_base.proofs.Families.{parent_of_child, child_of_parent, children_few}
 use Rattle.posmap_counters.specs.Bounds.{AreCounters}
-use Rattle.posmap_counters.specs.Group.{GroupState, child_counter, moved_group}
-use Rattle.posmap_counters.specs.Counters.{Counters, counter_at, first_counter, next_group, next_own, addresses_from, is_among}
+use Rattle.posmap_counters.specs.Group.{GroupState, moved_group}
+use Rattle.posmap_counters.specs.Counters.{Counters, counter_at, next_group, next_own, addresses_from, is_among}
 use Rattle.posmap_counters.specs.Counters.{Change, Access, MoveChild, RenumberChild, block_of, changed_counter, child_move}
 use Rattle.posmap_counters.specs.Counters.{after, after_all, points, all_points, HasRoom, NoneWraps, group_move, asked_changes}
 use Rattle.posmap_counters.specs.Families.{HasCounters, HasOneGroup, IsMoving, family_group}

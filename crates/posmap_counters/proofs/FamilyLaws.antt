@@ -1,21 +1,20 @@
 -- What changes make of the counters of a family: those of its own blocks, a group move of all, and those of other families.
-use Rattle.std.proofs.Common.{◌≡◌, ◌≢◌, ℕ, zero, suc, ◌+◌, ◌-◌, ◌%◌, ◌^◌, ◌<◌, ◌≤◌, inl, inr, arith}
-use Rattle.std.proofs.Common.{true, false, cond, refl, sym, ap, ◌∙◌, subst, not, nat_le, is_none, Option, Some, None}
-use Rattle.std.proofs.Common.{List, [], ◌∷◌, ◌++◌, length, map, filter, take, get_or, set, replicate, All}
-use Rattle.std.specs.List.{range_with_len}
-use Rattle.std.proofs.lemmas.Bool.{cases_eq, cases_lt}
+use Rattle.std.proofs.Common.{◌≡◌, ◌≢◌, ℕ, zero, suc, ◌+◌, ◌-◌, ◌^◌, ◌<◌, ◌≤◌, inl, inr, arith}
+use Rattle.std.proofs.Common.{true, false, cond, refl, sym, ap, ◌∙◌, subst, is_none, Some}
+use Rattle.std.proofs.Common.{List, [], ◌∷◌, length, map, take, get_or, set, replicate, All}
+use Rattle.std.proofs.lemmas.Bool.{cases_eq}
 use Rattle.std.proofs.lemmas.Bool.Decides.{leb_tells}
 use Rattle.std.proofs.lemmas.List.{get_or-set_same, get_or-set_other}
 use Rattle.std.proofs.lemmas.List.Elements.{All-cons}
-use Rattle.asc_base.specs.TreeShape.{layer_first, parent_of, children_of, child_index_of}
+use Rattle.asc_base.specs.TreeShape.{layer_first, parent_of, children_of}
 use Rattle.asc_base.specs.declared.block.Counter.{Counter}
-use Rattle.asc_base.proofs.Families.{parent_of_child, child_of_parent}
-use Rattle.posmap_counters.specs.Group.{GroupState, child_counter, first_group, stepped_group, moved_group}
-use Rattle.posmap_counters.specs.Counters.{Counters, counter_at, next_group, next_own, point_of, addresses_from, is_among}
-use Rattle.posmap_counters.specs.Counters.{Change, Access, MoveChild, RenumberChild, block_of, child_move, siblings}
-use Rattle.posmap_counters.specs.Counters.{after, after_all, points, all_points, group_move, changed_counter}
-use Rattle.posmap_counters.specs.Families.{HasCounters, IsMoving, HasOneGroup, move_points}
-use Rattle.posmap_counters.proofs.ChangeLaws.{after_at, after_other, after_others}
+use Rattle.asc_base.proofs.Families.{parent_of_child}
+use Rattle.posmap_counters.specs.Group.{GroupState, child_counter, first_group, stepped_group}
+use Rattle.posmap_counters.specs.Counters.{Counters, counter_at, next_group, next_own, addresses_from, is_among}
+use Rattle.posmap_counters.specs.Counters.{Change, Access, MoveChild, RenumberChild, block_of, child_move}
+use Rattle.posmap_counters.specs.Counters.{after, changed_counter}
+use Rattle.posmap_counters.specs.Families.{HasCounters, HasOneGroup}
+use Rattle.posmap_counters.proofs.ChangeLaws.{after_at, after_other}
 
 pub zeros_at : (n k : ℕ) → get_or (replicate n zero) k zero ≡ zero
 zeros_at zero k = refl

@@ -1,7 +1,7 @@
 -- The line of a position-map block by its children's counters.
-use Rattle.std.proofs.Common.{◌≡◌, ℕ, ◌+◌, ◌-◌, ◌%◌, ◌^◌, ◌<◌, ◌≤◌, inl, inr, true, false, arith, refl, sym, ap, ◌∙◌, subst}
-use Rattle.std.proofs.Common.{zero, suc, List, length, get_or, replicate, set, take, drop, cond, nat_lt, if◌then◌else◌, lit<}
-use Rattle.std.proofs.Math.Nat.{mod-lt, pow-le-pow_right}
+use Rattle.std.proofs.Common.{◌≡◌, ℕ, ◌+◌, ◌-◌, ◌^◌, ◌<◌, ◌≤◌, inl, inr, true, false, arith, refl, sym, ap, ◌∙◌, subst}
+use Rattle.std.proofs.Common.{List, length, get_or, replicate, take, drop, nat_lt, if◌then◌else◌, lit<}
+use Rattle.std.proofs.Math.Nat.{pow-le-pow_right}
 use Rattle.std.proofs.lemmas.Bool.{cases_lt}
 use Rattle.std.proofs.lemmas.Bool.Decides.{leb_tells}
 use Rattle.std.specs.Int.Digits.{number_from_digits}
@@ -11,12 +11,12 @@ use Rattle.asc_base.specs.Bytes.{AreBytes}
 use Rattle.asc_base.specs.declared.block.Counter.{Counter}
 use Rattle.asc_base.proofs.Bytes.{byte_of}
 use Rattle.posmap_counters.specs.Digits.{digits}
-use Rattle.posmap_counters.specs.Group.{GroupState, IsGroup, AreOwn, line_of, line_in, group_of, own_of, group_in}
+use Rattle.posmap_counters.specs.Group.{GroupState, IsGroup, line_of, line_in, group_of, own_of, group_in}
 use Rattle.posmap_counters.specs.Group.{child_counter, first_group, stepped_group, moved_group}
 use Rattle.posmap_counters.specs.Counters.{first_counter}
 use Rattle.posmap_counters.specs.Families.{HasCounters, HasOneGroup, own_counts, family_group, family_line}
 use Rattle.posmap_counters.proofs.DigitLaws.{length-digits, number_below}
-use Rattle.posmap_counters.proofs.LineLaws.{group-line, own-line, line-counters, Below-take}
+use Rattle.posmap_counters.proofs.LineLaws.{group-line, own-line, Below-take}
 use Rattle.posmap_counters.proofs.PieceLaws.{own_below, own_set, zeros_below}
 use Rattle.posmap_counters.proofs.FamilyLaws.{zeros_at}
 use Rattle.posmap_counters.proofs.Order.{same_counter}

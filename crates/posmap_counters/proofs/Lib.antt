@@ -9,3 +9,4 @@ pub mod FamilyLines
 pub mod AskedLaws
 pub mod RootLaws
 pub mod BoundLaws
+pub mod Rows

@@ -1,7 +1,7 @@
 -- A group move, a child at a time.
 use Rattle.std.proofs.Common.{◌≡◌, ◌≢◌, ℕ, zero, suc, ◌+◌, ◌%◌, ◌^◌, ◌<◌, ◌≤◌, inl, inr, arith}
-use Rattle.std.proofs.Common.{Bool, true, false, cond, refl, sym, ap, ◌∙◌, subst, not, Option, Some}
-use Rattle.std.proofs.Common.{List, [], ◌∷◌, ◌++◌, length, map, filter, take, get_or, replicate, All}
+use Rattle.std.proofs.Common.{Bool, true, false, cond, refl, sym, ap, ◌∙◌, subst, not, Some}
+use Rattle.std.proofs.Common.{List, [], ◌∷◌, ◌++◌, length, map, filter, take, All}
 use Rattle.std.specs.List.{range_with_len}
 use Rattle.std.proofs.lemmas.Bool.{cases_lt}
 use Rattle.std.proofs.lemmas.List.{take_all}
@@ -11,7 +11,7 @@ use Rattle.asc_base.specs.declared.block.Point.{Point}
 use Rattle.asc_base.proofs.Families.{parent_of_child, child_of_parent}
 use Rattle.posmap_counters.specs.Group.{GroupState, child_counter, moved_group}
 use Rattle.posmap_counters.specs.Counters.{Counters, counter_at, next_group, point_of, addresses_from, is_among}
-use Rattle.posmap_counters.specs.Counters.{Change, MoveChild, RenumberChild, block_of, child_move, siblings}
+use Rattle.posmap_counters.specs.Counters.{MoveChild, RenumberChild, block_of, child_move, siblings}
 use Rattle.posmap_counters.specs.Counters.{after, after_all, points, all_points, group_move}
 use Rattle.posmap_counters.specs.Families.{HasCounters, IsMoving, move_points}
 use Rattle.posmap_counters.proofs.ChangeLaws.{All-to, after_others}

@@ -1,5 +1,5 @@
 -- Counters are ordered by group counter, then by own count.
-use Rattle.std.proofs.Common.{◌≡◌, ℕ, ◌+◌, ◌%◌, ◌^◌, ◌<◌, ◌⊎◌, inl, inr, refl, sym, ◌∙◌, subst, arith}
+use Rattle.std.proofs.Common.{◌≡◌, ◌+◌, ◌%◌, ◌^◌, ◌<◌, ◌⊎◌, inl, inr, refl, sym, ◌∙◌, subst, arith}
 use Rattle.std.proofs.Math.Nat.{mod-eq_of_lt}
 use Rattle.std.proofs.lemmas.Bool.{cases_eq, cases_lt}
 use Rattle.asc_base.specs.declared.block.Counter.{Counter}
@@ -32,16 +32,16 @@ pub before_total : (c d : Counter) → IsBefore c d ⊎ IsNotAfter d c
 before_total c d =
     elim (cases_eq c.group d.group) [
       | inl same ↦ elim (cases_lt c.own d.own) [
-          | inl low ↦ inl (inr (same, low))
-          | inr high ↦ elim (cases_eq c.own d.own) [
-              | inl own ↦ inr (inl (sym (same_counter c d same own)))
-              | inr other ↦ inr (inr (inr (sym same, omega arith)))
-            ]
+        | inl low ↦ inl (inr (same, low))
+        | inr high ↦ elim (cases_eq c.own d.own) [
+          | inl own ↦ inr (inl (sym (same_counter c d same own)))
+          | inr other ↦ inr (inr (inr (sym same, omega arith)))
         ]
+      ]
       | inr other ↦ elim (cases_lt c.group d.group) [
-          | inl low ↦ inl (inl low)
-          | inr high ↦ inr (inr (inl (omega arith)))
-        ]
+        | inl low ↦ inl (inl low)
+        | inr high ↦ inr (inr (inl (omega arith)))
+      ]
     ]
 
 -- nothing is before (0,0)
@@ -49,9 +49,9 @@ pub first_not_after : (c : Counter) → IsNotAfter first_counter c
 first_not_after c =
     elim (cases_eq c.group 0) [
       | inl group ↦ elim (cases_eq c.own 0) [
-          | inl own ↦ inl (sym (same_counter c first_counter group own))
-          | inr some ↦ inr (inr (sym group, omega arith))
-        ]
+        | inl own ↦ inl (sym (same_counter c first_counter group own))
+        | inr some ↦ inr (inr (sym group, omega arith))
+      ]
       | inr some ↦ inr (inl (omega arith))
     ]
 

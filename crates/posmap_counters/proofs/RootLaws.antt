@@ -1,6 +1,6 @@
 -- The counters of the top layer.
 use Rattle.std.proofs.Common.{◌≡◌, ◌≢◌, ℕ, ◌+◌, ◌-◌, ◌%◌, ◌^◌, ◌<◌, ◌≤◌, inl, inr, arith, refl, sym, ap, ◌∙◌, subst}
-use Rattle.std.proofs.Common.{true, false, cond, List, [], ◌∷◌, length, get_or, set, replicate, Option, None, Some, is_none}
+use Rattle.std.proofs.Common.{cond, List, [], ◌∷◌, length, get_or, set, replicate, None, Some, is_none}
 use Rattle.std.proofs.lemmas.Bool.{cases_eq}
 use Rattle.std.proofs.lemmas.List.{get_or-set_same, get_or-set_other}
 use Rattle.asc_base.specs.TreeShape.{layer_first, layer_count, layer_of, parent_of}

@@ -60,3 +60,9 @@ stepped_group ic group child =
 -- the group after a group move: the next group counter, after the greatest of 64 bits 0, and own counts of 0
 abbrev pub moved_group : GroupState → GroupState
 moved_group group = record { group = (group.group + 1) % 2 ^ 64; own = replicate 32 0 }
+
+-- the group after an access to a child that is asked for: at its greatest own count all children move first
+abbrev pub asked_group : ℕ → GroupState → ℕ → GroupState
+asked_group ic group child =
+    (if nat_le (2 ^ ic - 1) (slice_index group.own child) then stepped_group ic (moved_group group) child
+    else stepped_group ic group child)

@@ -3,3 +3,4 @@ pub mod Group
 pub mod Counters
 pub mod Families
 pub mod Bounds
+pub mod Rows

@@ -3,7 +3,7 @@ ghost use Rattle.std.specs.Prelude.{slice_index, replicate, take, length};
 ghost use Rattle.std.specs.Int.Digits.{number_from_digits};
 ghost use Rattle.posmap_counters.specs.Digits.{digits};
 ghost use Rattle.posmap_counters.specs.Group.{AreOwn, IsGroup, line_of, line_in, group_of, own_of, group_in};
-ghost use Rattle.posmap_counters.specs.Group.{child_counter, stepped_group, moved_group};
+ghost use Rattle.posmap_counters.specs.Group.{child_counter, stepped_group, moved_group, asked_group};
 
 use asc_base::{Counter, Line};
 use std::marker::Model;
@@ -85,6 +85,23 @@ impl Group {
         }
         self.own[child as usize] = own + 1;
         Step::Stepped
+    }
+
+    /// The counters after an access to a child, 0 to 31, that is asked for, where own counts have `ic` bits, 2 to 14:
+    /// where a step answers `MustMove`, all children move first.
+    pub fn asked(&self, child: u32, ic: u32) -> Group
+        requires child { child < 32 }
+        requires ic_from { 2 ≤ ic }
+        requires ic_to { ic ≤ 14 }
+        ensures { result ≡ asked_group ic self.now child }
+    {
+        let mut stepped = *self;
+        if stepped.step(child, ic) == Step::Stepped {
+            return stepped;
+        }
+        let mut moved = self.moved();
+        moved.step(child, ic);
+        moved
     }
 
     /// The counters after a group move: the next group counter, after the greatest 0, and own counts of 0.

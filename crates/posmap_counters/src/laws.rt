@@ -2,18 +2,20 @@
 //! its contract.
 
 ghost use Rattle.std.specs.Prelude.{◌≡◌, ◌≢◌, ℕ, ◌+◌, ◌^◌, ◌<◌, ◌≤◌, ◌==◌, ◌⊎◌, All, AllPairs, if◌then◌else◌};
-ghost use Rattle.std.specs.Prelude.{◌-◌, ◌%◌, List, [], ◌∷◌, ◌++◌, length, take, replicate, slice_index, slice_set};
+ghost use Rattle.std.specs.Prelude.{◌-◌, ◌%◌, List, [], ◌∷◌, ◌++◌, length, map, take, replicate};
+ghost use Rattle.std.specs.Prelude.{slice_index, slice_set};
 ghost use Rattle.std.specs.Prelude.{is_none, false, None, Some};
 ghost use Rattle.asc_base.specs.declared.block.Counter.{Counter};
 ghost use Rattle.asc_base.specs.Bytes.{AreBytes};
 ghost use Rattle.posmap_counters.specs.Group.{IsGroup, line_of, line_in, group_in};
 ghost use Rattle.posmap_counters.specs.Counters.{Counters, counter_at, first_counter, IsBefore, IsNotAfter};
-ghost use Rattle.posmap_counters.specs.Counters.{Change, block_of, changed_counter, after, after_all, points, all_points};
+ghost use Rattle.posmap_counters.specs.Counters.{point_of, Change, block_of, changed_counter, after, after_all, points, all_points};
 ghost use Rattle.posmap_counters.specs.Counters.{Access, MoveChild, RenumberChild, child_move, siblings, group_move, asked_changes};
 ghost use Rattle.posmap_counters.specs.Counters.{HasRoom, NoneWraps};
 ghost use Rattle.posmap_counters.specs.Bounds.{AreCounters};
 ghost use Rattle.posmap_counters.specs.Families.{HasCounters, IsMoving, HasOneGroup, move_points, family_group, family_line, HasRoots};
-ghost use Rattle.posmap_counters.specs.Group.{GroupState, first_group, stepped_group, moved_group};
+ghost use Rattle.posmap_counters.specs.Group.{GroupState, first_group, stepped_group, moved_group, asked_group};
+ghost use Rattle.posmap_counters.specs.Rows.{two_siblings, their_group};
 ghost use Rattle.asc_base.specs.TreeShape.{layer_first, layer_count, parent_of, children_of};
 
 /// Lines and groups are inverse: what is read from the line of a group is that group, and the line of the group that is
@@ -194,8 +196,8 @@ pub fn moves_are_of_one_family()
 {}
 
 /// What an access to a child changes, where a group has the counters of its family. Where the child's own count is at least
-/// `2^ic - 1`, which is where a step answers `MustMove`, all children move first and then the child is accessed: the group
-/// is moved, and then stepped. Else the child alone is accessed: the group is stepped.
+/// `2^ic - 1`, which is where a step answers `MustMove`, all children move first and then the child is accessed; else the
+/// child alone is accessed. The family then has the counters that `Group::asked` makes.
 pub fn asked_changes_are_steps()
     ensures must_move { (lines layers ic first number child : ℕ) (group : GroupState) (counters : Counters)
         (held : List ℕ) → child < number → HasCounters (counter_at counters) first number group
@@ -206,19 +208,12 @@ pub fn asked_changes_are_steps()
         (held : List ℕ) → child < number → HasCounters (counter_at counters) first number group
         → slice_index group.own child < 2 ^ ic - 1
         → asked_changes lines layers ic held counters (first + child) ≡ Access (first + child) ∷ [] }
-    ensures counters_moved { (lines layers ic parent first number child : ℕ) (group : GroupState) (counters : Counters)
+    ensures counters { (lines layers ic parent first number child : ℕ) (group : GroupState) (counters : Counters)
         (held : List ℕ) → 1 ≤ ic → parent_of lines layers (first + child) ≡ Some parent
         → children_of lines layers parent ≡ Some (first, number) → child < number → number ≤ 32
-        → HasCounters (counter_at counters) first number group → 2 ^ ic - 1 ≤ slice_index group.own child
+        → length group.own ≡ 32 → HasCounters (counter_at counters) first number group
         → HasCounters (counter_at (after_all lines layers counters
-        (asked_changes lines layers ic held counters (first + child)))) first number
-        (stepped_group ic (moved_group group) child) }
-    ensures counters_stepped { (lines layers ic parent first number child : ℕ) (group : GroupState)
-        (counters : Counters) (held : List ℕ) → parent_of lines layers (first + child) ≡ Some parent
-        → child < number → number ≤ length group.own
-        → HasCounters (counter_at counters) first number group → slice_index group.own child < 2 ^ ic - 1
-        → HasCounters (counter_at (after_all lines layers counters
-        (asked_changes lines layers ic held counters (first + child)))) first number (stepped_group ic group child) }
+        (asked_changes lines layers ic held counters (first + child)))) first number (asked_group ic group child) }
 {}
 
 /// The counters of the top layer, which are on chip: each is a group counter alone, 0 at the start. An access to a block of
@@ -277,4 +272,27 @@ pub fn counters_are_bounded()
         → address < layer_first lines layers → AreCounters lines layers ic (counter_at counters) None accesses
         → accesses + length (all_points lines layers counters (asked_changes lines layers ic held counters address))
         < 2 ^ 64 → NoneWraps lines layers counters (asked_changes lines layers ic held counters address) }
+{}
+
+/// The definitions on rows, and laws at instances: the line of a group counter of 1 and an own count of 5; two siblings
+/// in 64 lines under three layers, of which the first is at the greatest own count of two bits, and the second held; and
+/// a change without room, where the group counter would wrap.
+pub fn laws_have_instances()
+    ensures line { line_in (record { group = 1; own = 5 ∷ replicate 31 0 })
+        ≡ replicate 7 0 ++ 1 ∷ 0 ∷ 20 ∷ replicate 54 0 }
+    ensures group { family_group (counter_at two_siblings) (64, 2) ≡ their_group }
+    ensures has { HasCounters (counter_at two_siblings) 64 2 their_group }
+    ensures changes { asked_changes 64 3 2 (65 ∷ []) two_siblings 64
+        ≡ MoveChild 64 ∷ RenumberChild 65 ∷ Access 64 ∷ [] }
+    ensures points { all_points 64 3 two_siblings (asked_changes 64 3 2 (65 ∷ []) two_siblings 64)
+        ≡ point_of 64 (record { group = 0; own = 3 }) ∷ point_of 64 (record { group = 1; own = 0 }) ∷ [] }
+    ensures counters { map (counter_at (after_all 64 3 two_siblings
+        (asked_changes 64 3 2 (65 ∷ []) two_siblings 64))) (64 ∷ 65 ∷ 66 ∷ [])
+        ≡ record { group = 1; own = 1 } ∷ record { group = 1; own = 0 } ∷ first_counter ∷ [] }
+    ensures moved { asked_group 2 their_group 0 ≡ record { group = 1; own = 1 ∷ replicate 31 0 } }
+    ensures moving { IsMoving (counter_at (after 64 3 two_siblings (MoveChild 64))) 64 2 1 their_group }
+    ensures roots { HasRoots 64 3 (counter_at (after 64 3 [] (Access 66))) (1 ∷ []) }
+    ensures points_by_group { move_points (65 ∷ []) 64 2 their_group
+        ≡ point_of 64 (record { group = 0; own = 3 }) ∷ [] }
+    ensures wraps { HasRoom 64 3 ((66, record { group = 2 ^ 64 - 1; own = 0 }) ∷ []) (Access 66) → ⊥ }
 {}
