@@ -41,10 +41,12 @@ module _ (lines layers : ℕ) where
       ]
 
   own_is : (counters : Counters) (first number child : ℕ) (group : GroupState) → child < number
-      → HasCounters (counter_at counters) first number group → (counter_at counters (first + child)).own ≡ get_or group.own child 0
+      → HasCounters (counter_at counters) first number group
+      → (counter_at counters (first + child)).own ≡ get_or group.own child 0
   own_is counters first number child group within has = ap (λ (c : Counter). c.own) (has.children child within)
 
-  pub family-full : (ic first number child : ℕ) (group : GroupState) (counters : Counters) (held : List ℕ) → child < number
+  pub family-full : (ic first number child : ℕ) (group : GroupState) (counters : Counters) (held : List ℕ)
+      → child < number
       → HasCounters (counter_at counters) first number group → 2 ^ ic - 1 ≤ get_or group.own child 0
       → asked_changes lines layers ic held counters (first + child)
       ≡ group_move lines layers held (first + child) ++ Access (first + child) ∷ []
@@ -52,7 +54,8 @@ module _ (lines layers : ℕ) where
       let same = own_is counters first number child group within has in
       asked-full ic counters held (first + child) (omega arith)
 
-  pub family-room : (ic first number child : ℕ) (group : GroupState) (counters : Counters) (held : List ℕ) → child < number
+  pub family-room : (ic first number child : ℕ) (group : GroupState) (counters : Counters) (held : List ℕ)
+      → child < number
       → HasCounters (counter_at counters) first number group → get_or group.own child 0 < 2 ^ ic - 1
       → asked_changes lines layers ic held counters (first + child) ≡ Access (first + child) ∷ []
   family-room ic first number child group counters held within has room =
@@ -60,11 +63,13 @@ module _ (lines layers : ℕ) where
       asked-room ic counters held (first + child) (omega arith)
 
   -- all children move, and then one is accessed
-  pub counters-full : (ic parent first number child : ℕ) (group : GroupState) (counters : Counters) (held : List ℕ) → 1 ≤ ic
+  pub counters-full : (ic parent first number child : ℕ) (group : GroupState) (counters : Counters) (held : List ℕ)
+      → 1 ≤ ic
       → parent_of lines layers (first + child) ≡ Some parent → children_of lines layers parent ≡ Some (first, number)
       → child < number → number ≤ 32
       → HasCounters (counter_at counters) first number group → 2 ^ ic - 1 ≤ get_or group.own child 0
-      → HasCounters (counter_at (after_all lines layers counters (asked_changes lines layers ic held counters (first + child))))
+      → HasCounters (counter_at (after_all lines layers counters
+      (asked_changes lines layers ic held counters (first + child))))
       first number (stepped_group ic (moved_group group) child)
   unfolding after_all
   counters-full ic parent first number child group counters held bits above children within few has full =
@@ -72,36 +77,46 @@ module _ (lines layers : ℕ) where
       let after_both : Counters = after lines layers moved (Access (first + child)) in
       let have : HasCounters (counter_at moved) first number (moved_group group) =
       move_counters lines layers counters (first + child) parent first number group held above children has in
-      let fresh : get_or (moved_group group).own child 0 < 2 ^ ic - 1 = omega (arith, zeros_at 32 child, some_room ic bits) in
+      let fresh : get_or (moved_group group).own child 0 < 2 ^ ic - 1 =
+      omega (arith, zeros_at 32 child, some_room ic bits) in
       let stepped : HasCounters (counter_at after_both) first number (stepped_group ic (moved_group group) child) =
-      step_counters lines layers moved ic first number child (moved_group group) within few (ap is_none above) fresh have in
-      let all : after_all lines layers counters (asked_changes lines layers ic held counters (first + child)) ≡ after_both =
+      step_counters lines layers moved ic first number child (moved_group group) within few
+      (ap is_none above) fresh have in
+      let all : after_all lines layers counters (asked_changes lines layers ic held counters (first + child))
+      ≡ after_both =
       ap (after_all lines layers counters) (family-full ic first number child group counters held within has full)
-      ∙ counters_join lines layers counters (group_move lines layers held (first + child)) (Access (first + child) ∷ []) in
-      subst (λ now. HasCounters (counter_at now) first number (stepped_group ic (moved_group group) child)) (sym all) stepped
+      ∙ counters_join lines layers counters (group_move lines layers held (first + child))
+      (Access (first + child) ∷ []) in
+      subst (λ now. HasCounters (counter_at now) first number (stepped_group ic (moved_group group) child))
+      (sym all) stepped
 
   -- one child is accessed alone
   pub counters-room : (ic parent first number child : ℕ) (group : GroupState) (counters : Counters) (held : List ℕ)
       → parent_of lines layers (first + child) ≡ Some parent → child < number → number ≤ length group.own
       → HasCounters (counter_at counters) first number group → get_or group.own child 0 < 2 ^ ic - 1
-      → HasCounters (counter_at (after_all lines layers counters (asked_changes lines layers ic held counters (first + child))))
+      → HasCounters (counter_at (after_all lines layers counters
+      (asked_changes lines layers ic held counters (first + child))))
       first number (stepped_group ic group child)
   unfolding after_all
   counters-room ic parent first number child group counters held above within long has room =
-      subst (λ changes. HasCounters (counter_at (after_all lines layers counters changes)) first number (stepped_group ic group child))
+      subst (λ changes. HasCounters (counter_at (after_all lines layers counters changes)) first number
+      (stepped_group ic group child))
       (sym (family-room ic first number child group counters held within has room))
       (step_counters lines layers counters ic first number child group within long (ap is_none above) room has)
 
   -- the group of a family after an access that is asked for
-  pub counters-asked : (ic parent first number child : ℕ) (group : GroupState) (counters : Counters) (held : List ℕ) → 1 ≤ ic
+  pub counters-asked : (ic parent first number child : ℕ) (group : GroupState) (counters : Counters) (held : List ℕ)
+      → 1 ≤ ic
       → parent_of lines layers (first + child) ≡ Some parent → children_of lines layers parent ≡ Some (first, number)
       → child < number → number ≤ 32 → length group.own ≡ 32 → HasCounters (counter_at counters) first number group
-      → HasCounters (counter_at (after_all lines layers counters (asked_changes lines layers ic held counters (first + child))))
+      → HasCounters (counter_at (after_all lines layers counters
+      (asked_changes lines layers ic held counters (first + child))))
       first number (asked_group ic group child)
   counters-asked ic parent first number child group counters held bits above children within few long has =
       let moved : GroupState = stepped_group ic (moved_group group) child in
       let here : GroupState = stepped_group ic group child in
-      let now : ℕ → Counter = counter_at (after_all lines layers counters (asked_changes lines layers ic held counters (first + child))) in
+      let now : ℕ → Counter = counter_at (after_all lines layers counters
+      (asked_changes lines layers ic held counters (first + child))) in
       elim (leb_tells (2 ^ ic - 1) (get_or group.own child 0)) [
         | inl full ↦ subst (HasCounters now first number) (sym (ap (λ b. cond b moved here) full.0))
             (counters-full ic parent first number child group counters held bits above children within few has full.1)

@@ -1,6 +1,8 @@
 -- Counters stay bounded: by the number of accesses, and their own counts by their bits.
-use Rattle.std.proofs.Common.{◌≡◌, ◌≢◌, ℕ, zero, suc, ◌+◌, ◌-◌, ◌^◌, ◌<◌, ◌≤◌, inl, inr, arith, refl, sym, ap, ◌∙◌, subst}
-use Rattle.std.proofs.Common.{Bool, true, false, cond, List, [], ◌∷◌, ◌++◌, length, get_or, map, Option, None, Some, is_none}
+use Rattle.std.proofs.Common.{◌≡◌, ◌≢◌, ℕ, zero, suc, ◌+◌, ◌-◌, ◌^◌, ◌<◌, ◌≤◌, inl, inr, arith, refl, sym, ap, ◌∙◌}
+use Rattle.std.proofs.Common.{subst}
+use Rattle.std.proofs.Common.{Bool, true, false, cond, List, [], ◌∷◌, ◌++◌, length, get_or, map, Option, None, Some}
+use Rattle.std.proofs.Common.{is_none}
 use Rattle.std.specs.Bool.{OnTrue}
 use Rattle.std.proofs.Math.Nat.{mod-le}
 use Rattle.std.proofs.lemmas.Bool.{cases_eq, cases_lt}
@@ -11,8 +13,10 @@ use Rattle.asc_base.proofs.Families.{parent_of_child, child_of_parent, children_
 use Rattle.posmap_counters.specs.Bounds.{AreCounters}
 use Rattle.posmap_counters.specs.Group.{GroupState, moved_group}
 use Rattle.posmap_counters.specs.Counters.{Counters, counter_at, next_group, next_own, addresses_from, is_among}
-use Rattle.posmap_counters.specs.Counters.{Change, Access, MoveChild, RenumberChild, block_of, changed_counter, child_move}
-use Rattle.posmap_counters.specs.Counters.{after, after_all, points, all_points, HasRoom, NoneWraps, group_move, asked_changes}
+use Rattle.posmap_counters.specs.Counters.{Change, Access, MoveChild, RenumberChild, block_of, changed_counter}
+use Rattle.posmap_counters.specs.Counters.{child_move}
+use Rattle.posmap_counters.specs.Counters.{after, after_all, points, all_points, HasRoom, NoneWraps, group_move}
+use Rattle.posmap_counters.specs.Counters.{asked_changes}
 use Rattle.posmap_counters.specs.Families.{HasCounters, HasOneGroup, IsMoving, family_group}
 use Rattle.posmap_counters.proofs.ChangeLaws.{after_at, after_other, counters_join, points_join, room_joins}
 use Rattle.posmap_counters.proofs.FamilyLaws.{zeros_at, some_is, one_group}
@@ -30,7 +34,8 @@ start_bounded lines layers ic = record {
 }
 
 -- a move begins, and ends once its family has one group counter
-pub move_opens : (lines layers ic : ℕ) (count : ℕ → Counter) (p accesses : ℕ) → AreCounters lines layers ic count None accesses
+pub move_opens : (lines layers ic : ℕ) (count : ℕ → Counter) (p accesses : ℕ)
+    → AreCounters lines layers ic count None accesses
     → AreCounters lines layers ic count (Some p) accesses
 move_opens lines layers ic count p accesses are = record {
   few = are.few;
@@ -42,7 +47,8 @@ move_opens lines layers ic count p accesses are = record {
     none_is_not : {a : ℕ} → None ≡ Some a → ⊥
     none_is_not e = cc
 
-pub move_closes : (lines layers ic : ℕ) (count : ℕ → Counter) (p first number accesses : ℕ) → children_of lines layers p ≡ Some (first, number)
+pub move_closes : (lines layers ic : ℕ) (count : ℕ → Counter) (p first number accesses : ℕ)
+    → children_of lines layers p ≡ Some (first, number)
     → HasOneGroup count first number → AreCounters lines layers ic count (Some p) accesses
     → AreCounters lines layers ic count None accesses
 move_closes lines layers ic count p first number accesses children one are = record {
@@ -80,11 +86,14 @@ module _ (lines layers ic : ℕ) where
       → AreCounters lines layers ic (counter_at (after lines layers counters change)) moving m
   bounded counters change moving n m more sum own top group are = record {
     few = λ a. elim (cases_eq a (block_of change)) [
-      | inl same ↦ subst (λ x. (now x).group + (now x).own ≤ m) (sym same) (subst (λ (c : Counter). c.group + c.own ≤ m) (sym here) sum)
-      | inr other ↦ subst (λ (c : Counter). c.group + c.own ≤ m) (sym (there a other)) (let h : (counter_at counters a).group + (counter_at counters a).own ≤ n = are.few a in omega arith)
+      | inl same ↦ subst (λ x. (now x).group + (now x).own ≤ m) (sym same)
+          (subst (λ (c : Counter). c.group + c.own ≤ m) (sym here) sum)
+      | inr other ↦ subst (λ (c : Counter). c.group + c.own ≤ m) (sym (there a other))
+          (let h : (counter_at counters a).group + (counter_at counters a).own ≤ n = are.few a in omega arith)
     ];
     own = λ a. elim (cases_eq a (block_of change)) [
-      | inl same ↦ subst (λ x. (now x).own ≤ 2 ^ ic - 1) (sym same) (subst (λ (c : Counter). c.own ≤ 2 ^ ic - 1) (sym here) own)
+      | inl same ↦ subst (λ x. (now x).own ≤ 2 ^ ic - 1) (sym same)
+          (subst (λ (c : Counter). c.own ≤ 2 ^ ic - 1) (sym here) own)
       | inr other ↦ subst (λ (c : Counter). c.own ≤ 2 ^ ic - 1) (sym (there a other)) (are.own a)
     ];
     top = λ a inside none. elim (cases_eq a (block_of change)) [
@@ -110,8 +119,10 @@ module _ (lines layers ic : ℕ) where
       there a other = after_other lines layers counters change a other
 
       -- group counters stay, unless the family is moving
-      kept : (parent first number child : ℕ) → parent < layer_first lines layers → children_of lines layers parent ≡ Some (first, number)
-          → moving ≢ Some parent → child < number → (now (first + child)).group ≡ (counter_at counters (first + child)).group
+      kept : (parent first number child : ℕ) → parent < layer_first lines layers
+          → children_of lines layers parent ≡ Some (first, number)
+          → moving ≢ Some parent → child < number
+          → (now (first + child)).group ≡ (counter_at counters (first + child)).group
       kept parent first number child inside children still within =
           elim (cases_eq (first + child) (block_of change)) [
             | inl same ↦
@@ -123,7 +134,8 @@ module _ (lines layers ic : ℕ) where
           ]
 
   -- an access to a block that has room
-  pub access_bounded : (counters : Counters) (a n : ℕ) → a < layer_first lines layers → (counter_at counters a).own < 2 ^ ic - 1
+  pub access_bounded : (counters : Counters) (a n : ℕ) → a < layer_first lines layers
+      → (counter_at counters a).own < 2 ^ ic - 1
       → AreCounters lines layers ic (counter_at counters) None n
       → AreCounters lines layers ic (counter_at (after lines layers counters (Access a))) None (n + 1)
   access_bounded counters a n inside room are = by (parent_of lines layers a) refl
@@ -132,7 +144,8 @@ module _ (lines layers ic : ℕ) where
       few = are.few a
 
       is : (top : Bool) → is_none (parent_of lines layers a) ≡ top
-          → changed_counter lines layers counters (Access a) ≡ cond top (next_group (counter_at counters a)) (next_own (counter_at counters a))
+          → changed_counter lines layers counters (Access a)
+          ≡ cond top (next_group (counter_at counters a)) (next_own (counter_at counters a))
       is top same = ap (λ b. cond b (next_group (counter_at counters a)) (next_own (counter_at counters a))) same
 
       none_some : {p : ℕ} → None ≡ Some p → ⊥
@@ -143,7 +156,8 @@ module _ (lines layers ic : ℕ) where
       by None none =
           let to = is true (ap is_none none) in
           bounded counters (Access a) None n (n + 1) (omega arith)
-          (subst (λ (c : Counter). c.group + c.own ≤ n + 1) (sym to) (omega (arith, next-le (counter_at counters a), few)))
+          (subst (λ (c : Counter). c.group + c.own ≤ n + 1) (sym to)
+          (omega (arith, next-le (counter_at counters a), few)))
           (subst (λ (c : Counter). c.own ≤ 2 ^ ic - 1) (sym to) (omega arith))
           (λ inside none. ap (λ (c : Counter). c.own) to)
           (λ parent above still. absurd (none_some (sym none ∙ above)))
@@ -157,7 +171,8 @@ module _ (lines layers ic : ℕ) where
           (λ parent above still. ap (λ (c : Counter). c.group) to)
           are
 
-  some_apart : (p parent a : ℕ) → parent_of lines layers a ≡ Some p → parent_of lines layers a ≡ Some parent → Some p ≢ Some parent → ⊥
+  some_apart : (p parent a : ℕ) → parent_of lines layers a ≡ Some p → parent_of lines layers a ≡ Some parent
+      → Some p ≢ Some parent → ⊥
   some_apart p parent a of_p of_parent other = other (sym of_p ∙ of_parent)
 
   -- a child of a moving family
@@ -172,7 +187,8 @@ module _ (lines layers ic : ℕ) where
       are
 
   -- one that is renumbered: its group counter is below the number of accesses
-  pub renumber_bounded : (counters : Counters) (a p n : ℕ) → parent_of lines layers a ≡ Some p → (counter_at counters a).group < n
+  pub renumber_bounded : (counters : Counters) (a p n : ℕ) → parent_of lines layers a ≡ Some p
+      → (counter_at counters a).group < n
       → AreCounters lines layers ic (counter_at counters) (Some p) n
       → AreCounters lines layers ic (counter_at (after lines layers counters (RenumberChild a))) (Some p) n
   renumber_bounded counters a p n above low are =
@@ -187,11 +203,13 @@ module _ (lines layers ic : ℕ) where
         (n + length (all_points lines layers counters changes))
     pub room : n + length (all_points lines layers counters changes) < 2 ^ 64 → NoneWraps lines layers counters changes
 
-  stay_none : (counters : Counters) (moving : Option ℕ) (n : ℕ) → AreCounters lines layers ic (counter_at counters) moving n
+  stay_none : (counters : Counters) (moving : Option ℕ) (n : ℕ)
+      → AreCounters lines layers ic (counter_at counters) moving n
       → StayBounded counters moving n []
   unfolding after_all all_points
   stay_none counters moving n are = record {
-    bounds = let same : n ≡ n + 0 = omega arith in subst (λ m. AreCounters lines layers ic (counter_at counters) moving m) same are;
+    bounds = let same : n ≡ n + 0 = omega arith in
+        subst (λ m. AreCounters lines layers ic (counter_at counters) moving m) same are;
     room = λ low. tt;
   }
 
@@ -206,9 +224,11 @@ module _ (lines layers ic : ℕ) where
       let later : ℕ = length (all_points lines layers next rest) in
       let long : length (points lines layers counters change ++ all_points lines layers next rest) ≡ here + later =
       length-append (points lines layers counters change) (all_points lines layers next rest) in
-      let sum : n + here + later ≡ n + length (points lines layers counters change ++ all_points lines layers next rest) = omega arith in
+      let sum : n + here + later ≡ n + length (points lines layers counters change ++ all_points lines layers next rest)
+      = omega arith in
       record {
-        bounds = subst (λ m. AreCounters lines layers ic (counter_at (after_all lines layers next rest)) moving m) sum stay.bounds;
+        bounds = subst (λ m. AreCounters lines layers ic (counter_at (after_all lines layers next rest)) moving m) sum
+            stay.bounds;
         room = λ low. (has (omega arith), stay.room (omega arith));
       }
 
@@ -224,17 +244,21 @@ module _ (lines layers ic : ℕ) where
       let sum : n + length (all_points lines layers counters xs) + length (all_points lines layers mid ys)
       ≡ n + length (all_points lines layers counters (xs ++ ys)) = omega arith in
       record {
-        bounds = subst (λ now. AreCounters lines layers ic (counter_at now) moving (n + length (all_points lines layers counters (xs ++ ys))))
+        bounds = subst (λ now. AreCounters lines layers ic (counter_at now) moving
+            (n + length (all_points lines layers counters (xs ++ ys))))
             (sym (counters_join lines layers counters xs ys))
-            (subst (λ k. AreCounters lines layers ic (counter_at (after_all lines layers mid ys)) moving k) sum second.bounds);
+            (subst (λ k. AreCounters lines layers ic (counter_at (after_all lines layers mid ys)) moving k) sum
+            second.bounds);
         room = λ low. room_joins lines layers counters xs ys (first.room (omega arith)) (second.room (omega arith));
       }
 
   -- a child's part of a group move
-  move_stays : (counters : Counters) (a p n : ℕ) (moving : Bool) (rest : List Change) → parent_of lines layers a ≡ Some p
+  move_stays : (counters : Counters) (a p n : ℕ) (moving : Bool) (rest : List Change)
+      → parent_of lines layers a ≡ Some p
       → (counter_at counters a).group < n → AreCounters lines layers ic (counter_at counters) (Some p) n
       → ((m : ℕ) → n ≤ m
-      → AreCounters lines layers ic (counter_at (after lines layers counters (cond moving (RenumberChild a) (MoveChild a)))) (Some p) m
+      → AreCounters lines layers ic (counter_at (after lines layers counters
+      (cond moving (RenumberChild a) (MoveChild a)))) (Some p) m
       → StayBounded (after lines layers counters (cond moving (RenumberChild a) (MoveChild a))) (Some p) m rest)
       → StayBounded counters (Some p) n (cond moving (RenumberChild a) (MoveChild a) ∷ rest)
   unfolding points
@@ -242,15 +266,18 @@ module _ (lines layers ic : ℕ) where
       stay_more counters (RenumberChild a) (Some p) n rest (λ few. omega arith)
       (then_rest (n + 0) (omega arith)
       (let same : n ≡ n + 0 = omega arith in
-      subst (λ m. AreCounters lines layers ic (counter_at (after lines layers counters (RenumberChild a))) (Some p) m) same
+      subst (λ m. AreCounters lines layers ic (counter_at (after lines layers counters (RenumberChild a))) (Some p) m)
+      same
       (renumber_bounded counters a p n above low are)))
   move_stays counters a p n false rest above low are then_rest =
       stay_more counters (MoveChild a) (Some p) n rest (λ few. omega arith)
       (then_rest (n + 1) (omega arith) (child_bounded counters a p n above are))
 
   children_stay : (counters : Counters) (p first number done more n : ℕ) (group : GroupState) (held : List ℕ)
-      → p < layer_first lines layers → children_of lines layers p ≡ Some (first, number) → done + more ≤ number → group.group < n
-      → IsMoving (counter_at counters) first number done group → AreCounters lines layers ic (counter_at counters) (Some p) n
+      → p < layer_first lines layers → children_of lines layers p ≡ Some (first, number) → done + more ≤ number
+      → group.group < n
+      → IsMoving (counter_at counters) first number done group
+      → AreCounters lines layers ic (counter_at counters) (Some p) n
       → StayBounded counters (Some p) n (map (child_move held) (addresses_from (first + done) more))
   unfolding addresses_from
   children_stay counters p first number done zero n group held inside children within low moving are =
@@ -260,13 +287,15 @@ module _ (lines layers ic : ℕ) where
       let place : first + (done + 1) ≡ first + done + 1 = omega arith in
       let same : (counter_at counters (first + done)).group ≡ group.group =
       ap (λ (c : Counter). c.group) (moving.left done (omega arith) (omega arith)) in
-      move_stays counters (first + done) p n (is_among held (first + done)) (map (child_move held) (addresses_from (first + done + 1) more))
+      move_stays counters (first + done) p n (is_among held (first + done))
+      (map (child_move held) (addresses_from (first + done + 1) more))
       (parent_of_child lines layers p first number done inside children (omega arith)).0 (omega arith) are
       (λ m over now. subst (λ a. StayBounded next (Some p) m (map (child_move held) (addresses_from a more))) place
       (children_stay next p first number (done + 1) more m group held inside children (omega arith) (omega arith)
       (child_moves lines layers counters first number done group held (omega arith) moving) now))
 
-  access_stays : (counters : Counters) (a n : ℕ) → a < layer_first lines layers → (counter_at counters a).own < 2 ^ ic - 1
+  access_stays : (counters : Counters) (a n : ℕ) → a < layer_first lines layers
+      → (counter_at counters a).own < 2 ^ ic - 1
       → AreCounters lines layers ic (counter_at counters) None n → StayBounded counters None n (Access a ∷ [])
   unfolding points
   access_stays counters a n inside room are =
@@ -288,10 +317,12 @@ module _ (lines layers ic : ℕ) where
   full_stays counters held a p n some inside above full are =
       stay_joins counters (Some p) None n (group_move lines layers held a) (Access a ∷ []) moved
       (access_stays mid a (n + length (all_points lines layers counters (group_move lines layers held a))) inside room
-      (move_closes lines layers ic (counter_at mid) p first number (n + length (all_points lines layers counters (group_move lines layers held a))) children
+      (move_closes lines layers ic (counter_at mid) p first number
+      (n + length (all_points lines layers counters (group_move lines layers held a))) children
       (one_group (counter_at mid) first number (moved_group group) ended) moved.bounds))
     where
-      up : (first : ℕ) × (number : ℕ) × (children_of lines layers p ≡ Some (first, number)) × (a ≡ first + child_index_of lines layers a)
+      up : (first : ℕ) × (number : ℕ) × (children_of lines layers p ≡ Some (first, number))
+          × (a ≡ first + child_index_of lines layers a)
           × (child_index_of lines layers a < number) × (p < layer_first lines layers)
       up = child_of_parent lines layers a p inside above
 
@@ -337,7 +368,8 @@ module _ (lines layers ic : ℕ) where
           subst (StayBounded counters (Some p) n) (sym (move_is lines layers held a p first number above children))
           (subst (λ x. StayBounded counters (Some p) n (map (child_move held) (addresses_from x number))) from
           (children_stay counters p first number 0 number n group held within children (omega arith) low
-          (move_begins (counter_at counters) first number group has) (move_opens lines layers ic (counter_at counters) p n are)))
+          (move_begins (counter_at counters) first number group has)
+          (move_opens lines layers ic (counter_at counters) p n are)))
 
       ended : HasCounters (counter_at mid) first number (moved_group group)
       ended = move_counters lines layers counters a p first number group held above children has
@@ -368,7 +400,8 @@ module _ (lines layers ic : ℕ) where
   -- what an access that is asked for changes stays within bounds, and wraps nothing while accesses are few
   pub asked_bounded : (counters : Counters) (held : List ℕ) (a n : ℕ) → 1 ≤ ic → a < layer_first lines layers
       → AreCounters lines layers ic (counter_at counters) None n
-      → AreCounters lines layers ic (counter_at (after_all lines layers counters (asked_changes lines layers ic held counters a))) None
+      → AreCounters lines layers ic (counter_at (after_all lines layers counters
+      (asked_changes lines layers ic held counters a))) None
       (n + length (all_points lines layers counters (asked_changes lines layers ic held counters a)))
   asked_bounded counters held a n some inside are = (asked_stays counters held a n some inside are).bounds
 

@@ -12,9 +12,11 @@ use Rattle.asc_base.specs.declared.block.Counter.{Counter}
 use Rattle.asc_base.specs.declared.block.Point.{Point}
 use Rattle.asc_base.specs.declared.block.Point.TheVariants.{Real, Dummy}
 use Rattle.posmap_counters.specs.Counters.{Counters, counter_at, next_group, next_own, point_of, IsBefore, IsNotAfter}
-use Rattle.posmap_counters.specs.Counters.{Change, Access, MoveChild, RenumberChild, block_of, accessed, changed_counter}
+use Rattle.posmap_counters.specs.Counters.{Change, Access, MoveChild, RenumberChild, block_of, accessed}
+use Rattle.posmap_counters.specs.Counters.{changed_counter}
 use Rattle.posmap_counters.specs.Counters.{after, after_all, points, all_points, HasRoom, NoneWraps}
-use Rattle.posmap_counters.proofs.Order.{before_trans, not_after_trans, before_irreflexive, next_group-before, next_own-before}
+use Rattle.posmap_counters.proofs.Order.{before_trans, not_after_trans, before_irreflexive, next_group-before}
+use Rattle.posmap_counters.proofs.Order.{next_own-before}
 
 pub All-to : {X : Type 0} (P Q : X → Type 0) (xs : List X) → All P xs → ((x : X) → P x → Q x) → All Q xs
 All-to P Q xs all to k d h = to (get_or xs k d) (all k d h)
@@ -25,7 +27,8 @@ AllPairs-append : {X : Type 0} (R : X → X → Type 0) (xs ys : List X) → All
 AllPairs-append R [] ys first second cross = second
 AllPairs-append R (x ∷ xs) ys first second cross =
     AllPairs-cons R x (xs ++ ys)
-    (All-append (R x) xs ys (λ k d h. first 0 (suc k) d (omega arith) (omega arith)) (All-head (λ y. All (R y) ys) x xs cross))
+    (All-append (R x) xs ys (λ k d h. first 0 (suc k) d (omega arith) (omega arith))
+    (All-head (λ y. All (R y) ys) x xs cross))
     (AllPairs-append R xs ys (λ i j d p h. first (suc i) (suc j) d (omega arith) (omega arith)) second
     (All-tail (λ y. All (R y) ys) x xs cross))
 
@@ -91,7 +94,8 @@ module _ (lines layers : ℕ) where
   accessed-before counters a room = by (is_none (parent_of lines layers a)) room
     where
       by : (top : Bool) → OnTrue top ((counter_at counters a).group + 1 < 2 ^ 64)
-          → IsBefore (counter_at counters a) (cond top (next_group (counter_at counters a)) (next_own (counter_at counters a)))
+          → IsBefore (counter_at counters a) (cond top (next_group (counter_at counters a))
+          (next_own (counter_at counters a)))
       by true room = next_group-before (counter_at counters a) room
       by false room = next_own-before (counter_at counters a)
 
@@ -103,16 +107,19 @@ module _ (lines layers : ℕ) where
 
   -- a change gives its block a later counter
   pub block_rises : (counters : Counters) (change : Change) → HasRoom lines layers counters change
-      → IsBefore (counter_at counters (block_of change)) (counter_at (after lines layers counters change) (block_of change))
+      → IsBefore (counter_at counters (block_of change)) (counter_at (after lines layers counters change)
+      (block_of change))
   block_rises counters change room =
-      subst (IsBefore (counter_at counters (block_of change))) (sym (after_at counters change)) (changed-before counters change room)
+      subst (IsBefore (counter_at counters (block_of change))) (sym (after_at counters change))
+      (changed-before counters change room)
 
   -- no counter falls
   pub rises : (counters : Counters) (change : Change) (b : ℕ) → HasRoom lines layers counters change
       → IsNotAfter (counter_at counters b) (counter_at (after lines layers counters change) b)
   rises counters change b room =
       elim (eqb_tells b (block_of change)) [
-        | inl same ↦ inr (subst (λ x. IsBefore (counter_at counters x) (counter_at (after lines layers counters change) x))
+        | inl same ↦ inr (subst (λ x. IsBefore (counter_at counters x)
+            (counter_at (after lines layers counters change) x))
             (sym same.1) (block_rises counters change room))
         | inr other ↦ inl (sym (after_other counters change b other.1))
       ]
@@ -231,8 +238,10 @@ module _ (lines layers : ℕ) where
       let h : (counter_at counters b).group ≤ bound = all b in
       elim (eqb_tells b (block_of change)) [
         | inl same ↦ subst (λ x. (counter_at (after lines layers counters change) x).group ≤ bound + 1) (sym same.1)
-            (subst (λ (c : Counter). c.group ≤ bound + 1) (sym (after_at counters change)) (changed-le counters change bound all))
-        | inr other ↦ subst (λ (c : Counter). c.group ≤ bound + 1) (sym (after_other counters change b other.1)) (omega arith)
+            (subst (λ (c : Counter). c.group ≤ bound + 1) (sym (after_at counters change))
+            (changed-le counters change bound all))
+        | inr other ↦ subst (λ (c : Counter). c.group ≤ bound + 1) (sym (after_other counters change b other.1))
+            (omega arith)
       ]
 
   pub groups_bounded : (counters : Counters) (changes : List Change) (bound : ℕ)
@@ -241,7 +250,8 @@ module _ (lines layers : ℕ) where
   unfolding after_all
   groups_bounded counters [] bound all b = let h : (counter_at counters b).group ≤ bound = all b in omega arith
   groups_bounded counters (change ∷ changes) bound all b =
-      let h = groups_bounded (after lines layers counters change) changes (bound + 1) (rise_one counters change bound all) b in
+      let h = groups_bounded (after lines layers counters change) changes (bound + 1)
+      (rise_one counters change bound all) b in
       omega arith
 
   has_room : (counters : Counters) (change : Change) (bound : ℕ) → ((a : ℕ) → (counter_at counters a).group ≤ bound)
@@ -252,7 +262,8 @@ module _ (lines layers : ℕ) where
       by true = let h : (counter_at counters a).group ≤ bound = all a in omega arith
       by false = tt
   has_room counters (MoveChild a) bound all low = let h : (counter_at counters a).group ≤ bound = all a in omega arith
-  has_room counters (RenumberChild a) bound all low = let h : (counter_at counters a).group ≤ bound = all a in omega arith
+  has_room counters (RenumberChild a) bound all low = let h : (counter_at counters a).group ≤ bound = all a in
+      omega arith
 
   -- changes that are few enough wrap nothing
   pub few_wrap_none : (counters : Counters) (changes : List Change) (bound : ℕ)
@@ -261,5 +272,6 @@ module _ (lines layers : ℕ) where
   few_wrap_none counters [] bound all low = tt
   few_wrap_none counters (change ∷ changes) bound all low = (
     has_room counters change bound all (omega arith),
-    few_wrap_none (after lines layers counters change) changes (bound + 1) (rise_one counters change bound all) (omega arith),
+    few_wrap_none (after lines layers counters change) changes (bound + 1) (rise_one counters change bound all)
+        (omega arith),
   )

@@ -1,4 +1,5 @@
--- What changes make of the counters of a family: those of its own blocks, a group move of all, and those of other families.
+-- What changes make of the counters of a family: those of its own blocks, a group move of all, and those of other
+-- families.
 use Rattle.std.proofs.Common.{◌≡◌, ◌≢◌, ℕ, zero, suc, ◌+◌, ◌-◌, ◌^◌, ◌<◌, ◌≤◌, inl, inr, arith}
 use Rattle.std.proofs.Common.{true, false, cond, refl, sym, ap, ◌∙◌, subst, is_none, Some}
 use Rattle.std.proofs.Common.{List, [], ◌∷◌, length, map, take, get_or, set, replicate, All}
@@ -44,7 +45,8 @@ one_group count first number group has child h =
     ap (λ (c : Counter). c.group) (has.children child h) ∙ sym (ap (λ (c : Counter). c.group) zeroth)
 
 -- numbers from a first one on
-pub all_from : (P : ℕ → Type 0) (first number : ℕ) → ((j : ℕ) → j < number → P (first + j)) → All P (addresses_from first number)
+pub all_from : (P : ℕ → Type 0) (first number : ℕ) → ((j : ℕ) → j < number → P (first + j))
+    → All P (addresses_from first number)
 unfolding addresses_from
 all_from P first zero each = λ k d h. absurd (omega arith)
 all_from P first (suc number) each =
@@ -59,7 +61,8 @@ length-addresses first zero = refl
 length-addresses first (suc number) = ap suc (length-addresses (first + 1) number)
 
 pub take_moves : (held : List ℕ) (first done number : ℕ) → done ≤ number
-    → take done (map (child_move held) (addresses_from first number)) ≡ map (child_move held) (addresses_from first done)
+    → take done (map (child_move held) (addresses_from first number))
+    ≡ map (child_move held) (addresses_from first done)
 unfolding addresses_from
 take_moves held first zero number h = refl
 take_moves held first (suc done) zero h = absurd (omega arith)
@@ -113,7 +116,8 @@ module _ (lines layers : ℕ) where
       → parent_of lines layers (block_of change) ≢ Some q → HasCounters (counter_at counters) first number group
       → HasCounters (counter_at (after lines layers counters change)) first number group
   counters_stay counters change q first number group inside children apart has = record {
-    children = λ child h. other_family counters change q first number inside children apart child h ∙ has.children child h;
+    children = λ child h. other_family counters change q first number inside children apart child h
+        ∙ has.children child h;
     others = has.others;
   }
 
@@ -126,7 +130,8 @@ module _ (lines layers : ℕ) where
   step_counters counters ic first number child group within few below room has =
       elim (leb_tells (2 ^ ic - 1) (get_or group.own child 0)) [
         | inl full ↦ absurd (omega arith)
-        | inr rest ↦ subst (HasCounters (counter_at (after lines layers counters (Access (first + child)))) first number)
+        | inr rest ↦ subst (HasCounters (counter_at (after lines layers counters (Access (first + child)))) first
+            number)
             (sym (ap (λ full. cond full group now) rest.0)) stepped
       ]
     where
@@ -137,16 +142,20 @@ module _ (lines layers : ℕ) where
           ≡ under group.group (get_or group.own child 0 + 1)
       here =
           after_at lines layers counters (Access (first + child))
-          ∙ ap (λ top. cond top (next_group (counter_at counters (first + child))) (next_own (counter_at counters (first + child)))) below
+          ∙ ap (λ top. cond top (next_group (counter_at counters (first + child)))
+          (next_own (counter_at counters (first + child)))) below
           ∙ ap next_own (has.children child within)
 
       stepped : HasCounters (counter_at (after lines layers counters (Access (first + child)))) first number now
       stepped = record {
         children = λ k h. elim (cases_eq k child) [
-          | inl same ↦ rw same (here ∙ ap (under group.group) (sym (get_or-set_same group.own child (get_or group.own child 0 + 1) 0 (omega arith))))
-          | inr other ↦ after_other lines layers counters (Access (first + child)) (first + k) (λ e. other (omega arith))
+          | inl same ↦ rw same (here ∙ ap (under group.group)
+              (sym (get_or-set_same group.own child (get_or group.own child 0 + 1) 0 (omega arith))))
+          | inr other ↦ after_other lines layers counters (Access (first + child)) (first + k)
+              (λ e. other (omega arith))
               ∙ has.children k h
               ∙ ap (under group.group) (sym (get_or-set_other group.own child k (get_or group.own child 0 + 1) 0 other))
         ];
-        others = λ k h. get_or-set_other group.own child k (get_or group.own child 0 + 1) 0 (λ e. absurd (omega arith)) ∙ has.others k h;
+        others = λ k h. get_or-set_other group.own child k (get_or group.own child 0 + 1) 0 (λ e. absurd (omega arith))
+            ∙ has.others k h;
       }

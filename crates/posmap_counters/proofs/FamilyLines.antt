@@ -37,10 +37,12 @@ own_for count first number child = (if nat_lt child number then (count (first + 
 
 own_for-member : (count : ℕ → Counter) (first number child : ℕ) → child < number
     → own_for count first number child ≡ (count (first + child)).own
-own_for-member count first number child within = let yes : nat_lt child number ≡ true = lt_true child number within in rw yes refl
+own_for-member count first number child within = let yes : nat_lt child number ≡ true = lt_true child number within in
+    rw yes refl
 
 own_for-other : (count : ℕ → Counter) (first number child : ℕ) → number ≤ child → own_for count first number child ≡ 0
-own_for-other count first number child past = let no : nat_lt child number ≡ false = lt_false child number past in rw no refl
+own_for-other count first number child past = let no : nat_lt child number ≡ false = lt_false child number past in
+    rw no refl
 
 pub length-own_counts : (count : ℕ → Counter) (first number : ℕ) → length (own_counts count first number) ≡ 32
 unfolding own_counts
@@ -60,14 +62,16 @@ own_counts-other count first number child past =
     elim (cases_lt child 32) [
       | inl within ↦ get_or-map-range_with_len (own_for count first number) 0 32 child child 0 within (omega arith)
           ∙ own_for-other count first number child past
-      | inr out ↦ get_or_past (own_counts count first number) child 0 (omega (arith, length-own_counts count first number))
+      | inr out ↦ get_or_past (own_counts count first number) child 0
+          (omega (arith, length-own_counts count first number))
     ]
 
 -- a family with one group counter has the counters of its group
 pub family_has : (count : ℕ → Counter) (first number : ℕ) → number ≤ 32 → HasOneGroup count first number
     → HasCounters count first number (family_group count (first, number))
 family_has count first number few one = record {
-  children = λ child within. same_counter (count (first + child)) (child_counter (family_group count (first, number)) child)
+  children = λ child within. same_counter (count (first + child))
+      (child_counter (family_group count (first, number)) child)
       (one child within) (sym (own_counts-member count first number child few within));
   others = λ child past. own_counts-other count first number child past;
 }
@@ -83,18 +87,21 @@ family_only count first number group some long has =
     group_is : group.group ≡ (count first).group
     group_is =
         let same : first + 0 ≡ first = omega arith in
-        sym (ap (λ (c : Counter). c.group) (subst (λ a. count a ≡ child_counter group 0) same (has.children 0 (omega arith))))
+        sym (ap (λ (c : Counter). c.group) (subst (λ a. count a ≡ child_counter group 0) same
+        (has.children 0 (omega arith))))
 
     each : (child : ℕ) → child < 32 → get_or group.own child 0 ≡ own_for count first number child
     each child within =
         elim (cases_lt child number) [
-          | inl member ↦ sym (ap (λ (c : Counter). c.own) (has.children child member)) ∙ sym (own_for-member count first number child member)
+          | inl member ↦ sym (ap (λ (c : Counter). c.own) (has.children child member))
+              ∙ sym (own_for-member count first number child member)
           | inr past ↦ has.others child past ∙ sym (own_for-other count first number child past)
         ]
 
 -- the group of a family whose counters are in range
 pub family_is : (count : ℕ → Counter) (first number : ℕ) → number ≤ 32 → (count first).group < 2 ^ 64
-    → ((child : ℕ) → child < number → (count (first + child)).own < 16384) → IsGroup (family_group count (first, number))
+    → ((child : ℕ) → child < number → (count (first + child)).own < 16384)
+    → IsGroup (family_group count (first, number))
 family_is count first number few fits own = record {
   fits = fits;
   children = length-own_counts count first number;
@@ -106,7 +113,8 @@ family_is count first number few fits own = record {
 
 pub read_line : (group : GroupState) → IsGroup group → group_in (line_in group) ≡ group
 read_line group is =
-    same_group (group_in (line_in group)) group (group-line group.group group.own is.fits) (own-line group.group group.own is.children is.own)
+    same_group (group_in (line_in group)) group (group-line group.group group.own is.fits)
+    (own-line group.group group.own is.children is.own)
 
 -- a family that was never accessed has a line of zeros
 pub family_blank : (count : ℕ → Counter) (first number : ℕ) → 1 ≤ number
@@ -115,7 +123,8 @@ pub family_blank : (count : ℕ → Counter) (first number : ℕ) → 1 ≤ numb
 unfolding line_of digits
 family_blank count first number some blank =
     let is = family_only count first number first_group some refl (record {
-      children = λ child within. blank child within ∙ sym (same_counter (child_counter first_group child) first_counter refl (zeros child));
+      children = λ child within. blank child within
+          ∙ sym (same_counter (child_counter first_group child) first_counter refl (zeros child));
       others = λ child past. zeros child;
     }) in
     ap line_in (sym is)

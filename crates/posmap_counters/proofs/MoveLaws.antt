@@ -52,14 +52,16 @@ module _ (lines layers : ℕ) where
   -- one more
   pub child_moves : (counters : Counters) (first number done : ℕ) (group : GroupState) (held : List ℕ) → done < number
       → IsMoving (counter_at counters) first number done group
-      → IsMoving (counter_at (after lines layers counters (child_move held (first + done)))) first number (done + 1) group
+      → IsMoving (counter_at (after lines layers counters (child_move held (first + done)))) first number
+      (done + 1) group
   child_moves counters first number done group held within moving = record {
     moved = λ child h. elim (cases_lt child done) [
       | inl before ↦ moves_other lines layers counters held (first + done) (first + child) (λ e. absurd (omega arith))
           ∙ moving.moved child before
       | inr rest ↦
           let same : child ≡ done = omega arith in
-          rw same (moves_at lines layers counters held (first + done) ∙ ap next_group (moving.left done (omega arith) within))
+          rw same (moves_at lines layers counters held (first + done)
+          ∙ ap next_group (moving.left done (omega arith) within))
     ];
     left = λ child from h.
         moves_other lines layers counters held (first + done) (first + child) (λ e. absurd (omega arith))
@@ -67,9 +69,11 @@ module _ (lines layers : ℕ) where
   }
 
   -- so many more
-  children_move : (counters : Counters) (first number done more : ℕ) (group : GroupState) (held : List ℕ) → done + more ≤ number
+  children_move : (counters : Counters) (first number done more : ℕ) (group : GroupState) (held : List ℕ)
+      → done + more ≤ number
       → IsMoving (counter_at counters) first number done group
-      → IsMoving (counter_at (after_all lines layers counters (map (child_move held) (addresses_from (first + done) more))))
+      → IsMoving (counter_at (after_all lines layers counters
+      (map (child_move held) (addresses_from (first + done) more))))
       first number (done + more) group
   unfolding after_all addresses_from
   children_move counters first number done zero group held within moving =
@@ -80,7 +84,8 @@ module _ (lines layers : ℕ) where
       let same : done + 1 + more ≡ done + suc more = omega arith in
       let place : first + (done + 1) ≡ first + done + 1 = omega arith in
       subst (λ n. IsMoving
-      (counter_at (after_all lines layers next (map (child_move held) (addresses_from (first + done + 1) more)))) first number n group)
+      (counter_at (after_all lines layers next (map (child_move held) (addresses_from (first + done + 1) more)))) first
+      number n group)
       same
       (subst (λ a. IsMoving (counter_at (after_all lines layers next (map (child_move held) (addresses_from a more))))
       first number (done + 1 + more) group) place
@@ -114,28 +119,36 @@ module _ (lines layers : ℕ) where
   pub prefix_moves : (counters : Counters) (a parent first number done : ℕ) (group : GroupState) (held : List ℕ)
       → parent_of lines layers a ≡ Some parent → children_of lines layers parent ≡ Some (first, number) → done ≤ number
       → HasCounters (counter_at counters) first number group
-      → IsMoving (counter_at (after_all lines layers counters (take done (group_move lines layers held a)))) first number done group
+      → IsMoving (counter_at (after_all lines layers counters (take done (group_move lines layers held a)))) first
+      number done group
   prefix_moves counters a parent first number done group held above children within has =
       let cut : take done (group_move lines layers held a) ≡ map (child_move held) (addresses_from first done) =
       ap (take done) (move_is held a parent first number above children) ∙ take_moves held first done number within in
       let from : first + 0 ≡ first = omega arith in
       let count : 0 + done ≡ done = omega arith in
-      subst (λ changes. IsMoving (counter_at (after_all lines layers counters changes)) first number done group) (sym cut)
-      (subst (λ x. IsMoving (counter_at (after_all lines layers counters (map (child_move held) (addresses_from x done)))) first number done group) from
-      (subst (λ n. IsMoving (counter_at (after_all lines layers counters (map (child_move held) (addresses_from (first + 0) done)))) first number n group) count
-      (children_move counters first number 0 done group held (omega arith) (move_begins (counter_at counters) first number group has))))
+      subst (λ changes. IsMoving (counter_at (after_all lines layers counters changes)) first number done group)
+      (sym cut)
+      (subst (λ x. IsMoving (counter_at (after_all lines layers counters
+      (map (child_move held) (addresses_from x done)))) first number done group) from
+      (subst (λ n. IsMoving (counter_at (after_all lines layers counters
+      (map (child_move held) (addresses_from (first + 0) done)))) first number n group) count
+      (children_move counters first number 0 done group held (omega arith)
+      (move_begins (counter_at counters) first number group has))))
 
   -- a whole one has those of the moved group
   pub move_counters : (counters : Counters) (a parent first number : ℕ) (group : GroupState) (held : List ℕ)
       → parent_of lines layers a ≡ Some parent → children_of lines layers parent ≡ Some (first, number)
       → HasCounters (counter_at counters) first number group
-      → HasCounters (counter_at (after_all lines layers counters (group_move lines layers held a))) first number (moved_group group)
+      → HasCounters (counter_at (after_all lines layers counters (group_move lines layers held a))) first number
+      (moved_group group)
   move_counters counters a parent first number group held above children has =
       let size = length-move held a parent first number above children in
       let all : take number (group_move lines layers held a) ≡ group_move lines layers held a =
       take_all number (group_move lines layers held a) (omega arith) in
-      subst (λ changes. HasCounters (counter_at (after_all lines layers counters changes)) first number (moved_group group)) all
-      (move_ends (counter_at (after_all lines layers counters (take number (group_move lines layers held a)))) first number group
+      subst (λ changes. HasCounters (counter_at (after_all lines layers counters changes)) first number
+      (moved_group group)) all
+      (move_ends (counter_at (after_all lines layers counters (take number (group_move lines layers held a)))) first
+      number group
       (prefix_moves counters a parent first number number group held above children (omega arith) has))
 
   -- the point of one child, and those of the children after it
@@ -156,17 +169,21 @@ module _ (lines layers : ℕ) where
           (map (child_move held) (addresses_from (first + done + 1) more))
 
       by : (is : Bool) → is_among held (first + done) ≡ is
-          → points lines layers counters (child_move held (first + done)) ++ rest ≡ shown_from first done (suc more) group held
+          → points lines layers counters (child_move held (first + done)) ++ rest
+          ≡ shown_from first done (suc more) group held
       by true is =
-          ap (λ b. points lines layers counters (cond b (RenumberChild (first + done)) (MoveChild (first + done))) ++ rest) is
+          ap (λ b. points lines layers counters (cond b (RenumberChild (first + done)) (MoveChild (first + done)))
+          ++ rest) is
           ∙ later ∙ sym (shown_more first done more group held true is)
       by false is =
-          ap (λ b. points lines layers counters (cond b (RenumberChild (first + done)) (MoveChild (first + done))) ++ rest) is
+          ap (λ b. points lines layers counters (cond b (RenumberChild (first + done)) (MoveChild (first + done)))
+          ++ rest) is
           ∙ ap (λ c. point_of (first + done) c ∷ rest) here
           ∙ ap (λ points. point_of (first + done) (child_counter group done) ∷ points) later
           ∙ sym (shown_more first done more group held false is)
 
-  points_from : (counters : Counters) (first number done more : ℕ) (group : GroupState) (held : List ℕ) → done + more ≤ number
+  points_from : (counters : Counters) (first number done more : ℕ) (group : GroupState) (held : List ℕ)
+      → done + more ≤ number
       → IsMoving (counter_at counters) first number done group
       → all_points lines layers counters (map (child_move held) (addresses_from (first + done) more))
       ≡ shown_from first done more group held
@@ -189,8 +206,10 @@ module _ (lines layers : ℕ) where
   points_of_move counters a parent first number group held above children has =
       let from : first + 0 ≡ first = omega arith in
       ap (all_points lines layers counters) (move_is held a parent first number above children)
-      ∙ subst (λ x. all_points lines layers counters (map (child_move held) (addresses_from x number)) ≡ move_points held first number group) from
-      (points_from counters first number 0 number group held (omega arith) (move_begins (counter_at counters) first number group has))
+      ∙ subst (λ x. all_points lines layers counters (map (child_move held) (addresses_from x number))
+      ≡ move_points held first number group) from
+      (points_from counters first number 0 number group held (omega arith)
+      (move_begins (counter_at counters) first number group has))
 
   -- the siblings of a block have its parent
   pub siblings_under : (a parent : ℕ) → a < layer_first lines layers → parent_of lines layers a ≡ Some parent
@@ -201,17 +220,21 @@ module _ (lines layers : ℕ) where
       let number : ℕ = up.1 in
       let children : children_of lines layers parent ≡ Some (first, number) = up.2 in
       let within : parent < layer_first lines layers = up.5 in
-      subst (λ xs. All (λ c. parent_of lines layers c ≡ Some parent) xs) (sym (siblings-parent a parent first number above children))
+      subst (λ xs. All (λ c. parent_of lines layers c ≡ Some parent) xs)
+      (sym (siblings-parent a parent first number above children))
       (all_from (λ c. parent_of lines layers c ≡ Some parent) first number
       (λ j h. (parent_of_child lines layers parent first number j within children h).0))
 
   -- changes of a group move are of children of its parent
-  pub move_under : (held : List ℕ) (a parent : ℕ) → a < layer_first lines layers → parent_of lines layers a ≡ Some parent
+  pub move_under : (held : List ℕ) (a parent : ℕ) → a < layer_first lines layers
+      → parent_of lines layers a ≡ Some parent
       → All (λ change. parent_of lines layers (block_of change) ≡ Some parent) (group_move lines layers held a)
   unfolding group_move
   move_under held a parent inside above =
-      All-map (λ change. parent_of lines layers (block_of change) ≡ Some parent) (child_move held) (siblings lines layers a)
-      (All-to (λ c. parent_of lines layers c ≡ Some parent) (λ c. parent_of lines layers (block_of (child_move held c)) ≡ Some parent)
+      All-map (λ change. parent_of lines layers (block_of change) ≡ Some parent) (child_move held)
+      (siblings lines layers a)
+      (All-to (λ c. parent_of lines layers c ≡ Some parent) (λ c. parent_of lines layers (block_of (child_move held c))
+      ≡ Some parent)
       (siblings lines layers a) (siblings_under a parent inside above)
       (λ c is. ap (parent_of lines layers) (block_of-child held c) ∙ is))
 
@@ -227,7 +250,8 @@ module _ (lines layers : ℕ) where
 
   pub move_leaves : (counters : Counters) (held : List ℕ) (a parent q first number : ℕ) (group : GroupState)
       → a < layer_first lines layers → parent_of lines layers a ≡ Some parent → q < layer_first lines layers
-      → children_of lines layers q ≡ Some (first, number) → q ≢ parent → HasCounters (counter_at counters) first number group
+      → children_of lines layers q ≡ Some (first, number) → q ≢ parent
+      → HasCounters (counter_at counters) first number group
       → HasCounters (counter_at (after_all lines layers counters (group_move lines layers held a))) first number group
   move_leaves counters held a parent q first number group inside above inside_q children apart has = record {
     children = λ child h.

@@ -6,7 +6,8 @@ use Rattle.std.proofs.lemmas.List.{get_or-set_same, get_or-set_other}
 use Rattle.asc_base.specs.TreeShape.{layer_first, layer_count, layer_of, parent_of}
 use Rattle.asc_base.specs.declared.block.Counter.{Counter}
 use Rattle.asc_base.proofs.Layers.{layer_of_in, layer_of-lt, layer_first-next, parent_of-below}
-use Rattle.posmap_counters.specs.Counters.{Counters, counter_at, next_group, next_own, Change, Access, block_of, after, asked_changes}
+use Rattle.posmap_counters.specs.Counters.{Counters, counter_at, next_group, next_own, Change, Access, block_of, after}
+use Rattle.posmap_counters.specs.Counters.{asked_changes}
 use Rattle.posmap_counters.specs.Families.{HasRoots}
 use Rattle.posmap_counters.proofs.ChangeLaws.{after_at, after_other}
 use Rattle.posmap_counters.proofs.FamilyLaws.{zeros_at}
@@ -29,7 +30,8 @@ module _ (lines layers : ℕ) where
       let top : layer_of lines layers a + 1 ≡ layers =
       elim (cases_eq (layer_of lines layers a + 1) layers) [
         | inl same ↦ same
-        | inr under ↦ absurd (some_none (sym (parent_of-below lines layers a (layer_of lines layers a) refl under) ∙ none))
+        | inr under ↦ absurd (some_none (sym (parent_of-below lines layers a (layer_of lines layers a) refl under)
+            ∙ none))
       ] in
       let last : layer_of lines layers a ≡ layers - 1 = omega arith in
       let next = layer_first-next lines (layers - 1) in
@@ -43,9 +45,11 @@ module _ (lines layers : ℕ) where
 
   -- an access to a block of the top layer raises its counter
   pub step_roots : (counters : Counters) (a : ℕ) (roots : List ℕ) → length roots ≡ layer_count lines (layers - 1)
-      → a < layer_first lines layers → parent_of lines layers a ≡ None → HasRoots lines layers (counter_at counters) roots
+      → a < layer_first lines layers → parent_of lines layers a ≡ None
+      → HasRoots lines layers (counter_at counters) roots
       → HasRoots lines layers (counter_at (after lines layers counters (Access a)))
-      (set roots (a - layer_first lines (layers - 1)) ((get_or roots (a - layer_first lines (layers - 1)) 0 + 1) % 2 ^ 64))
+      (set roots (a - layer_first lines (layers - 1)) ((get_or roots (a - layer_first lines (layers - 1)) 0 + 1) % 2 ^
+      64))
   step_roots counters a roots long inside none has b inside_b none_b =
       let place = a - layer_first lines (layers - 1) in
       let next = (get_or roots place 0 + 1) % 2 ^ 64 in
@@ -60,14 +64,18 @@ module _ (lines layers : ℕ) where
             ∙ ap root (sym (get_or-set_same roots place next 0 (omega arith))))
         | inr other ↦ after_other lines layers counters (Access a) b other
             ∙ has b inside_b none_b
-            ∙ ap root (sym (get_or-set_other roots place (b - layer_first lines (layers - 1)) next 0 (λ e. other (omega arith))))
+            ∙ ap root (sym (get_or-set_other roots place (b - layer_first lines (layers - 1)) next 0
+            (λ e. other (omega arith))))
       ]
 
   -- a change below it leaves them
-  pub roots_stay : (counters : Counters) (change : Change) (roots : List ℕ) → parent_of lines layers (block_of change) ≢ None
-      → HasRoots lines layers (counter_at counters) roots → HasRoots lines layers (counter_at (after lines layers counters change)) roots
+  pub roots_stay : (counters : Counters) (change : Change) (roots : List ℕ)
+      → parent_of lines layers (block_of change) ≢ None
+      → HasRoots lines layers (counter_at counters) roots
+      → HasRoots lines layers (counter_at (after lines layers counters change)) roots
   roots_stay counters change roots below has b inside none =
-      after_other lines layers counters change b (λ e. below (ap (parent_of lines layers) (sym e) ∙ none)) ∙ has b inside none
+      after_other lines layers counters change b (λ e. below (ap (parent_of lines layers) (sym e) ∙ none))
+      ∙ has b inside none
 
   -- and no group move comes before an access there
   pub asked-root : (ic : ℕ) (counters : Counters) (held roots : List ℕ) (a : ℕ) → 1 ≤ ic → a < layer_first lines layers

@@ -52,8 +52,8 @@ addresses_from first (suc number) = first ∷ addresses_from (first + 1) number
 abbrev pub is_among : List ℕ → ℕ → Bool
 is_among addresses address = list_any (λ a. nat_eq a address) addresses
 
--- What changes the counter of one block: an access that is asked for; and in a group move an access to a child, or a child
--- that is held is renumbered, without an access.
+-- What changes the counter of one block: an access that is asked for; and in a group move an access to a child, or a
+-- child that is held is renumbered, without an access.
 pub data Change : Type 0 where
   Access : ℕ → Change
   MoveChild : ℕ → Change

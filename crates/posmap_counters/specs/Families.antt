@@ -1,6 +1,7 @@
 -- The counters of the children of one block, its family: `number` blocks from address `first` on. The counters of all
 -- blocks are given here by a function of their addresses.
-use Rattle.std.specs.Prelude.{◌≡◌, ℕ, ◌+◌, ◌-◌, ◌<◌, ◌≤◌, nat_lt, List, map, filter, slice_index, not, None, if◌then◌else◌}
+use Rattle.std.specs.Prelude.{◌≡◌, ℕ, ◌+◌, ◌-◌, ◌<◌, ◌≤◌, nat_lt, List, map, filter, slice_index, not, None}
+use Rattle.std.specs.Prelude.{if◌then◌else◌}
 use Rattle.std.specs.List.{range_with_len}
 use Rattle.asc_base.specs.TreeShape.{layer_first, parent_of}
 use Rattle.asc_base.specs.declared.block.Counter.{Counter}
@@ -19,8 +20,8 @@ pub record IsMoving (count : ℕ → Counter) (first number done : ℕ) (group :
   pub moved : (child : ℕ) → child < done → count (first + child) ≡ next_group (child_counter group child)
   pub left : (child : ℕ) → done ≤ child → child < number → count (first + child) ≡ child_counter group child
 
--- The points of a group move of a family while these blocks are held: each child under its counter of the group, in rising
--- order, but for those that are held.
+-- The points of a group move of a family while these blocks are held: each child under its counter of the group, in
+-- rising order, but for those that are held.
 abbrev pub move_points : List ℕ → ℕ → ℕ → GroupState → List Point
 move_points held first number group =
     map (λ child. point_of (first + child) (child_counter group child))

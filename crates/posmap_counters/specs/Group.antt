@@ -1,6 +1,6 @@
--- The counters of the children of one block, and the line of a position-map block: the group counter in 8 bytes, then 32
--- own counts of 14 bits in 56 bytes. All bytes and bits come highest first, and child 0 comes first, so the 56 bytes and
--- the 32 counts are digits of one number: in base 2 ^ 8 and in base 2 ^ 14.
+-- The counters of the children of one block, and the line of a position-map block: the group counter in 8 bytes, then
+-- 32 own counts of 14 bits in 56 bytes. All bytes and bits come highest first, and child 0 comes first, so the 56 bytes
+-- and the 32 counts are digits of one number: in base 2 ^ 8 and in base 2 ^ 14.
 use Rattle.std.specs.Prelude.{◌≡◌, ℕ, ◌+◌, ◌-◌, ◌%◌, ◌^◌, ◌<◌, nat_le, if◌then◌else◌}
 use Rattle.std.specs.Prelude.{List, ◌++◌, take, drop, length, replicate, slice_index, slice_set}
 use Rattle.std.specs.Int.Digits.{number_from_digits}

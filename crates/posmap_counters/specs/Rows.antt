@@ -1,5 +1,5 @@
--- Counters on which the definitions are computed: two siblings of 64 lines in three layers, one of them at the greatest own
--- count of two bits; and a group.
+-- Counters on which the definitions are computed: two siblings of 64 lines in three layers, one of them at the greatest
+-- own count of two bits; and a group.
 use Rattle.std.specs.Prelude.{[], ◌∷◌, replicate}
 use Rattle.posmap_counters.specs.Counters.{Counters}
 use Rattle.posmap_counters.specs.Group.{GroupState}

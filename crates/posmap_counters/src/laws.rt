@@ -1,5 +1,5 @@
-//! Laws of counters, of what changes them, and of the lines that hold them. The functions do nothing: each states laws in
-//! its contract.
+//! Laws of counters, of what changes them, and of the lines that hold them. The functions do nothing: each states laws
+//! in its contract.
 
 ghost use Rattle.std.specs.Prelude.{◌≡◌, ◌≢◌, ℕ, ◌+◌, ◌^◌, ◌<◌, ◌≤◌, ◌==◌, ◌⊎◌, All, AllPairs, if◌then◌else◌};
 ghost use Rattle.std.specs.Prelude.{◌-◌, ◌%◌, List, [], ◌∷◌, ◌++◌, length, map, take, replicate};
@@ -9,11 +9,14 @@ ghost use Rattle.asc_base.specs.declared.block.Counter.{Counter};
 ghost use Rattle.asc_base.specs.Bytes.{AreBytes};
 ghost use Rattle.posmap_counters.specs.Group.{IsGroup, line_of, line_in, group_in};
 ghost use Rattle.posmap_counters.specs.Counters.{Counters, counter_at, first_counter, IsBefore, IsNotAfter};
-ghost use Rattle.posmap_counters.specs.Counters.{point_of, Change, block_of, changed_counter, after, after_all, points, all_points};
-ghost use Rattle.posmap_counters.specs.Counters.{Access, MoveChild, RenumberChild, child_move, siblings, group_move, asked_changes};
+ghost use Rattle.posmap_counters.specs.Counters.{point_of, Change, block_of, changed_counter, after, after_all, points};
+ghost use Rattle.posmap_counters.specs.Counters.{all_points};
+ghost use Rattle.posmap_counters.specs.Counters.{Access, MoveChild, RenumberChild, child_move, siblings, group_move};
+ghost use Rattle.posmap_counters.specs.Counters.{asked_changes};
 ghost use Rattle.posmap_counters.specs.Counters.{HasRoom, NoneWraps};
 ghost use Rattle.posmap_counters.specs.Bounds.{AreCounters};
-ghost use Rattle.posmap_counters.specs.Families.{HasCounters, IsMoving, HasOneGroup, move_points, family_group, family_line, HasRoots};
+ghost use Rattle.posmap_counters.specs.Families.{HasCounters, IsMoving, HasOneGroup, move_points, family_group};
+ghost use Rattle.posmap_counters.specs.Families.{family_line, HasRoots};
 ghost use Rattle.posmap_counters.specs.Group.{GroupState, first_group, stepped_group, moved_group, asked_group};
 ghost use Rattle.posmap_counters.specs.Rows.{two_siblings, their_group};
 ghost use Rattle.asc_base.specs.TreeShape.{layer_first, layer_count, parent_of, children_of};
@@ -35,8 +38,8 @@ pub fn groups_are_groups()
 {}
 
 /// The line of a position-map block by its children's counters. Where they share their group counter, they are those of
-/// the family's group, which is read back from the line where they are in range; no other group has them; and the line of
-/// a family that was never accessed is zeros.
+/// the family's group, which is read back from the line where they are in range; no other group has them; and the line
+/// of a family that was never accessed is zeros.
 pub fn families_have_lines()
     ensures family { (count : ℕ → Counter) (first number : ℕ) → number ≤ 32 → HasOneGroup count first number
         → HasCounters count first number (family_group count (first, number)) }
@@ -79,7 +82,8 @@ pub fn changes_are_of_one_block()
         → counter_at (after_all lines layers counters changes) address ≡ counter_at counters address }
 {}
 
-/// Counters rise: changes that wrap no group counter lower no block's counter, and each gives its own block a later one.
+/// Counters rise: changes that wrap no group counter lower no block's counter, and each gives its own block a later
+/// one.
 pub fn counters_rise()
     ensures block { (lines layers : ℕ) (counters : Counters) (change : Change) → HasRoom lines layers counters change
         → IsBefore (counter_at counters (block_of change))
@@ -109,8 +113,8 @@ pub fn changes_join()
         → NoneWraps lines layers (after_all lines layers counters xs) ys → NoneWraps lines layers counters (xs ++ ys) }
 {}
 
-/// A change raises no group counter by more than one. So none wraps in changes that are few enough: from the start on, in
-/// fewer than 2 ^ 64.
+/// A change raises no group counter by more than one. So none wraps in changes that are few enough: from the start on,
+/// in fewer than 2 ^ 64.
 pub fn few_changes_wrap_none()
     ensures bound { (lines layers : ℕ) (counters : Counters) (changes : List Change) (bound : ℕ)
         → ((address : ℕ) → (counter_at counters address).group ≤ bound) → (address : ℕ)
@@ -147,7 +151,8 @@ pub fn families_keep_counters()
 pub fn families_move()
     ensures begins { (count : ℕ → Counter) (first number : ℕ) (group : GroupState)
         → HasCounters count first number group → IsMoving count first number 0 group }
-    ensures child { (lines layers : ℕ) (counters : Counters) (first number done : ℕ) (group : GroupState) (held : List ℕ)
+    ensures child { (lines layers : ℕ) (counters : Counters) (first number done : ℕ) (group : GroupState)
+        (held : List ℕ)
         → done < number → IsMoving (counter_at counters) first number done group
         → IsMoving (counter_at (after lines layers counters (child_move held (first + done)))) first number (done + 1)
         group }
@@ -195,9 +200,9 @@ pub fn moves_are_of_one_family()
         group }
 {}
 
-/// What an access to a child changes, where a group has the counters of its family. Where the child's own count is at least
-/// `2^ic - 1`, which is where a step answers `MustMove`, all children move first and then the child is accessed; else the
-/// child alone is accessed. The family then has the counters that `Group::asked` makes.
+/// What an access to a child changes, where a group has the counters of its family. Where the child's own count is at
+/// least `2^ic - 1`, which is where a step answers `MustMove`, all children move first and then the child is accessed;
+/// else the child alone is accessed. The family then has the counters that `Group::asked` makes.
 pub fn asked_changes_are_steps()
     ensures must_move { (lines layers ic first number child : ℕ) (group : GroupState) (counters : Counters)
         (held : List ℕ) → child < number → HasCounters (counter_at counters) first number group
@@ -216,8 +221,8 @@ pub fn asked_changes_are_steps()
         (asked_changes lines layers ic held counters (first + child)))) first number (asked_group ic group child) }
 {}
 
-/// The counters of the top layer, which are on chip: each is a group counter alone, 0 at the start. An access to a block of
-/// that layer raises its own by one, and no group move comes before it; all other changes leave them.
+/// The counters of the top layer, which are on chip: each is a group counter alone, 0 at the start. An access to a
+/// block of that layer raises its own by one, and no group move comes before it; all other changes leave them.
 pub fn roots_keep_counters()
     ensures place { (lines layers address : ℕ) → address < layer_first lines layers
         → parent_of lines layers address ≡ None → (layer_first lines (layers - 1) ≤ address)
@@ -238,10 +243,10 @@ pub fn roots_keep_counters()
         → asked_changes lines layers ic held counters address ≡ Access address ∷ [] }
 {}
 
-/// Counters stay bounded: the two numbers of a counter are together at most the number of accesses, own counts have their
-/// bits, those of the top layer are 0, and the children of one block share their group counter, unless they are moving.
-/// This holds at the start and after each change, so that no group counter wraps in fewer than 2 ^ 64 accesses, although
-/// a child that is renumbered isn't accessed: an own count has to reach its greatest before.
+/// Counters stay bounded: the two numbers of a counter are together at most the number of accesses, own counts have
+/// their bits, those of the top layer are 0, and the children of one block share their group counter, unless they are
+/// moving. This holds at the start and after each change, so that no group counter wraps in fewer than 2 ^ 64 accesses,
+/// although a child that is renumbered isn't accessed: an own count has to reach its greatest before.
 pub fn counters_are_bounded()
     ensures start { (lines layers ic : ℕ) → AreCounters lines layers ic (counter_at []) None 0 }
     ensures access { (lines layers ic : ℕ) (counters : Counters) (address accesses : ℕ)
@@ -275,8 +280,8 @@ pub fn counters_are_bounded()
 {}
 
 /// The definitions on rows, and laws at instances: the line of a group counter of 1 and an own count of 5; two siblings
-/// in 64 lines under three layers, of which the first is at the greatest own count of two bits, and the second held; and
-/// a change without room, where the group counter would wrap.
+/// in 64 lines under three layers, of which the first is at the greatest own count of two bits, and the second held;
+/// and a change without room, where the group counter would wrap.
 pub fn laws_have_instances()
     ensures line { line_in (record { group = 1; own = 5 ∷ replicate 31 0 })
         ≡ replicate 7 0 ++ 1 ∷ 0 ∷ 20 ∷ replicate 54 0 }

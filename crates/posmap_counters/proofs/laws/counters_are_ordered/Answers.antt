@@ -1,5 +1,6 @@
 use Rattle.std.proofs.Common.{inr}
-use Rattle.posmap_counters.proofs.Order.{before_trans, not_after_trans, not_after_before, before_irreflexive, before_total, first_not_after}
+use Rattle.posmap_counters.proofs.Order.{before_trans, not_after_trans, not_after_before, before_irreflexive}
+use Rattle.posmap_counters.proofs.Order.{before_total, first_not_after}
 use Rattle.posmap_counters.proofs.laws.counters_are_ordered.Goals as goal
 
 pub returns-clause-irreflexive : goal.returns-clause-irreflexive

@@ -11,4 +11,5 @@ returns-clause-room c = few_wrap_none
 
 pub returns-clause-start : goal.returns-clause-start
 unfolding counter_at
-returns-clause-start c lines layers changes few = few_wrap_none lines layers [] changes 0 (λ a. omega arith) (omega arith)
+returns-clause-start c lines layers changes few =
+    few_wrap_none lines layers [] changes 0 (λ a. omega arith) (omega arith)
