@@ -6,7 +6,6 @@ mod laws;
 mod lookaside;
 
 pub use held::Held;
-pub use laws::addresses_follow;
 pub use lookaside::Lookaside;
 
 #[cfg(test)]
