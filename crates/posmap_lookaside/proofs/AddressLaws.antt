@@ -4,6 +4,8 @@ use Rattle.std.proofs.Common.{List, [], ◌∷◌, ◌++◌, length, take, map, 
 use Rattle.std.proofs.Common.{is_some, refl, sym, ap, ◌∙◌, inl, inr, arith}
 use Rattle.std.specs.List.{list_any, find, count_by}
 use Rattle.std.specs.Option.{option_map_or}
+use Rattle.std.proofs.Common.{AllPairs, get_or}
+use Rattle.std.proofs.lemmas.List.Kept.{AllPairs-cons}
 use Rattle.std.proofs.lemmas.Bool.{cases_Bool}
 use Rattle.std.proofs.lemmas.Bool.Decides.{eqb_tells}
 use Rattle.asc_base.specs.Lookup.{without_first, changed_first, promoted_first}
@@ -161,3 +163,31 @@ put_counts p n list address fits = at n (address ∷ list) (omega arith)
     at (suc n) [] fits = refl
     at (suc n) (x ∷ xs) fits =
         omega (arith, at n xs (omega arith), count_by-cons p x (take n xs), count_by-cons p x xs)
+
+-- each address once means that no two are one
+distinct_first : (list : List ℕ) (address k d : ℕ) → count_by (λ b. nat_eq b address) list ≡ 0 → k < length list
+    → address ≢ get_or list k d
+distinct_first [] address k d none within same = absurd (omega arith)
+distinct_first (x ∷ list) address zero d none within same =
+    let parts = count_by-cons (λ b. nat_eq b address) x list in
+    elim (eqb_tells x address) [
+      | inl here ↦ absurd (omega (arith, none, parts, ap {B = ℕ} (λ b. if b then 1 else 0) here.0))
+      | inr other ↦ absurd (other.1 (sym same))
+    ]
+distinct_first (x ∷ list) address (suc k) d none within same =
+    let parts = count_by-cons (λ b. nat_eq b address) x list in
+    distinct_first list address k d (omega arith) (omega arith) same
+
+pub distinct_apart : (list : List ℕ) → AreDistinct list → AllPairs (λ earlier later. earlier ≢ later) list
+distinct_apart [] distinct = λ i j d low high. absurd (omega arith)
+distinct_apart (x ∷ list) distinct =
+    AllPairs-cons (λ earlier later. earlier ≢ later) x list
+    (λ k d within. distinct_first list x k d none within)
+    (distinct_apart list (λ a. omega (arith, distinct a, count_by-cons (λ b. nat_eq b a) x list)))
+  where
+    none : count_by (λ b. nat_eq b x) list ≡ 0
+    none = elim (eqb_tells x x) [
+      | inl here ↦ omega (arith, distinct x, count_by-cons (λ b. nat_eq b x) x list,
+          ap {B = ℕ} (λ b. if b then 1 else 0) here.0)
+      | inr other ↦ absurd (other.1 refl)
+    ]
