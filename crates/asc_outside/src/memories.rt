@@ -1,3 +1,5 @@
+//! The memories of runs and tests.
+
 ghost use Rattle.std.specs.Prelude.{◌≡◌, ℕ, ◌≤◌, ◌<◌, ◌^◌, true, false, [], length, map, slice_get, option_map};
 ghost use Rattle.std.specs.Prelude.{None, Some, IfOk, IfErr, IfSome, OnOk, OnErr, IsOk, IsOkUnless, IsErrOf};
 
