@@ -80,7 +80,8 @@ module _ {m m' : MemoryState} {t t' : TapState} (x : Exchange) (asked : IsAsked 
   -- Memory ran out, before the mirror was changed.
   pub move_out : t'.mirror ≡ t.mirror → Made RanOut (move_of x ∷ []) [] m m' t t'
   move_out mirror =
-      made_by RanOut (λ e. cc) (λ start buckets tied. inr (tied_cut start buckets t t' x asked moves tied mirror altered))
+      made_by RanOut (λ e. cc)
+      (λ start buckets tied. inr (tied_cut start buckets t t' x asked moves tied mirror altered))
       (honest_out m m' t t' altered)
 
 -- An Ok write.
@@ -95,6 +96,15 @@ written at number text {m} {m'} {t} {t'} asked noted mirror told =
     (λ start buckets tied. tied_next start buckets t t' x asked (ap (λ (l : LogLists). l.moves) noted.log) tied mirror
     (ap (map reply_of) same ∙ sym (append-nil _)))
     (honest_write m m' t t' number text told mirror same)
+
+-- the log after a read's move and its reply
+pub reply_noted : (t mid : TapState) (log : LogLists) (at number : ℕ) (text : List ℕ)
+    → mid.log ≡ with_move t.log (read_move at number) → mid.mirror ≡ t.mirror
+    → log ≡ with_reply mid.log mid.mirror at number text
+    → log ≡ with_reply (with_move t.log (read_move at number)) t.mirror at number text
+reply_noted t mid log at number text moved mirror replied =
+    replied ∙ ap (λ l. with_reply l mid.mirror at number text) moved
+    ∙ ap (λ b. with_reply (with_move t.log (read_move at number)) b at number text) mirror
 
 -- An Ok read, and its reply.
 pub replied : (at number : ℕ) (text : List ℕ) {m m' : MemoryState} {t t' : TapState}

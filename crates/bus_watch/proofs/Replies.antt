@@ -63,7 +63,8 @@ module _ (log : LogLists) (mirror : List (List ℕ)) (at number : ℕ) (text : L
 
   pub reply_same : slice_get mirror number ≡ Some text → with_reply log mirror at number text ≡ log
   reply_same is =
-      let same : is_bucket mirror number text ≡ true = ap (λ o. is_text o text) is ∙ (bytes_eq-Decides text text).1 refl in
+      let same : is_bucket mirror number text ≡ true =
+      ap (λ o. is_text o text) is ∙ (bytes_eq-Decides text text).1 refl in
       ap (λ b. if b then log else with_altered log (altered_reply log at number text)) same
 
   -- a memory that tells the mirror's buckets gives this one

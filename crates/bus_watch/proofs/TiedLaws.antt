@@ -57,7 +57,8 @@ pub record IsAsked (x : Exchange) (m m' : MemoryState) : Type 0 where
   pub said : Gains m.said (said_of x) m'.said
 
 module _ (start : MemoryState) (buckets : List (List ℕ)) {m m' : MemoryState} (t t' : TapState) (x : Exchange)
-    (asked : IsAsked x m m') (moves : t'.log.moves ≡ t.log.moves ++ move_of x ∷ []) (tied : Tied start buckets m t) where
+    (asked : IsAsked x m m') (moves : t'.log.moves ≡ t.log.moves ++ move_of x ∷ [])
+    (tied : Tied start buckets m t) where
   tells_next : Tells start m' (tied.exchanges ++ x ∷ [])
   tells_next = record {
     seen = λ all is.

@@ -1,6 +1,5 @@
 use Rattle.std.proofs.Common.{None, Some, length, refl, ◌∙◌, ap, arith}
-use Rattle.bus_watch.specs.Log.{read_move, with_move, with_reply}
-use Rattle.bus_watch.proofs.CallLaws.{read_of, move_failed, move_out, replied}
+use Rattle.bus_watch.proofs.CallLaws.{read_of, move_failed, move_out, reply_noted, replied}
 use Rattle.bus_watch.proofs.bus.Bus.read.Goals as goal
 
 pub returns-in-Err-clause-ran : goal.returns-in-Err-clause-ran
@@ -43,11 +42,8 @@ returns-in-Ok-replied-clause-ran g c = record {
         event_room = c.replied.ensures.events ∙ c.moved.ensures.events;
         mirrored = ap length (c.replied.ensures.mirror ∙ c.moved.ensures.mirror);
       })
-      (c.in-Ok-replied.ensures.log
-      ∙ ap (λ l. with_reply l (g.W.Watch.state c.moved.new.self).mirror c.args.time c.args.bucket c.read.new.into)
-      c.moved.ensures.log
-      ∙ ap (λ b. with_reply (with_move (g.W.Watch.state c.args.self.now.tap.now).log (read_move c.args.time c.args.bucket))
-      b c.args.time c.args.bucket c.read.new.into) c.moved.ensures.mirror)
+      (reply_noted (g.W.Watch.state c.args.self.now.tap.now) (g.W.Watch.state c.moved.new.self) _
+      c.args.time c.args.bucket c.read.new.into c.moved.ensures.log c.moved.ensures.mirror c.in-Ok-replied.ensures.log)
       (c.replied.ensures.mirror ∙ c.moved.ensures.mirror) c.in-Ok.ensures.told c.in-Ok.ensures.bytes;
 }
 
