@@ -57,8 +57,8 @@ placed shape address layer h within same =
           let end = layer_first-le shape.lines layer shape.layers (omega arith) in
           let counts : layer_count shape.lines layer ≡ (layer_count shape.lines (layer - 1) + 31) / 32 =
           sym (ap (layer_count shape.lines) back) ∙ counted in
-          let rises : layer_first shape.lines layer ≡ layer_first shape.lines (layer - 1) + layer_count shape.lines
-          (layer - 1) =
+          let rises : layer_first shape.lines layer
+          ≡ layer_first shape.lines (layer - 1) + layer_count shape.lines (layer - 1) =
           sym (ap (layer_first shape.lines) back) ∙ rise in (
             facts.firsts (layer - 1) under,
             facts.counts (layer - 1) under,

@@ -86,8 +86,8 @@ count_at-fill level (suc room) (depth ∷ depths) (None ∷ places) =
     elim (leb_tells level depth) [
       | inl h ↦ elim (eqb_tells level level) [
         | inl same ↦
-            let after : count_at level (fill level (suc room) (depth ∷ depths) (None ∷ places)) ≡ 1 + count_at level
-            (fill level room depths places) =
+            let after : count_at level (fill level (suc room) (depth ∷ depths) (None ∷ places))
+            ≡ 1 + count_at level (fill level room depths places) =
             ap (count_at level) (fill-yes level room depth depths places h.0)
             ∙ count_by-yes (stands_at level) (Some level) (fill level room depths places) same.0 in
             let more : count_at level (fill level room depths places) ≤ count_at level places + room =
@@ -96,8 +96,8 @@ count_at-fill level (suc room) (depth ∷ depths) (None ∷ places) =
         | inr differs ↦ absurd (differs.1 refl)
       ]
       | inr h ↦
-          let after : count_at level (fill level (suc room) (depth ∷ depths) (None ∷ places)) ≡ 0 + count_at level
-          (fill level (suc room) depths places) =
+          let after : count_at level (fill level (suc room) (depth ∷ depths) (None ∷ places))
+          ≡ 0 + count_at level (fill level (suc room) depths places) =
           ap (count_at level) (fill-no level room depth depths places h.0)
           ∙ count_by-no (stands_at level) None (fill level (suc room) depths places) refl in
           let more : count_at level (fill level (suc room) depths places) ≤ count_at level places + suc room =

@@ -16,8 +16,8 @@ fill-full level (depth ∷ depths) [] = refl
 fill-full level (depth ∷ depths) (None ∷ places) = refl
 fill-full level (depth ∷ depths) (Some place ∷ places) = ap (λ ps. Some place ∷ ps) (fill-full level depths places)
 
-fill-skip : (level room depth : ℕ) (place : Option ℕ) (depths : List ℕ) (places : List (Option ℕ)) → (0 < room
-    → is_some place ≡ false → level ≤ depth → ⊥)
+fill-skip : (level room depth : ℕ) (place : Option ℕ) (depths : List ℕ) (places : List (Option ℕ))
+    → (0 < room → is_some place ≡ false → level ≤ depth → ⊥)
     → fill level room (depth ∷ depths) (place ∷ places) ≡ place ∷ fill level room depths places
 unfolding fill
 fill-skip level room depth (Some place) depths places barred = refl

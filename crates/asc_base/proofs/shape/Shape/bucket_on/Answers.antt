@@ -15,8 +15,8 @@ computed : (levels leaf level buckets : ℕ) → levels ≤ 17 → buckets + 1 �
 unfolding bucket_of buckets_of
 computed levels leaf level buckets few counted within below =
     let whole : (1 * 2 ^ level) % 4294967296 ≡ 2 ^ level = one_shl level 32 (omega arith) in
-    let same : (1 * 2 ^ level) % 4294967296 - 1 + leaf / 2 ^ (levels - level) ≡ (2 ^ level - 1) + leaf / 2 ^
-    (levels - level) =
+    let same : (1 * 2 ^ level) % 4294967296 - 1 + leaf / 2 ^ (levels - level)
+    ≡ (2 ^ level - 1) + leaf / 2 ^ (levels - level) =
     ap (λ n. n - 1 + leaf / 2 ^ (levels - level)) whole in
     let inside : (2 ^ level - 1) + leaf / 2 ^ (levels - level) < 2 ^ (levels + 1) - 1 =
     bucket_of-lt levels leaf level within below in
