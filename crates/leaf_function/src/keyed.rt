@@ -54,6 +54,8 @@ impl LeafFn for KeyedLeaf {
         let code = code_of(&self.key, point);
         Leaf(leaf_number(&code, self.levels))
     }
+
+    fn gives_leaves(&self) {}
 }
 
 // The code of a point's text.
