@@ -1,22 +1,25 @@
 -- What opened and sealed buckets hold.
 use Rattle.std.proofs.Common.{◌≡◌, ◌≢◌, ◌↔◌, ℕ, zero, suc, ◌^◌, ◌<◌, ◌≤◌, ◌==◌, true, false, List, [], ◌∷◌, ◌++◌}
-use Rattle.std.proofs.Common.{length, get_or, replicate, take, drop, All, Contains, Option, Some, None, Result, Ok, Err, IfOk, inl, inr}
+use Rattle.std.proofs.Common.{length, get_or, replicate, take, drop, All, Option, Some, None, Result, Ok, Err, IfOk, inl, inr}
 use Rattle.std.proofs.Common.{refl, sym, ap, ◌∙◌, subst, length-drop, arith}
 use Rattle.std.specs.Int.{w64, to_be_bytes}
 use Rattle.std.specs.Str.{bytes_eq}
 use Rattle.std.proofs.lemmas.Bool.{eq-eqb}
 use Rattle.std.proofs.lemmas.List.{take-append-drop, length-take-le}
-use Rattle.std.proofs.lemmas.List.Elements.{All-cons, All-nil}
+use Rattle.std.proofs.lemmas.List.Elements.{All-cons, All-nil, All-take, All-drop}
 use Rattle.std.proofs.lemmas.Nat.{be_bytes_8}
 use Rattle.std.proofs.lemmas.Bool.Decides.{Decides-eqb, eqb_tells}
+use Rattle.asc_base.proofs.Bytes.{byte_of}
+use Rattle.asc_base.proofs.Members.{has_at}
+use Rattle.asc_base.specs.Bytes.{AreBytes}
+use Rattle.asc_base.specs.Has.{Has}
 use Rattle.asc_base.specs.declared.block.Entry.{Entry}
 use Rattle.asc_base.specs.declared.shape.Shape.{Shape}
 use Rattle.bucket_codec.proofs.Buckets.{seed_in-bucket, opened_bucket}
-use Rattle.bucket_codec.proofs.Pads.{length-pad_of, length-masked, masked-twice}
+use Rattle.bucket_codec.proofs.Pads.{length-pad_of, length-masked, masked-twice, bytes_pad, bytes_masked}
 use Rattle.bucket_codec.proofs.Slots.{is_false, slot_in-empty, slot_in-no_flag, slot_in-outside, slot_in-entry}
-use Rattle.bucket_codec.proofs.Spelled.{Bytes, bytes_of_all, bytes_drop, bytes_masked, bytes_pad, placed_range, part_spells}
-use Rattle.bucket_codec.proofs.Spelled.{decided, Read, Answer, answer, spelled_of, bytes_take}
-use Rattle.bucket_codec.specs.Bucket.{body_text, bucket_text, seed_in, body_in, part, slot_at, slots_in, empty_slots}
+use Rattle.bucket_codec.proofs.Spelled.{decided, placed_range, part_spells, Read, Answer, answer, spelled_of}
+use Rattle.bucket_codec.specs.Bucket.{body_text, bucket_text, seed_in, body_in, part, slot_at, slots_in, empty_slots, slot_entries}
 use Rattle.bucket_codec.specs.Bucket.{opened, Holds, AreSlots, AreInRange}
 use Rattle.bucket_codec.specs.declared.codec.BadSlot.{BadSlot}
 use Rattle.bucket_codec.specs.Pad.{pad_of, masked}
@@ -58,7 +61,7 @@ read_at shape body r (suc (suc (suc (suc k)))) d h = absurd (omega arith)
 -- the bytes behind a bucket's seed are as many as its slots have
 record IsBody (body : List ℕ) : Type 0 where
   long : length body ≡ 368
-  bytes : Bytes body
+  bytes : AreBytes body
 
 -- the slots of these bytes are four, each as it is read, and have them as their text
 record AreRead (shape : Shape) (body : List ℕ) (slots : List (Option Entry)) : Type 0 where
@@ -90,7 +93,7 @@ slots_range shape body slots r k d h =
     slot_range shape (part body k) (get_or slots k d) (r.each k d (omega (arith, h, r.four)))
 
 -- those of a bucket of 376 bytes are one
-body_of : (key bytes : List ℕ) → length bytes ≡ 376 → All (λ b. b < 256) bytes → IsBody (body_in key bytes)
+body_of : (key bytes : List ℕ) → length bytes ≡ 376 → AreBytes bytes → IsBody (body_in key bytes)
 unfolding body_in
 body_of key bytes long all =
     let pad = pad_of key (seed_in bytes) in
@@ -99,7 +102,7 @@ body_of key bytes long all =
     record {
       long = length-masked pad (drop 8 bytes) same ∙ rest;
       bytes =
-          bytes_masked pad (drop 8 bytes) (bytes_pad key (seed_in bytes)) (bytes_drop 8 bytes (bytes_of_all bytes all));
+          bytes_masked pad (drop 8 bytes) (bytes_pad key (seed_in bytes)) (All-drop (λ b. b < 256) 8 bytes all);
     }
 
 slots_typed : (shape : Shape) (body : List ℕ) (slots : List (Option Entry)) → IsBody body
@@ -144,7 +147,7 @@ cases key shape bytes slots e =
 
 -- what is read from a bucket with a seed gives the bucket back
 pub opened_spelled : (key : List ℕ) (shape : Shape) (bytes : List ℕ) (slots : List (Option Entry)) → length bytes ≡ 376
-    → All (λ b. b < 256) bytes → seed_in bytes ≢ 0 → opened key shape bytes ≡ Ok slots
+    → AreBytes bytes → seed_in bytes ≢ 0 → opened key shape bytes ≡ Ok slots
     → (bucket_text key (seed_in bytes) slots ≡ bytes) × AreSlots slots × AreInRange shape slots
 unfolding body_in seed_in bucket_text
 opened_spelled key shape bytes slots long all some e =
@@ -155,7 +158,8 @@ opened_spelled key shape bytes slots long all some e =
     omega (arith, length-pad_of key (seed_in bytes), length-drop 8 bytes, long) in
     let enough : 8 ≤ length bytes = omega (arith, long) in
     let seed : to_be_bytes w64 (seed_in bytes) ≡ take 8 bytes =
-    be_bytes_8 (take 8 bytes) _ (length-take-le 8 bytes enough) (bytes_take 8 bytes (bytes_of_all bytes all)) refl in
+    be_bytes_8 (take 8 bytes) _ (length-take-le 8 bytes enough)
+    (λ i. byte_of (take 8 bytes) i (All-take (λ b. b < 256) 8 bytes all)) refl in
     let body : masked pad (body_text slots) ≡ drop 8 bytes =
     ap (masked pad) (r.spelled is) ∙ masked-twice pad (drop 8 bytes) same in (
       ap (λ t. t ++ masked pad (body_text slots)) seed ∙ ap (λ t. take 8 bytes ++ t) body ∙ take-append-drop 8 bytes,
@@ -182,7 +186,7 @@ opened_range key shape bytes slots e =
     ]
 
 pub opened_typed : (key : List ℕ) (shape : Shape) (bytes : List ℕ) (slots : List (Option Entry)) → length bytes ≡ 376
-    → All (λ b. b < 256) bytes → opened key shape bytes ≡ Ok slots → AreSlots slots
+    → AreBytes bytes → opened key shape bytes ≡ Ok slots → AreSlots slots
 opened_typed key shape bytes slots long all e =
     elim (cases key shape bytes slots e) [
       | Unwritten none same ↦ record { four = ap length (sym same); each = none_of IsSlot slots tt same }
@@ -205,50 +209,63 @@ never_sealed key seed slots some below same =
     let none : seed ≡ 0 = sym (seed_in-bucket key seed slots below) ∙ ap seed_in same ∙ zeros_seed in
     absurd (omega (arith, some, none))
 
--- four empty slots have no entry
-none_there : (k : ℕ) (entry : Entry) → k < 4 → get_or empty_slots k (Some entry) ≡ Some entry → ⊥
-none_there zero entry h e = absurd (cc)
-none_there (suc zero) entry h e = absurd (cc)
-none_there (suc (suc zero)) entry h e = absurd (cc)
-none_there (suc (suc (suc zero))) entry h e = absurd (cc)
-none_there (suc (suc (suc (suc k)))) entry h e = absurd (omega arith)
+-- an entry of slots stands in one of them
+entry_has : (slots : List (Option Entry)) (entry : Entry) → Has entry (slot_entries slots) → Has (Some entry) slots
+entry_has [] entry h = absurd h
+entry_has (None ∷ slots) entry h = inr (entry_has slots entry h)
+entry_has (Some first ∷ slots) entry (inl same) = inl (ap Some same)
+entry_has (Some first ∷ slots) entry (inr h) = inr (entry_has slots entry h)
+
+has_entry : (slots : List (Option Entry)) (entry : Entry) → Has (Some entry) slots → Has entry (slot_entries slots)
+has_entry [] entry h = absurd h
+has_entry (None ∷ slots) entry (inl same) = absurd (cc)
+has_entry (None ∷ slots) entry (inr h) = has_entry slots entry h
+has_entry (Some first ∷ slots) entry (inl same) = inl (let told : Some entry ≡ Some first = same in cc)
+has_entry (Some first ∷ slots) entry (inr h) = inr (has_entry slots entry h)
+
+-- what stands in a list has a place there
+has_place : {A : Type 0} (x : A) (xs : List A) → Has x xs → (k : ℕ) × (k < length xs) × (get_or xs k x ≡ x)
+has_place x [] h = absurd h
+has_place x (y ∷ xs) (inl same) = (0, omega arith, sym same)
+has_place x (y ∷ xs) (inr h) = let r = has_place x xs h in (suc r.0, omega (arith, r.1), r.2)
 
 -- an opened bucket holds what its slots have
 has_held : (key : List ℕ) (shape : Shape) (bytes : List ℕ) (slots : List (Option Entry)) (entry : Entry)
-    → Cases key shape bytes slots → Contains slots (Some entry) → Holds key shape bytes entry
+    → Cases key shape bytes slots → Has (Some entry) slots → Holds key shape bytes entry
 has_held key shape bytes slots entry (Unwritten none same) h =
-    let at : Contains empty_slots (Some entry) =
-    subst (λ (s : List (Option Entry)). Contains s (Some entry)) (sym same) h in
-    absurd (none_there at.0 entry at.1 at.2)
+    absurd (has_entry empty_slots entry (subst (λ (s : List (Option Entry)). Has (Some entry) s) (sym same) h))
 has_held key shape bytes slots entry (Written some r) h =
-    let below : h.0 < 4 = omega (arith, h.1, r.four) in
-    record { written = some; slot = h.0; below = below; found = r.each h.0 (Some entry) below ∙ ap Some h.2 }
+    let place = has_place (Some entry) slots h in
+    let below : place.0 < 4 = omega (arith, place.1, r.four) in
+    record { written = some; slot = place.0; below = below; found = r.each place.0 (Some entry) below ∙ ap Some place.2 }
 
 held_has : (key : List ℕ) (shape : Shape) (bytes : List ℕ) (slots : List (Option Entry)) (entry : Entry)
-    → Cases key shape bytes slots → Holds key shape bytes entry → Contains slots (Some entry)
+    → Cases key shape bytes slots → Holds key shape bytes entry → Has (Some entry) slots
 held_has key shape bytes slots entry (Unwritten none same) h = absurd (h.written none)
 held_has key shape bytes slots entry (Written some r) h =
     let below : h.slot < length slots = omega (arith, h.below, r.four) in
     let same : get_or slots h.slot (Some entry) ≡ Some entry =
     let told = sym (r.each h.slot (Some entry) h.below) ∙ h.found in cc in
-    (h.slot, below, same)
+    subst (λ (slot : Option Entry). Has slot slots) same (has_at slots h.slot (Some entry) below)
 
 pub opened_holds : (key : List ℕ) (shape : Shape) (bytes : List ℕ) (slots : List (Option Entry)) (entry : Entry)
-    → opened key shape bytes ≡ Ok slots → Contains slots (Some entry) ↔ Holds key shape bytes entry
+    → opened key shape bytes ≡ Ok slots → Has entry (slot_entries slots) ↔ Holds key shape bytes entry
 opened_holds key shape bytes slots entry e =
-    let which = cases key shape bytes slots e in
-    (has_held key shape bytes slots entry which, held_has key shape bytes slots entry which)
+    let which = cases key shape bytes slots e in (
+      λ h. has_held key shape bytes slots entry which (entry_has slots entry h),
+      λ h. has_entry slots entry (held_has key shape bytes slots entry which h),
+    )
 
 pub sealed_holds : (key : List ℕ) (shape : Shape) (seed : ℕ) (slots : List (Option Entry)) (entry : Entry)
     → 0 < seed → seed < 2 ^ 64 → AreSlots slots → AreInRange shape slots
-    → Contains slots (Some entry) ↔ Holds key shape (bucket_text key seed slots) entry
+    → Has entry (slot_entries slots) ↔ Holds key shape (bucket_text key seed slots) entry
 sealed_holds key shape seed slots entry some below is range =
     opened_holds key shape (bucket_text key seed slots) slots entry
     (opened_bucket key shape seed slots some below is range)
 
 -- what is held is an entry of the types and of the shape
 pub held_typed : (key : List ℕ) (shape : Shape) (bytes : List ℕ) (entry : Entry) → length bytes ≡ 376
-    → All (λ b. b < 256) bytes → Holds key shape bytes entry → IsEntry entry
+    → AreBytes bytes → Holds key shape bytes entry → IsEntry entry
 held_typed key shape bytes entry long all h =
     let is = body_of key bytes long all in
     (part_spells shape (body_in key bytes) h.slot (Some entry) is.long is.bytes h.below h.found).is

@@ -1,6 +1,7 @@
 -- Buckets: which 376 bytes stand for which seed and four slots under a key of pads.
 use Rattle.std.specs.Prelude.{◌≡◌, ◌≢◌, ℕ, ◌<◌, ◌+◌, ◌*◌, ◌==◌, List, [], ◌∷◌, ◌++◌, take, drop, length, map, flat_map}
 use Rattle.std.specs.Prelude.{Option, Some, None, Result, Ok, Err, All, if◌then◌else◌}
+use Rattle.std.specs.Option.{option_to_list}
 use Rattle.std.specs.Int.{w64, to_be_bytes, from_be_bytes}
 use Rattle.asc_base.specs.declared.block.Entry.{Entry}
 use Rattle.asc_base.specs.declared.shape.Shape.{Shape}
@@ -55,6 +56,10 @@ empty_slots = None ∷ None ∷ None ∷ None ∷ []
 unfoldable pub opened : List ℕ → Shape → List ℕ → Result (List (Option Entry)) BadSlot
 opened key shape bytes =
     if seed_in bytes == 0 then Ok empty_slots else slots_in shape (body_in key bytes)
+
+-- the entries in slots, in order
+abbrev pub slot_entries : List (Option Entry) → List Entry
+slot_entries slots = flat_map option_to_list slots
 
 -- The bucket of these bytes has a slot in the form with this entry, whatever its other slots are. One whose seed is 0
 -- has none.

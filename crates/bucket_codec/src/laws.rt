@@ -1,11 +1,13 @@
 //! Laws of slots, sealed buckets and opened ones. The functions do nothing: each states a law in its contract.
 
-ghost use Rattle.std.specs.Prelude.{◌≡◌, ◌≢◌, ◌↔◌, ℕ, ◌^◌, ◌<◌, List, All, Contains, length, replicate};
+ghost use Rattle.std.specs.Prelude.{◌≡◌, ◌≢◌, ◌↔◌, ℕ, ◌^◌, ◌<◌, List, length, replicate};
 ghost use Rattle.std.specs.Prelude.{Option, Some, Ok, Err};
+ghost use Rattle.asc_base.specs.Bytes.{AreBytes};
+ghost use Rattle.asc_base.specs.Has.{Has};
 ghost use Rattle.asc_base.specs.declared.block.Entry.{Entry};
 ghost use Rattle.asc_base.specs.declared.shape.Shape.{Shape};
 ghost use Rattle.bucket_codec.specs.Slot.{slot_in, Spells, IsEntry, IsInRange};
-ghost use Rattle.bucket_codec.specs.Bucket.{bucket_text, seed_in, body_in, empty_slots, opened, Holds};
+ghost use Rattle.bucket_codec.specs.Bucket.{bucket_text, seed_in, body_in, empty_slots, slot_entries, opened, Holds};
 ghost use Rattle.bucket_codec.specs.Bucket.{AreSlots, AreInRange, IsFirstBad};
 ghost use Rattle.bucket_codec.specs.declared.codec.BadSlot.{BadSlot};
 
@@ -20,7 +22,7 @@ pub fn opens_what_was_sealed()
 /// each seed and slots have one spelling.
 pub fn seals_what_was_opened()
     ensures { (key : List ℕ) (shape : Shape) (bytes : List ℕ) (slots : List (Option Entry))
-        → length bytes ≡ 376 → All (λ b. b < 256) bytes → seed_in bytes ≢ 0 → opened key shape bytes ≡ Ok slots
+        → length bytes ≡ 376 → AreBytes bytes → seed_in bytes ≢ 0 → opened key shape bytes ≡ Ok slots
         → (bucket_text key (seed_in bytes) slots ≡ bytes) × AreSlots slots × AreInRange shape slots }
 {}
 
@@ -43,7 +45,7 @@ pub fn texts_tell_seeds_and_slots()
 /// shape, and then are read as that slot.
 pub fn slots_read_as_spelled()
     ensures { (shape : Shape) (text : List ℕ) (slot : Option Entry)
-        → length text ≡ 92 → All (λ b. b < 256) text
+        → length text ≡ 92 → AreBytes text
         → (slot_in shape text ≡ Some slot) ↔ Spells shape slot text }
 {}
 
@@ -56,7 +58,7 @@ pub fn first_bad_slot_named()
 /// What is opened are four slots of the types, in the ranges of the shape.
 pub fn opened_slots_are_of_shape()
     ensures typed { (key : List ℕ) (shape : Shape) (bytes : List ℕ) (slots : List (Option Entry))
-        → length bytes ≡ 376 → All (λ b. b < 256) bytes → opened key shape bytes ≡ Ok slots → AreSlots slots }
+        → length bytes ≡ 376 → AreBytes bytes → opened key shape bytes ≡ Ok slots → AreSlots slots }
     ensures range { (key : List ℕ) (shape : Shape) (bytes : List ℕ) (slots : List (Option Entry))
         → opened key shape bytes ≡ Ok slots → AreInRange shape slots }
 {}
@@ -75,12 +77,12 @@ pub fn unwritten_buckets_are_empty()
 /// the types, in the ranges of the shape. A bucket whose seed is 0 holds none.
 pub fn buckets_hold_their_entries()
     ensures opened { (key : List ℕ) (shape : Shape) (bytes : List ℕ) (slots : List (Option Entry)) (entry : Entry)
-        → opened key shape bytes ≡ Ok slots → Contains slots (Some entry) ↔ Holds key shape bytes entry }
+        → opened key shape bytes ≡ Ok slots → Has entry (slot_entries slots) ↔ Holds key shape bytes entry }
     ensures sealed { (key : List ℕ) (shape : Shape) (seed : ℕ) (slots : List (Option Entry)) (entry : Entry)
         → 0 < seed → seed < 2 ^ 64 → AreSlots slots → AreInRange shape slots
-        → Contains slots (Some entry) ↔ Holds key shape (bucket_text key seed slots) entry }
+        → Has entry (slot_entries slots) ↔ Holds key shape (bucket_text key seed slots) entry }
     ensures typed { (key : List ℕ) (shape : Shape) (bytes : List ℕ) (entry : Entry)
-        → length bytes ≡ 376 → All (λ b. b < 256) bytes → Holds key shape bytes entry → IsEntry entry }
+        → length bytes ≡ 376 → AreBytes bytes → Holds key shape bytes entry → IsEntry entry }
     ensures range { (key : List ℕ) (shape : Shape) (bytes : List ℕ) (entry : Entry)
         → Holds key shape bytes entry → IsInRange shape (Some entry) }
     ensures unwritten { (key : List ℕ) (shape : Shape) (bytes : List ℕ) (entry : Entry)
