@@ -98,7 +98,8 @@ def main():
         rate = codec_rate(build(folder, count), count)
     print(f"{count} buckets sealed and opened: {rate / 1e6:.1f} million bytes a second of user time")
     if shutil.which("openssl"):
-        print(f"openssl's ChaCha20 on {PAD} bytes at a time: {openssl_rate() / 1e6:.1f} million bytes a second of user time")
+        rate = openssl_rate()
+        print(f"openssl's ChaCha20 on {PAD} bytes at a time: {rate / 1e6:.1f} million bytes a second of user time")
     else:
         print("openssl: not installed")
 

@@ -1,7 +1,7 @@
 -- What opened and sealed buckets hold.
 use Rattle.std.proofs.Common.{◌≡◌, ◌≢◌, ◌↔◌, ℕ, zero, suc, ◌^◌, ◌<◌, ◌≤◌, ◌==◌, true, false, List, [], ◌∷◌, ◌++◌}
-use Rattle.std.proofs.Common.{length, get_or, replicate, take, drop, All, Option, Some, None, Result, Ok, Err, IfOk, inl, inr}
-use Rattle.std.proofs.Common.{refl, sym, ap, ◌∙◌, subst, length-drop, arith}
+use Rattle.std.proofs.Common.{length, get_or, replicate, take, drop, All, Option, Some, None, Result, Ok, Err, IfOk}
+use Rattle.std.proofs.Common.{inl, inr, refl, sym, ap, ◌∙◌, subst, length-drop, arith}
 use Rattle.std.specs.Int.{w64, to_be_bytes}
 use Rattle.std.specs.Str.{bytes_eq}
 use Rattle.std.proofs.lemmas.Bool.{eq-eqb}
@@ -19,8 +19,8 @@ use Rattle.bucket_codec.proofs.Buckets.{seed_in-bucket, opened_bucket}
 use Rattle.bucket_codec.proofs.Pads.{length-pad_of, length-masked, masked-twice, bytes_pad, bytes_masked}
 use Rattle.bucket_codec.proofs.Slots.{is_false, slot_in-empty, slot_in-no_flag, slot_in-outside, slot_in-entry}
 use Rattle.bucket_codec.proofs.Spelled.{decided, placed_range, part_spells, Read, Answer, answer, spelled_of}
-use Rattle.bucket_codec.specs.Bucket.{body_text, bucket_text, seed_in, body_in, part, slot_at, slots_in, empty_slots, slot_entries}
-use Rattle.bucket_codec.specs.Bucket.{opened, Holds, AreSlots, AreInRange}
+use Rattle.bucket_codec.specs.Bucket.{body_text, bucket_text, seed_in, body_in, part, slot_at, slots_in}
+use Rattle.bucket_codec.specs.Bucket.{empty_slots, slot_entries, opened, Holds, AreSlots, AreInRange}
 use Rattle.bucket_codec.specs.declared.codec.BadSlot.{BadSlot}
 use Rattle.bucket_codec.specs.Pad.{pad_of, masked}
 use Rattle.bucket_codec.specs.Slot.{flag, empty_text, entry_in, is_placed, slot_in, IsEntry, IsSlot, IsInRange}
@@ -134,9 +134,9 @@ data Cases (key : List ℕ) (shape : Shape) (bytes : List ℕ) (slots : List (Op
   Unwritten : seed_in bytes ≡ 0 → empty_slots ≡ slots → Cases key shape bytes slots
   Written : seed_in bytes ≢ 0 → AreRead shape (body_in key bytes) slots → Cases key shape bytes slots
 
-cases : (key : List ℕ) (shape : Shape) (bytes : List ℕ) (slots : List (Option Entry)) → opened key shape bytes ≡ Ok slots
-    → Cases key shape bytes slots
-cases key shape bytes slots e =
+cases_of : (key : List ℕ) (shape : Shape) (bytes : List ℕ) (slots : List (Option Entry))
+    → opened key shape bytes ≡ Ok slots → Cases key shape bytes slots
+cases_of key shape bytes slots e =
     elim (eqb_tells (seed_in bytes) 0) [
       | inl none ↦ (
           let same : empty_slots ≡ slots = let told = sym (unwritten key shape bytes none.1) ∙ e in cc in
@@ -180,7 +180,7 @@ none_of P slots none same =
 pub opened_range : (key : List ℕ) (shape : Shape) (bytes : List ℕ) (slots : List (Option Entry))
     → opened key shape bytes ≡ Ok slots → AreInRange shape slots
 opened_range key shape bytes slots e =
-    elim (cases key shape bytes slots e) [
+    elim (cases_of key shape bytes slots e) [
       | Unwritten none same ↦ none_of (IsInRange shape) slots tt same
       | Written some r ↦ slots_range shape (body_in key bytes) slots r
     ]
@@ -188,7 +188,7 @@ opened_range key shape bytes slots e =
 pub opened_typed : (key : List ℕ) (shape : Shape) (bytes : List ℕ) (slots : List (Option Entry)) → length bytes ≡ 376
     → AreBytes bytes → opened key shape bytes ≡ Ok slots → AreSlots slots
 opened_typed key shape bytes slots long all e =
-    elim (cases key shape bytes slots e) [
+    elim (cases_of key shape bytes slots e) [
       | Unwritten none same ↦ record { four = ap length (sym same); each = none_of IsSlot slots tt same }
       | Written some r ↦ slots_typed shape (body_in key bytes) slots (body_of key bytes long all) r
     ]
@@ -237,7 +237,12 @@ has_held key shape bytes slots entry (Unwritten none same) h =
 has_held key shape bytes slots entry (Written some r) h =
     let place = has_place (Some entry) slots h in
     let below : place.0 < 4 = omega (arith, place.1, r.four) in
-    record { written = some; slot = place.0; below = below; found = r.each place.0 (Some entry) below ∙ ap Some place.2 }
+    record {
+      written = some;
+      slot = place.0;
+      below = below;
+      found = r.each place.0 (Some entry) below ∙ ap Some place.2;
+    }
 
 held_has : (key : List ℕ) (shape : Shape) (bytes : List ℕ) (slots : List (Option Entry)) (entry : Entry)
     → Cases key shape bytes slots → Holds key shape bytes entry → Has (Some entry) slots
@@ -251,7 +256,7 @@ held_has key shape bytes slots entry (Written some r) h =
 pub opened_holds : (key : List ℕ) (shape : Shape) (bytes : List ℕ) (slots : List (Option Entry)) (entry : Entry)
     → opened key shape bytes ≡ Ok slots → Has entry (slot_entries slots) ↔ Holds key shape bytes entry
 opened_holds key shape bytes slots entry e =
-    let which = cases key shape bytes slots e in (
+    let which = cases_of key shape bytes slots e in (
       λ h. has_held key shape bytes slots entry which (entry_has slots entry h),
       λ h. has_entry slots entry (held_has key shape bytes slots entry which h),
     )

@@ -51,7 +51,7 @@ impl Codec {
     pub fn seal(&self, seed: u64, slots: &[Option<Entry>; 4], into: &mut [u8; 376])
         requires { 0 < seed }
         ensures text { into.new ≡ bucket_text self.now seed slots.now }
-        ensures slots { AreSlots slots.now }
+        ensures typed { AreSlots slots.now }
     {
         let mut body = body_of(slots);
         mask(&mut body, &pad_of(&self.key, seed));
@@ -107,7 +107,7 @@ fn opened_body(key: &[u8; 32], bytes: &[u8; 376]) -> [u8; BODY]
 // The bytes of four slots.
 fn body_of(slots: &[Option<Entry>; 4]) -> [u8; BODY]
     ensures text { result ≡ body_text slots.now }
-    ensures slots { AreSlots slots.now }
+    ensures typed { AreSlots slots.now }
 {
     let mut body = blank();
     for place in 0..4 {

@@ -1,7 +1,11 @@
-ghost use Rattle.std.specs.Prelude.{◌≡◌, ◌<◌};
-ghost use Rattle.bucket_codec.specs.Bucket.{AreInRange};
+ghost use Rattle.std.specs.Prelude.{◌≡◌, ◌<◌, IfOk};
+ghost use Rattle.asc_base.specs.Has.{Has};
+ghost use Rattle.asc_base.specs.declared.block.Entry.{Entry as AnEntry};
+ghost use Rattle.bucket_codec.specs.Bucket.{AreInRange, empty_slots, slot_entries, Holds};
 
-use crate::{BadSlot, Codec, opens_what_was_sealed};
+use crate::{
+    BadSlot, Codec, buckets_hold_their_entries, opens_what_was_sealed, unwritten_buckets_are_empty,
+};
 use asc_base::{Address, Entry, Leaf, Line, Shape};
 use hmac_sha::hmac;
 use std::array;
@@ -54,6 +58,23 @@ fn reopened(
     codec.open(&bucket, shape)
 }
 
+// A bucket of zero bytes is opened to four empty slots: this is proved too.
+fn fresh(shape: &Shape) -> Result<[Option<Entry>; 4], BadSlot>
+    ensures { result ≡ Ok empty_slots }
+{
+    unwritten_buckets_are_empty();
+    codec().open(&[0; 376], shape)
+}
+
+// And that a bucket which is opened holds its entries.
+fn holding(codec: &Codec, bucket: &[u8; 376], shape: &Shape) -> Result<[Option<Entry>; 4], BadSlot>
+    ensures { (entry : AnEntry) → IfOk result (λ slots. Has entry (slot_entries slots)
+        → Holds codec.now shape.now bucket.now entry) }
+{
+    buckets_hold_their_entries();
+    codec.open(bucket, shape)
+}
+
 // The number of the first slot that isn't in the form, or 4.
 fn outcome(bucket: &[u8; 376], shape: &Shape) -> u32 {
     match codec().open(bucket, shape) {
@@ -98,6 +119,9 @@ fn bytes_of_buckets(rt: HostRuntime) -> Result<(), Fail> {
         }
     }
     assert!(rt; reopened(1, &[None; 4], &shape) == Ok([None; 4]));
+    assert!(rt; fresh(&shape) == Ok([None; 4]));
+    let bucket = sealed(1, &[full(); 4]);
+    assert!(rt; holding(&codec(), &bucket, &shape) == Ok([full(); 4]));
     Ok(())
 }
 

@@ -59,8 +59,8 @@ impl HmacKey {
 // The code, from the hasher of the outer pad and that of the whole inner text.
 #[tactic(auto, unfolding(crate::specs::Hmac::hmac))]
 fn finish(mut outer: Sha256, inner: Sha256) -> [u8; 32]
-    ensures { (key text : List ℕ) → Holds256 outer (key_pad outer_pad key) → Holds256 inner (key_pad inner_pad key ++ text)
-        → result ≡ hmac key text }
+    ensures { (key text : List ℕ) → Holds256 outer (key_pad outer_pad key)
+        → Holds256 inner (key_pad inner_pad key ++ text) → result ≡ hmac key text }
 {
     outer.update(&inner.finalize());
     outer.finalize()

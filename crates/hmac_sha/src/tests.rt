@@ -7,7 +7,7 @@ use std::test::Fail;
 fn codes_of_the_standard(rt: HostRuntime) -> Result<(), Fail> {
     let rows = [
         (
-            *b"\x0b\x0b\x0b\x0b\x0b\x0b\x0b\x0b\x0b\x0b\x0b\x0b\x0b\x0b\x0b\x0b\x0b\x0b\x0b\x0b\0\0\0\0\0\0\0\0\0\0\0\0",
+            array::from_fn(|place| if place < 20 { 0x0b } else { 0 }),
             "Hi There",
             "b0344c61d8db38535ca8afceaf0bf12b881dc200c9833da726e9376c2e32cff7",
         ),

@@ -10,8 +10,8 @@ use std::marker::Model;
 
 /// Leaves by a key: the first four bytes of the authentication code of a point's text, modulo the number of leaves.
 ///
-/// It is seen as its key, which the master key gives under the label `ascend leaf`, and its levels. The key's hashers are
-/// kept, so that a leaf takes two compressions of SHA-256. No call takes memory.
+/// It is seen as its key, which the master key gives under the label `ascend leaf`, and its levels. The key's hashers
+/// are kept, so that a leaf takes two compressions of SHA-256. No call takes memory.
 #[derive(Drop)]
 pub struct KeyedLeaf {
     key: HmacKey,

@@ -1,7 +1,7 @@
 ghost use Rattle.std.specs.Prelude.{◌≡◌};
-ghost use Rattle.leaf_function.specs.Leaf.{AreLeaves};
+ghost use Rattle.leaf_function.specs.Leaf.{AreLeaves, point_text};
 
-use crate::{KeyedLeaf, LeafFn, TableLeaf};
+use crate::{KeyedLeaf, LeafFn, TableLeaf, texts_tell_points};
 use asc_base::{Address, Counter, Leaf, Point};
 use std::array;
 use std::test::Fail;
@@ -13,6 +13,13 @@ fn leaf_by<L: LeafFn>(leaves: &L, point: Point) -> u32
 {
     leaves.gives_leaves();
     leaves.leaf(point).0
+}
+
+// Of any two points that code has, those with one text are one: their numbers are in the ranges of their types.
+fn one_text(x: Point, y: Point)
+    ensures { point_text x ≡ point_text y → x ≡ y }
+{
+    texts_tell_points();
 }
 
 fn real(address: u32, group: u64, own: u16) -> Point {
@@ -35,6 +42,7 @@ fn keyed_leaves(rt: HostRuntime) {
         (Point::Dummy(0xffff_ffff_ffff_ffff), 1, 1031705),
     ];
     for (point, among_8, among_1048576) in rows {
+        one_text(point, point);
         assert_eq!(rt; leaf_by(&small, point), among_8, "{point:?}");
         assert_eq!(rt; leaf_by(&large, point), among_1048576, "{point:?}");
     }

@@ -7,8 +7,8 @@ use std::marker::Model;
 
 /// Gives messages their tags: the first 16 bytes of the authentication code of a message's text.
 ///
-/// It is seen as its key, which the master key gives under the label `ascend tag`. The key's hashers are kept, so that a
-/// tag takes three compressions of SHA-256.
+/// It is seen as its key, which the master key gives under the label `ascend tag`. The key's hashers are kept, so that
+/// a tag takes three compressions of SHA-256.
 #[derive(Drop)]
 pub struct Tagger {
     key: HmacKey,

@@ -1,4 +1,7 @@
-use crate::Tagger;
+ghost use Rattle.std.specs.Prelude.{◌≡◌};
+ghost use Rattle.pmmac_tags.specs.Tag.{message_text};
+
+use crate::{Tagger, texts_tell_messages};
 use asc_base::{Address, Counter, Line, Message};
 use std::array;
 use std::test::Fail;
@@ -9,6 +12,13 @@ fn message(address: u32, group: u64, own: u16, bytes: [u8; 64]) -> Message {
         counter: Counter { group, own },
         line: Line(bytes),
     }
+}
+
+// Of any two messages that code has, those with one text are one: their numbers are in the ranges of their types.
+fn one_text(x: Message, y: Message)
+    ensures { message_text x ≡ message_text y → x ≡ y }
+{
+    texts_tell_messages();
 }
 
 // The values are those of Python's hmac module, as tools/hmac_vectors.py prints them.
@@ -40,6 +50,7 @@ fn tags(rt: HostRuntime) -> Result<(), Fail> {
         let mut other = tag;
         other[15] ^= 1;
         assert!(rt; !tagger.holds(&message, &other));
+        one_text(message, message);
     }
     Ok(())
 }
