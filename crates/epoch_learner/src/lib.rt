@@ -14,7 +14,8 @@ ghost use Rattle.asc_base.specs.Settings.{AreRates, IsConfig, IsFromTo};
 ghost use Rattle.bus_schedule.specs.Timetable.{public_of, rate_at, first_beat};
 ghost use Rattle.epoch_learner.specs.LearnerRule.{waiting, real_count, nearest};
 ghost use Rattle.epoch_learner.specs.Heard.{Heard};
-ghost use Rattle.epoch_learner.specs.Learner.{IsLearnerOf, IsLearner, learner_at_start, after_access, chosen_at, after_end, choice_by_sums, choice_at, Remembers, Follows};
+ghost use Rattle.epoch_learner.specs.Learner.{IsLearnerOf, IsLearner, learner_at_start, after_access, chosen_at};
+ghost use Rattle.epoch_learner.specs.Learner.{after_end, choice_by_sums, choice_at, Remembers, Follows};
 
 use asc_base::{Config, Rates};
 use bus_schedule::{epoch_of, most_choices, with_digit};
@@ -26,9 +27,9 @@ mod tests;
 
 pub use laws::{
     choices_are_few, choices_take_the_nearest, codes_grow, ends_follow, learners_choose_by_rule,
-    learners_follow, learners_remember, logs_are_remembered, logs_go_on, nearest_is_near, rule_rows,
+    learners_follow, learners_remember, logs_are_remembered, logs_go_on, nearest_is_near,
+    rule_rows,
 };
-
 pub use stand_laws::{
     first_slot_stands, learners_stand, next_slots_follow, stands_begin, stands_end, stands_go_on,
     stands_keep_pace, sums_stay_small,
