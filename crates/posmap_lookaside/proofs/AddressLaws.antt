@@ -187,7 +187,11 @@ distinct_apart (x ∷ list) distinct =
   where
     none : count_by (λ b. nat_eq b x) list ≡ 0
     none = elim (eqb_tells x x) [
-      | inl here ↦ omega (arith, distinct x, count_by-cons (λ b. nat_eq b x) x list,
-          ap {B = ℕ} (λ b. if b then 1 else 0) here.0)
+      | inl here ↦ omega (
+        arith,
+        distinct x,
+        count_by-cons (λ b. nat_eq b x) x list,
+        ap {B = ℕ} (λ b. if b then 1 else 0) here.0,
+      )
       | inr other ↦ absurd (other.1 refl)
     ]

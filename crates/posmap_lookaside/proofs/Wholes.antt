@@ -27,8 +27,11 @@ length-used list address = by (find (λ a. nat_eq a address) list) refl
     by : (found : Option ℕ) → find (λ a. nat_eq a address) list ≡ found → length (used list address) ≡ length list
     by None none = ap length (promoted_first-none (λ a. nat_eq a address) list none)
     by (Some x) found =
-        omega (arith, ap length (promoted_first-some (λ a. nat_eq a address) list x found),
-        length-without_first (λ a. nat_eq a address) list x found)
+        omega (
+          arith,
+          ap length (promoted_first-some (λ a. nat_eq a address) list x found),
+          length-without_first (λ a. nat_eq a address) list x found,
+        )
 
 pub none_absent : (list : List Held) (address : Address) → IsNone (held_at list address)
     → is_among (addresses_of list) address.0 ≡ false
@@ -48,8 +51,14 @@ promoted_whole s address list now is =
     let used_is = ap addresses_of now ∙ addresses_of-promoted s.list address in
     record {
       some = is.some;
-      fits = omega (arith, is.fits, length-addresses list, ap length used_is,
-          length-used (addresses_of s.list) address.0, length-addresses s.list);
+      fits = omega (
+        arith,
+        is.fits,
+        length-addresses list,
+        ap length used_is,
+        length-used (addresses_of s.list) address.0,
+        length-addresses s.list,
+      );
       distinct = subst AreDistinct (sym used_is) (used_distinct (addresses_of s.list) address.0 is.distinct);
     }
 

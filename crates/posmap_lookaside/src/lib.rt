@@ -4,10 +4,12 @@
 mod held;
 mod laws;
 mod lookaside;
+mod walk_laws;
 
 pub use held::Held;
 pub use laws::{addresses_follow, addresses_stay_distinct, held_blocks_keep_values};
 pub use lookaside::Lookaside;
+pub use walk_laws::walks_have_rows;
 
 #[cfg(test)]
 mod tests;
