@@ -2,3 +2,4 @@ pub mod AddressLaws
 pub mod HeldLaws
 pub mod Places
 pub mod Wholes
+pub mod WalkLaws

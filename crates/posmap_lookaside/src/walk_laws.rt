@@ -1,9 +1,31 @@
 //! Laws of the walk. The functions do nothing: each states laws in its contract.
 
-ghost use Rattle.std.specs.Prelude.{◌≡◌, ℕ, List, [], ◌∷◌, ◌++◌, length, map};
+ghost use Rattle.std.specs.Prelude.{◌≡◌, ◌≢◌, ℕ, ◌+◌, ◌^◌, ◌<◌, ◌≤◌, List, [], ◌∷◌, ◌++◌, length, map, All, AllPairs, None};
 ghost use Rattle.std.specs.List.{range_with_len};
-ghost use Rattle.posmap_lookaside.specs.Walk.{chip_at_start, walks};
+ghost use Rattle.asc_base.specs.TreeShape.{layer_first};
+ghost use Rattle.posmap_counters.specs.Bounds.{AreCounters};
+ghost use Rattle.posmap_counters.specs.Counters.{counter_at};
+ghost use Rattle.posmap_lookaside.specs.Walk.{WalkSizes, OnChip, chip_at_start, points_of, walk, walks};
 ghost use Rattle.posmap_lookaside.specs.Rows.{default_sizes, small_sizes, row};
+
+/// A walk keeps the counters within bounds, each access counted. So in requests one after another no point comes twice, as
+/// long as there are fewer than 2 ^ 64 accesses.
+pub fn walks_have_points_once()
+    ensures bounds { (sizes : WalkSizes) (chip : OnChip) (line accesses : ℕ) → 1 ≤ sizes.ic
+        → line < layer_first sizes.lines sizes.layers
+        → AreCounters sizes.lines sizes.layers sizes.ic (counter_at chip.counters) None accesses
+        → AreCounters sizes.lines sizes.layers sizes.ic (counter_at (walk sizes chip line).chip.counters) None
+        (accesses + length (walk sizes chip line).accesses) }
+    ensures apart { (sizes : WalkSizes) (chip : OnChip) (lines : List ℕ) (accesses : ℕ) → 1 ≤ sizes.ic
+        → All (λ line. line < layer_first sizes.lines sizes.layers) lines
+        → AreCounters sizes.lines sizes.layers sizes.ic (counter_at chip.counters) None accesses
+        → accesses + length (walks sizes chip lines).accesses < 2 ^ 64
+        → AllPairs (λ p q. p ≢ q) (points_of (walks sizes chip lines).accesses) }
+    ensures start { (sizes : WalkSizes) (lines : List ℕ) → 1 ≤ sizes.ic
+        → All (λ line. line < layer_first sizes.lines sizes.layers) lines
+        → length (walks sizes chip_at_start lines).accesses < 2 ^ 64
+        → AllPairs (λ p q. p ≢ q) (points_of (walks sizes chip_at_start lines).accesses) }
+{}
 
 /// The walk on rows. On the default shape of 16,384 lines in three layers, lines 0, 32 and 0 take 9 accesses where one
 /// block is held, of which each refill displaces the block before it, and 6 where 32 are. With own counts of two bits,
