@@ -3,3 +3,4 @@ pub mod HeldLaws
 pub mod Places
 pub mod Wholes
 pub mod WalkLaws
+pub mod WalkHeld

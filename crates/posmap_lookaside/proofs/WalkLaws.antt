@@ -1,7 +1,9 @@
 -- What a walk makes of the counters: they stay bounded, and no point comes twice.
-use Rattle.std.proofs.Common.{◌≡◌, ◌≢◌, ℕ, zero, suc, ◌+◌, ◌^◌, ◌<◌, ◌≤◌, ◌⊎◌, Bool, true, false, cond, not, inl, inr, arith}
-use Rattle.std.proofs.Common.{List, [], ◌∷◌, ◌++◌, length, map, reverse, take, take_while, slice_get, All, AllPairs, Option, None, Some}
-use Rattle.std.proofs.Common.{get_or, refl, sym, ap, ◌∙◌, subst}
+use Rattle.std.proofs.Common.{◌≡◌, ◌≢◌, ℕ, zero, suc, ◌+◌, ◌^◌, ◌<◌, ◌≤◌, ◌⊎◌, Bool, cond, not, inl, inr}
+use Rattle.std.proofs.Common.{arith}
+use Rattle.std.proofs.Common.{List, [], ◌∷◌, ◌++◌, length, reverse, take, take_while, slice_get, All, AllPairs}
+use Rattle.std.proofs.Common.{Option, None, Some}
+use Rattle.std.proofs.Common.{refl, sym, ap, ◌∙◌, subst}
 use Rattle.std.specs.Option.{option_map_or}
 use Rattle.std.proofs.lemmas.Bool.{cases_Bool}
 use Rattle.std.proofs.lemmas.List.{length-append, reverse-append}
@@ -9,7 +11,6 @@ use Rattle.std.proofs.lemmas.List.Elements.{All-head, All-tail}
 use Rattle.std.proofs.lemmas.List.Sums.{take_while-cons}
 use Rattle.asc_base.specs.Has.{Has}
 use Rattle.asc_base.specs.TreeShape.{layer_first, parent_of}
-use Rattle.asc_base.specs.declared.block.Point.{Point}
 use Rattle.asc_base.proofs.Families.{parent_above}
 use Rattle.posmap_counters.specs.Bounds.{AreCounters}
 use Rattle.posmap_counters.specs.Counters.{Counters, counter_at, Change, Access, MoveChild, RenumberChild, is_among}
@@ -34,16 +35,21 @@ while-has p [] x has = has
 while-has p (y ∷ xs) x has =
     elim (cases_Bool (p y)) [
       | inl here ↦ elim (subst (Has x) (take_while-cons p y xs ∙ ap (λ b. cond b (y ∷ take_while p xs) []) here) has) [
-          | inl same ↦ inl same
-          | inr later ↦ inr (while-has p xs x later)
-        ]
-      | inr other ↦ absurd (subst (Has x) (take_while-cons p y xs ∙ ap (λ b. cond b (y ∷ take_while p xs) []) other) has)
+        | inl same ↦ inl same
+        | inr later ↦ inr (while-has p xs x later)
+      ]
+      | inr other ↦ absurd (subst (Has x) (take_while-cons p y xs ∙ ap (λ b. cond b (y ∷ take_while p xs) []) other)
+          has)
     ]
 
 pub has-parts : (xs ys : List ℕ) (x : ℕ) → Has x (xs ++ ys) → (Has x xs) ⊎ (Has x ys)
 has-parts [] ys x has = inr has
 has-parts (y ∷ xs) ys x (inl same) = inl (inl same)
-has-parts (y ∷ xs) ys x (inr later) = elim (has-parts xs ys x later) [ inl front ↦ inl (inr front) | inr back ↦ inr back ]
+has-parts (y ∷ xs) ys x (inr later) = elim (has-parts xs ys x later) [
+  | inl front ↦ inl (inr front)
+  | inr back ↦
+      inr back
+]
 
 pub reverse-has : (xs : List ℕ) (x : ℕ) → Has x (reverse xs) → Has x xs
 reverse-has [] x has = has
@@ -141,7 +147,8 @@ module _ (sizes : WalkSizes) where
         bounds = subst (λ m. AreCounters sizes.lines sizes.layers sizes.ic (counter_at now) None m) sum second.bounds;
         room = λ low. room_joins sizes.lines sizes.layers counters first.changes second.changes
             (first.room (omega arith))
-            (subst (λ c. NoneWraps sizes.lines sizes.layers c second.changes) first.counters_are (second.room (omega arith)));
+            (subst (λ c. NoneWraps sizes.lines sizes.layers c second.changes) first.counters_are
+            (second.room (omega arith)));
       }
 
   -- one block
@@ -163,7 +170,8 @@ module _ (sizes : WalkSizes) where
         bounds = subst (λ m. AreCounters sizes.lines sizes.layers sizes.ic
             (counter_at (after_all sizes.lines sizes.layers chip.counters changes)) None (n + m)) long
             (asked_bounded sizes.lines sizes.layers sizes.ic chip.counters chip.held address n some inside are);
-        room = λ low. asked_wraps_none sizes.lines sizes.layers sizes.ic chip.counters chip.held address n some inside are
+        room = λ low. asked_wraps_none sizes.lines sizes.layers sizes.ic chip.counters chip.held address n some inside
+            are
             (omega arith);
       }
 
@@ -176,7 +184,8 @@ module _ (sizes : WalkSizes) where
   goes-down line [] chip n some inside all are = goes-visit Final None chip.held chip line n some inside are
   goes-down line (address ∷ below) chip n some inside all are =
       let first : Walked = refill sizes chip address in
-      let one = goes-visit Refill (slice_get (address ∷ chip.held) sizes.plb) (take sizes.plb (address ∷ chip.held)) chip
+      let one = goes-visit Refill (slice_get (address ∷ chip.held) sizes.plb)
+      (take sizes.plb (address ∷ chip.held)) chip
       address n some (all address (inl refl)) are in
       goes-join chip.counters n first.accesses (walk_down sizes line below first.chip).accesses first.chip.counters
       (walk_down sizes line below first.chip).chip.counters one

@@ -1,17 +1,16 @@
 -- Buffers stay buffers.
-use Rattle.std.proofs.Common.{◌≡◌, ℕ, suc, ◌+◌, ◌≤◌, Bool, true, false, List, [], ◌∷◌, length, take, min, nat_eq}
+use Rattle.std.proofs.Common.{◌≡◌, ℕ, suc, false, List, [], ◌∷◌, length, nat_eq}
 use Rattle.std.proofs.Common.{Option, Some, None, IsNone, is_some, refl, sym, ap, ◌∙◌, subst, arith}
 use Rattle.std.proofs.Common.{Result, Ok, Err, OnOk, OnErr}
 use Rattle.std.specs.List.{find}
 use Rattle.std.proofs.lemmas.List.{length-take}
-use Rattle.asc_base.specs.Lookup.{promoted_first}
 use Rattle.asc_base.specs.declared.block.Address.{Address}
 use Rattle.asc_base.specs.declared.stop.NoMemory.{NoMemory}
 use Rattle.asc_base.proofs.Lookups.{length-without_first, promoted_first-some, promoted_first-none}
 use Rattle.posmap_counters.specs.Counters.{is_among}
 use Rattle.posmap_lookaside.specs.declared.held.Held.{Held}
 use Rattle.posmap_lookaside.specs.Addresses.{used, AreDistinct}
-use Rattle.posmap_lookaside.specs.Held.{is_of, held_at, promoted, changed, inserted, addresses_of}
+use Rattle.posmap_lookaside.specs.Held.{held_at, promoted, changed, inserted, addresses_of}
 use Rattle.posmap_lookaside.specs.Lookaside.{LookasideState, IsLookaside}
 use Rattle.posmap_lookaside.proofs.AddressLaws.{addresses_of-promoted, addresses_of-changed, addresses_of-inserted}
 use Rattle.posmap_lookaside.proofs.AddressLaws.{is_some-held_at, used_distinct, put_distinct}

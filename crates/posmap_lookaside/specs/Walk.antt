@@ -1,14 +1,16 @@
--- Walk: which blocks a request for a line accesses, and which it displaces, by a list of addresses and the counters alone.
--- `held` has the position-map blocks on chip, the most recent first. The rule is this project's own.
-use Rattle.std.specs.Prelude.{ℕ, zero, suc, not, Option, None}
-use Rattle.std.specs.Prelude.{List, [], ◌∷◌, ◌++◌, map, take, take_while, find, reverse, slice_get}
+-- Walk: which blocks a request for a line accesses, and which it displaces, by a list of addresses and the counters
+-- alone. `held` has the position-map blocks on chip, the most recent first. The rule is this project's own.
+use Rattle.std.specs.Prelude.{◌≡◌, ◌<◌, ◌≤◌, ℕ, zero, suc, not, Option, None, Some}
+use Rattle.std.specs.Prelude.{List, [], ◌∷◌, ◌++◌, length, map, take, take_while, find, reverse, slice_get}
 use Rattle.std.specs.Option.{option_map_or}
-use Rattle.asc_base.specs.TreeShape.{parent_of}
+use Rattle.asc_base.specs.Has.{Has}
+use Rattle.asc_base.specs.TreeShape.{layer_first, parent_of, children_of}
 use Rattle.asc_base.specs.declared.block.Counter.{Counter}
 use Rattle.asc_base.specs.declared.block.Point.{Point}
-use Rattle.posmap_counters.specs.Counters.{Counters, counter_at, Change, Access, MoveChild, RenumberChild, is_among, point_of}
+use Rattle.posmap_counters.specs.Counters.{Counters, counter_at, Change, Access, MoveChild, RenumberChild, is_among}
+use Rattle.posmap_counters.specs.Counters.{point_of}
 use Rattle.posmap_counters.specs.Counters.{after, after_all, asked_changes}
-use Rattle.posmap_lookaside.specs.Addresses.{used}
+use Rattle.posmap_lookaside.specs.Addresses.{used, AreDistinct}
 
 -- why a block is accessed: it comes to be held, it is the line that is asked for, or it is one of a group that moves
 pub data Purpose : Type 0 where
@@ -125,3 +127,26 @@ walks sizes chip (line ∷ lines) =
     let first = walk sizes chip line in
     let rest = walks sizes first.chip lines in
     record { accesses = first.accesses ++ rest.accesses; chip = rest.chip }
+
+-- what is held after refills one after another
+abbrev pub held_below : ℕ → List ℕ → List ℕ → List ℕ
+held_below plb held [] = held
+held_below plb held (address ∷ below) = held_below plb (take plb (address ∷ held)) below
+
+-- What is held after a request for a line: by the held addresses and the line alone.
+abbrev pub held_after : WalkSizes → List ℕ → ℕ → List ℕ
+held_after sizes held line =
+    let above = ancestors sizes sizes.layers line in
+    held_below sizes.plb (looked_up held above) (reverse (missing held above))
+
+-- a position-map block of the shape
+abbrev pub IsMapBlock : WalkSizes → ℕ → Type 0
+IsMapBlock sizes address =
+    (address < layer_first sizes.lines sizes.layers)
+    × (family : ℕ × ℕ) × (children_of sizes.lines sizes.layers address ≡ Some family)
+
+-- What every list of held addresses is.
+pub record IsHeldList (sizes : WalkSizes) (held : List ℕ) : Type 0 where
+  pub fits : length held ≤ sizes.plb
+  pub distinct : AreDistinct held
+  pub blocks : (address : ℕ) → Has address held → IsMapBlock sizes address

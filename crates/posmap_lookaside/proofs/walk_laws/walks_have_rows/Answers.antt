@@ -8,26 +8,31 @@ use Rattle.posmap_lookaside.specs.Walk.{ancestors, accesses_of_all, walk_down, w
 use Rattle.posmap_lookaside.proofs.walk_laws.walks_have_rows.Goals as goal
 
 pub returns-clause-nine : goal.returns-clause-nine
-unfolding ancestors accesses_of_all walk_down walks asked_changes group_move siblings addresses_from counter_at after after_all
+unfolding ancestors accesses_of_all walk_down walks asked_changes group_move siblings addresses_from counter_at after
+    after_all
     parent_of children_of layer_of index_of greatest layer_first layer_count promoted_first without_first
 returns-clause-nine c = refl
 
 pub returns-clause-six : goal.returns-clause-six
-unfolding ancestors accesses_of_all walk_down walks asked_changes group_move siblings addresses_from counter_at after after_all
+unfolding ancestors accesses_of_all walk_down walks asked_changes group_move siblings addresses_from counter_at after
+    after_all
     parent_of children_of layer_of index_of greatest layer_first layer_count promoted_first without_first
 returns-clause-six c = refl
 
 pub returns-clause-one_move : goal.returns-clause-one_move
-unfolding ancestors accesses_of_all walk_down walks asked_changes group_move siblings addresses_from counter_at after after_all
+unfolding ancestors accesses_of_all walk_down walks asked_changes group_move siblings addresses_from counter_at after
+    after_all
     parent_of children_of layer_of index_of greatest layer_first layer_count promoted_first without_first
 returns-clause-one_move c = refl
 
 pub returns-clause-two_moves : goal.returns-clause-two_moves
-unfolding ancestors accesses_of_all walk_down walks asked_changes group_move siblings addresses_from counter_at after after_all
+unfolding ancestors accesses_of_all walk_down walks asked_changes group_move siblings addresses_from counter_at after
+    after_all
     parent_of children_of layer_of index_of greatest layer_first layer_count promoted_first without_first
 returns-clause-two_moves c = refl
 
 pub returns-clause-counts : goal.returns-clause-counts
-unfolding ancestors accesses_of_all walk_down walks asked_changes group_move siblings addresses_from counter_at after after_all
+unfolding ancestors accesses_of_all walk_down walks asked_changes group_move siblings addresses_from counter_at after
+    after_all
     parent_of children_of layer_of index_of greatest layer_first layer_count promoted_first without_first
 returns-clause-counts c = (refl, refl, refl, refl)
