@@ -1,16 +1,16 @@
 -- The addresses of held blocks.
-use Rattle.std.proofs.Common.{◌≡◌, ◌≢◌, ℕ, zero, suc, ◌+◌, ◌<◌, ◌≤◌, Bool, true, false, cond, if◌then◌else◌, nat_eq}
-use Rattle.std.proofs.Common.{List, [], ◌∷◌, ◌++◌, length, take, map, slice_get, option_map, Option, Some, None, IsNone}
+use Rattle.std.proofs.Common.{◌≡◌, ◌≢◌, ℕ, zero, suc, ◌+◌, ◌<◌, ◌≤◌, Bool, true, false, if◌then◌else◌, nat_eq}
+use Rattle.std.proofs.Common.{List, [], ◌∷◌, length, take, map, slice_get, option_map, Option, Some, None}
 use Rattle.std.proofs.Common.{is_some, refl, sym, ap, ◌∙◌, inl, inr, arith}
-use Rattle.std.specs.List.{list_any, find, count_by}
+use Rattle.std.specs.List.{find, count_by}
 use Rattle.std.specs.Option.{option_map_or}
 use Rattle.std.proofs.Common.{AllPairs, get_or}
 use Rattle.std.proofs.lemmas.List.Kept.{AllPairs-cons}
 use Rattle.std.proofs.lemmas.Bool.{cases_Bool}
 use Rattle.std.proofs.lemmas.Bool.Decides.{eqb_tells}
-use Rattle.asc_base.specs.Lookup.{without_first, changed_first, promoted_first}
+use Rattle.asc_base.specs.Lookup.{promoted_first}
 use Rattle.asc_base.specs.declared.block.Address.{Address}
-use Rattle.asc_base.proofs.Lookups.{find-yes, find-no, find-holds, count_by-cons, count_by-none, count_by-promoted}
+use Rattle.asc_base.proofs.Lookups.{find-yes, find-no, count_by-cons, count_by-promoted}
 use Rattle.asc_base.proofs.Lookups.{map-without_first, promoted_first-some, promoted_first-none}
 use Rattle.asc_base.proofs.Lookups.{changed_first-yes, changed_first-no, changed_first-none}
 use Rattle.posmap_counters.specs.Counters.{is_among}
@@ -117,7 +117,7 @@ count-absent (x ∷ list) address absent =
     yes_no e = cc
 
 -- what is taken of a list counts for no more than the list
-count-take : (p : ℕ → Bool) (n : ℕ) (list : List ℕ) → count_by p (take n list) ≤ count_by p list
+pub count-take : (p : ℕ → Bool) (n : ℕ) (list : List ℕ) → count_by p (take n list) ≤ count_by p list
 count-take p zero list = omega arith
 count-take p (suc n) [] = omega arith
 count-take p (suc n) (x ∷ list) =
@@ -187,7 +187,11 @@ distinct_apart (x ∷ list) distinct =
   where
     none : count_by (λ b. nat_eq b x) list ≡ 0
     none = elim (eqb_tells x x) [
-      | inl here ↦ omega (arith, distinct x, count_by-cons (λ b. nat_eq b x) x list,
-          ap {B = ℕ} (λ b. if b then 1 else 0) here.0)
+      | inl here ↦ omega (
+        arith,
+        distinct x,
+        count_by-cons (λ b. nat_eq b x) x list,
+        ap {B = ℕ} (λ b. if b then 1 else 0) here.0,
+      )
       | inr other ↦ absurd (other.1 refl)
     ]

@@ -1,5 +1,5 @@
 -- The values of held blocks.
-use Rattle.std.proofs.Common.{◌≡◌, ◌≢◌, ℕ, zero, suc, ◌+◌, ◌<◌, ◌≤◌, Bool, true, false, cond, if◌then◌else◌, nat_eq}
+use Rattle.std.proofs.Common.{◌≡◌, ◌≢◌, ℕ, zero, suc, ◌+◌, ◌≤◌, Bool, true, false, if◌then◌else◌, nat_eq}
 use Rattle.std.proofs.Common.{List, [], ◌∷◌, ◌++◌, length, take, slice_get, option_map, Option, Some, None, is_some}
 use Rattle.std.proofs.Common.{refl, sym, ap, ◌∙◌, subst, inl, inr, arith}
 use Rattle.std.specs.List.{find, count_by}
@@ -7,13 +7,13 @@ use Rattle.std.specs.Option.{option_map_or}
 use Rattle.std.proofs.lemmas.Bool.{cases_Bool}
 use Rattle.std.proofs.lemmas.Bool.Decides.{eqb_tells}
 use Rattle.asc_base.specs.declared.block.Address.{Address}
-use Rattle.asc_base.proofs.Lookups.{find-yes, find-no, find-append, find-none, find-holds, count_by-cons}
+use Rattle.asc_base.proofs.Lookups.{find-yes, find-no, find-append, find-none, count_by-cons}
 use Rattle.asc_base.proofs.Lookups.{find-changed, find-changed_other, find-promoted, find-promoted_other}
 use Rattle.posmap_counters.specs.Counters.{is_among}
 use Rattle.posmap_lookaside.specs.declared.held.Held.{Held}
 use Rattle.posmap_lookaside.specs.Addresses.{AreDistinct}
 use Rattle.posmap_lookaside.specs.Held.{is_of, held_at, promoted, changed, inserted, displaced, addresses_of}
-use Rattle.posmap_lookaside.proofs.AddressLaws.{count-map, is_some-held_at, front_distinct, put_counts}
+use Rattle.posmap_lookaside.proofs.AddressLaws.{count-map, front_distinct, put_counts}
 use Rattle.posmap_lookaside.proofs.AddressLaws.{addresses_of-inserted, addresses_of-displaced}
 
 eq_of : (x y : ℕ) → nat_eq x y ≡ true → x ≡ y
@@ -54,7 +54,11 @@ pub changed_other : (change : Held → Held) (list : List Held) (a b : Address)
     → held_at (changed change list a) b ≡ held_at list b
 changed_other change list a b keeps apart =
     find-changed_other change (is_of a) (is_of b) list
-    (λ held here. (of_one a b apart held here, ap (λ (x : Address). nat_eq x.0 b.0) (keeps held) ∙ of_one a b apart held here))
+    (λ held here. (
+      of_one a b apart held here,
+      ap (λ (x : Address). nat_eq x.0 b.0) (keeps held)
+          ∙ of_one a b apart held here,
+    ))
 
 -- the block that is inserted
 pub inserted_at : (capacity : ℕ) (held : Held) (list : List Held) → 1 ≤ capacity
@@ -122,7 +126,8 @@ gone_count capacity held last list fits at distinct absent =
     let both = put_counts p capacity (addresses_of list) held.address.0 (omega (arith, length-map list)) in
     let next : slice_get (held.address.0 ∷ addresses_of list) capacity ≡ Some last.address.0 =
     sym (addresses_of-displaced capacity held list) ∙ ap (option_map (λ (h : Held). h.address.0)) at in
-    let one : option_map_or (λ a. (if p a then 1 else 0)) (slice_get (held.address.0 ∷ addresses_of list) capacity) 0 ≡ 1 =
+    let one : option_map_or (λ a. (if p a then 1 else 0)) (slice_get (held.address.0 ∷ addresses_of list) capacity) 0
+    ≡ 1 =
     ap (λ (o : Option ℕ). option_map_or (λ a. (if p a then 1 else 0)) o 0) next
     ∙ ap {B = ℕ} (λ b. if b then 1 else 0) (same_of last.address.0 last.address.0 refl) in
     let same : count_by (is_of last.address) (inserted capacity held list)
@@ -140,7 +145,8 @@ pub inserted_gone : (capacity : ℕ) (held last : Held) (list : List Held) → l
     → is_among (addresses_of list) held.address.0 ≡ false
     → held_at (inserted capacity held list) last.address ≡ None
 inserted_gone capacity held last list fits at distinct absent =
-    find-none (is_of last.address) (inserted capacity held list) (gone_count capacity held last list fits at distinct absent)
+    find-none (is_of last.address) (inserted capacity held list)
+    (gone_count capacity held last list fits at distinct absent)
 
 -- and was held before
 pub inserted_last : (capacity : ℕ) (held last : Held) (list : List Held) → 1 ≤ capacity → length list ≤ capacity
@@ -150,7 +156,8 @@ inserted_last zero held last list some fits at distinct absent = absurd (omega a
 inserted_last (suc n) held last list some fits at distinct absent =
     let kept : List Held = inserted (suc n) held list in
     let gone = inserted_gone (suc n) held last list fits at distinct absent in
-    let none : count_by (is_of last.address) (held ∷ take n list) ≡ 0 = gone_count (suc n) held last list fits at distinct absent in
+    let none : count_by (is_of last.address) (held ∷ take n list) ≡ 0 =
+    gone_count (suc n) held last list fits at distinct absent in
     let parts = count_by-cons (is_of last.address) held (take n list) in
     let other : is_of last.address held ≡ false =
     elim (cases_Bool (is_of last.address held)) [

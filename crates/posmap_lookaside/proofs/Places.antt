@@ -1,8 +1,9 @@
 -- A held block by its place.
 use Rattle.std.proofs.Common.{◌≡◌, ℕ, ◌+◌, List, ◌∷◌, ◌++◌, Some, None, take, drop, set, get_or, position, is_some}
-use Rattle.std.proofs.Common.{true, false, option_map, refl, sym, ap, ◌∙◌}
+use Rattle.std.proofs.Common.{true, false, sym, ap, ◌∙◌}
 use Rattle.asc_base.specs.declared.block.Address.{Address}
-use Rattle.asc_base.proofs.Lookups.{find-place, find-absent, without_first-place, changed_first-place, changed_first-none}
+use Rattle.asc_base.proofs.Lookups.{find-place, find-absent, without_first-place, changed_first-place}
+use Rattle.asc_base.proofs.Lookups.{changed_first-none}
 use Rattle.asc_base.proofs.Lookups.{promoted_first-some, promoted_first-none}
 use Rattle.posmap_lookaside.specs.declared.held.Held.{Held}
 use Rattle.posmap_lookaside.specs.Held.{is_of, held_at, promoted, changed}

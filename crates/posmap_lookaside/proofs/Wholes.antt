@@ -1,17 +1,16 @@
 -- Buffers stay buffers.
-use Rattle.std.proofs.Common.{◌≡◌, ℕ, suc, ◌+◌, ◌≤◌, Bool, true, false, List, [], ◌∷◌, length, take, min, nat_eq}
+use Rattle.std.proofs.Common.{◌≡◌, ℕ, suc, false, List, [], ◌∷◌, length, nat_eq}
 use Rattle.std.proofs.Common.{Option, Some, None, IsNone, is_some, refl, sym, ap, ◌∙◌, subst, arith}
 use Rattle.std.proofs.Common.{Result, Ok, Err, OnOk, OnErr}
 use Rattle.std.specs.List.{find}
 use Rattle.std.proofs.lemmas.List.{length-take}
-use Rattle.asc_base.specs.Lookup.{promoted_first}
 use Rattle.asc_base.specs.declared.block.Address.{Address}
 use Rattle.asc_base.specs.declared.stop.NoMemory.{NoMemory}
 use Rattle.asc_base.proofs.Lookups.{length-without_first, promoted_first-some, promoted_first-none}
 use Rattle.posmap_counters.specs.Counters.{is_among}
 use Rattle.posmap_lookaside.specs.declared.held.Held.{Held}
 use Rattle.posmap_lookaside.specs.Addresses.{used, AreDistinct}
-use Rattle.posmap_lookaside.specs.Held.{is_of, held_at, promoted, changed, inserted, addresses_of}
+use Rattle.posmap_lookaside.specs.Held.{held_at, promoted, changed, inserted, addresses_of}
 use Rattle.posmap_lookaside.specs.Lookaside.{LookasideState, IsLookaside}
 use Rattle.posmap_lookaside.proofs.AddressLaws.{addresses_of-promoted, addresses_of-changed, addresses_of-inserted}
 use Rattle.posmap_lookaside.proofs.AddressLaws.{is_some-held_at, used_distinct, put_distinct}
@@ -27,8 +26,11 @@ length-used list address = by (find (λ a. nat_eq a address) list) refl
     by : (found : Option ℕ) → find (λ a. nat_eq a address) list ≡ found → length (used list address) ≡ length list
     by None none = ap length (promoted_first-none (λ a. nat_eq a address) list none)
     by (Some x) found =
-        omega (arith, ap length (promoted_first-some (λ a. nat_eq a address) list x found),
-        length-without_first (λ a. nat_eq a address) list x found)
+        omega (
+          arith,
+          ap length (promoted_first-some (λ a. nat_eq a address) list x found),
+          length-without_first (λ a. nat_eq a address) list x found,
+        )
 
 pub none_absent : (list : List Held) (address : Address) → IsNone (held_at list address)
     → is_among (addresses_of list) address.0 ≡ false
@@ -48,8 +50,14 @@ promoted_whole s address list now is =
     let used_is = ap addresses_of now ∙ addresses_of-promoted s.list address in
     record {
       some = is.some;
-      fits = omega (arith, is.fits, length-addresses list, ap length used_is,
-          length-used (addresses_of s.list) address.0, length-addresses s.list);
+      fits = omega (
+        arith,
+        is.fits,
+        length-addresses list,
+        ap length used_is,
+        length-used (addresses_of s.list) address.0,
+        length-addresses s.list,
+      );
       distinct = subst AreDistinct (sym used_is) (used_distinct (addresses_of s.list) address.0 is.distinct);
     }
 

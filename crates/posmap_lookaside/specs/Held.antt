@@ -1,5 +1,5 @@
--- Held blocks, the most recent first. Of several with one address the first counts; a caller keeps the addresses distinct
--- by inserting only a block whose address isn't held.
+-- Held blocks, the most recent first. Of several with one address the first counts; a caller keeps the addresses
+-- distinct by inserting only a block whose address isn't held.
 use Rattle.std.specs.Prelude.{ℕ, nat_eq, Bool, List, ◌∷◌, map, find, Option, take, slice_get}
 use Rattle.asc_base.specs.Lookup.{changed_first, promoted_first}
 use Rattle.asc_base.specs.declared.block.Address.{Address}

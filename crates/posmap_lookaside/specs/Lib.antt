@@ -1,3 +1,5 @@
 pub mod Addresses
 pub mod Held
 pub mod Lookaside
+pub mod Walk
+pub mod Rows

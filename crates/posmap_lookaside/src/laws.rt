@@ -1,6 +1,6 @@
 //! Laws of held blocks and their addresses. The functions do nothing: each states laws in its contract.
 
-ghost use Rattle.std.specs.Prelude.{◌≡◌, ◌≢◌, ℕ, ◌+◌, ◌≤◌, Bool, false, nat_eq, if◌then◌else◌, List, ◌∷◌, length, take};
+ghost use Rattle.std.specs.Prelude.{◌≡◌, ◌≢◌, ℕ, ◌+◌, ◌≤◌, Bool, false, nat_eq, if◌then◌else◌, List, [], ◌∷◌, length, take};
 ghost use Rattle.std.specs.Prelude.{slice_get, count_by, AllPairs, option_map, is_some, None, Some};
 ghost use Rattle.std.specs.Option.{option_map_or};
 ghost use Rattle.asc_base.specs.declared.block.Address.{Address};
@@ -8,6 +8,7 @@ ghost use Rattle.posmap_counters.specs.Counters.{is_among};
 ghost use Rattle.posmap_lookaside.specs.declared.held.Held.{Held};
 ghost use Rattle.posmap_lookaside.specs.Held.{held_at, promoted, changed, inserted, displaced, addresses_of};
 ghost use Rattle.posmap_lookaside.specs.Addresses.{used, AreDistinct};
+ghost use Rattle.posmap_lookaside.specs.Rows.{block};
 
 /// A block is held where its address is in the list; finding a block uses its address, which goes first; a change that
 /// keeps each block's address keeps the addresses; a block that is inserted goes first, and what is past the capacity
@@ -70,4 +71,17 @@ pub fn held_blocks_keep_values()
         → displaced capacity held list ≡ Some last → AreDistinct (addresses_of list)
         → is_among (addresses_of list) held.address.0 ≡ false
         → held_at (inserted capacity held list) last.address ≡ None }
+{}
+
+/// The definitions on a list of blocks 2 and 1 with room for two: block 1 that is found goes first; block 3 that is inserted
+/// displaces block 1; a block that isn't held leaves the list. A list that has an address twice isn't distinct.
+pub fn laws_have_instances()
+    ensures promoted { promoted (block 2 ∷ block 1 ∷ []) (record { 0 = 1 }) ≡ block 1 ∷ block 2 ∷ [] }
+    ensures absent { promoted (block 2 ∷ block 1 ∷ []) (record { 0 = 3 }) ≡ block 2 ∷ block 1 ∷ [] }
+    ensures inserted { inserted 2 (block 3) (block 2 ∷ block 1 ∷ []) ≡ block 3 ∷ block 2 ∷ [] }
+    ensures displaced { displaced 2 (block 3) (block 2 ∷ block 1 ∷ []) ≡ Some (block 1) }
+    ensures gone { held_at (inserted 2 (block 3) (block 2 ∷ block 1 ∷ [])) (record { 0 = 1 }) ≡ None }
+    ensures used { used (2 ∷ 1 ∷ []) 1 ≡ 1 ∷ 2 ∷ [] }
+    ensures distinct { AreDistinct (2 ∷ 1 ∷ []) }
+    ensures twice { AreDistinct (1 ∷ 1 ∷ []) → ⊥ }
 {}

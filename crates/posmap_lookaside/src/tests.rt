@@ -28,7 +28,9 @@ fn keeps_the_order_of_use(rt: HostRuntime) -> Result<(), Fail> {
     assert!(rt; put(&mut buffer, block(1, 10))? == None);
     assert!(rt; put(&mut buffer, block(2, 20))? == None);
     assert!(rt; buffer.find(Address(1)) == Some(block(1, 10).group));
+    assert!(rt; buffer.group(Address(2)) == Some(block(2, 20).group));
     assert!(rt; put(&mut buffer, block(3, 30))? == Some(block(2, 20)));
+    assert!(rt; buffer.group(Address(2)) == None);
     assert!(rt; buffer.set_group(Address(1), block(1, 11).group));
     assert!(rt; !buffer.set_group(Address(2), block(1, 11).group));
     assert!(rt; put(&mut buffer, block(4, 40))? == Some(block(1, 11)));

@@ -6,7 +6,8 @@ use Rattle.posmap_lookaside.proofs.lookaside.regroup.Goals as goal
 pub returns-in-Some-clause-held : goal.returns-in-Some-clause-held
 returns-in-Some-clause-held c =
     let at = sym (c.place_of.ensures ∙ ap (position (is_of c.args.address)) c.deref.ensures.value) ∙ c.in-Some.is in
-    placed-is_some c.args.list.now.items c.args.address c.in-Some.place c.index_mut.result.now at c.index_mut.ensures.value
+    placed-is_some c.args.list.now.items c.args.address c.in-Some.place c.index_mut.result.now at
+    c.index_mut.ensures.value
 
 pub returns-in-Some-clause-list : goal.returns-in-Some-clause-list
 returns-in-Some-clause-list c =

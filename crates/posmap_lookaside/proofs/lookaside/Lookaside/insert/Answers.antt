@@ -1,6 +1,5 @@
 use Rattle.std.proofs.Common.{IsNone, sym, subst}
 use Rattle.posmap_lookaside.specs.Held.{held_at}
-use Rattle.posmap_lookaside.specs.Lookaside.{LookasideState}
 use Rattle.posmap_lookaside.proofs.Wholes.{inserted_whole}
 use Rattle.posmap_lookaside.proofs.lookaside.Lookaside.insert.Goals as goal
 
