@@ -1,5 +1,5 @@
 use Rattle.request_plan.proofs.Chains.{Ends-bind, Stops-bind, Stops-bind-next, Ends-unbind, Stops-unbind}
-use Rattle.request_plan.proofs.one_after_another.Goals as goal
+use Rattle.request_plan.proofs.laws.one_after_another.Goals as goal
 
 pub returns-clause-ends : goal.returns-clause-ends
 returns-clause-ends g c = Ends-bind (g.S.Stepped.step)
