@@ -1,16 +1,14 @@
 -- The press and the folder meet what the laws ask of single steps.
-use Rattle.std.proofs.Common.{◌≡◌, ◌⊎◌, ℕ, zero, suc, ◌+◌, ◌-◌, ◌*◌, ◌<◌, Bool, true, false, if◌then◌else◌, List, [], ◌∷◌, ◌++◌, Option, Some, None, Result, Ok, Err, refl, sym, ap, subst, inl, inr, ◌∙◌, append_assoc, append-nil, arith}
+use Rattle.std.proofs.Common.{◌≡◌, ℕ, zero, suc, ◌+◌, ◌-◌, ◌*◌, ◌<◌, Bool, true, false, if◌then◌else◌, [], ◌∷◌, ◌++◌, Some, None, Ok, Err, refl, sym, ap, subst, inl, inr, ◌∙◌, append-nil, arith}
 use Rattle.std.proofs.lemmas.Grind.{flat_map-append}
 use Rattle.std.specs.List.{flat_map}
-use Rattle.request_plan.specs.Plan.{Plan, Done, Ask, Ends, Stops, ComesTo}
-use Rattle.request_plan.specs.Play.{Turn, Played, play, bare, halt}
-use Rattle.request_plan.specs.Course.{Notes}
+use Rattle.request_plan.specs.Plan.{Ends, Stops, ComesTo}
+use Rattle.request_plan.specs.Play.{Turn, play, bare, halt}
 use Rattle.request_plan.specs.Laws.{AnswersKeep, Within, EndsBelow, StopsBelow, Tells, NotesAnswers, StopsUnnoted, StaysClean, TakesTurns, CutsTurns, EndsTurns, StaysQuiet}
 use Rattle.request_plan.specs.Press.{PressState, loaded, with_sheet, Prints, IsSound, IsFew, sheets_to, pages_of, pages, IsFirstPage, IsJam, IsOut, shift_of, shift, IsLike, IsEmpty, told_sheets, count_sheet, numbers, FolderState, leaflet_plan, Folds, hand_out, sheets_plan}
-use Rattle.request_plan.specs.declared.press.Halted.{Halted}
 use Rattle.request_plan.specs.declared.press.Halted.TheVariants.{NoPaper, Jammed}
-use Rattle.request_plan.proofs.Plays.{IsCut, Ends-follows, Stops-follows, Stops-late}
-use Rattle.request_plan.proofs.Keeps.{Ends-narrows, Stops-narrows}
+use Rattle.request_plan.proofs.Plays.{IsCut, Stops-follows, Stops-late}
+use Rattle.request_plan.proofs.Keeps.{Stops-narrows}
 
 -- after an answer
 after-sheet : (s t : PressState) → t ≡ with_sheet s → (t.sheets ≡ s.sheets + 1) × (t.paper ≡ s.paper - 1) × (t.jammed ≡ s.jammed)
@@ -82,9 +80,11 @@ press-cuts s t q Jammed h jam few held (sheets, paper) =
       | inl jammed ↦ absurd (let never : true ≡ false = sym jammed ∙ h.0 in cc)
       | inr fresh ↦ fresh.1
     ] in
-    let turn = shift-some n (held.1) (omega (arith, some, paper)) in
-    (
-      [], n + 1, [], (2 * (n + 1)) ∷ [],
+    let turn = shift-some n (held.1) (omega (arith, some, paper)) in (
+      [],
+      n + 1,
+      [],
+      (2 * (n + 1)) ∷ [],
       ap (λ (turn : Turn ℕ (ℕ × ℕ) ℕ). turn.records) turn,
       pages-jammed s t n ((h.1).0) (h.0) sheets ∙ ap (λ l. l ++ (2 * (n + 1)) ∷ []) (sym (append-nil (pages s))),
       refl,
@@ -124,8 +124,7 @@ pub press-tells : Tells (Within IsSound Prints) told_sheets count_sheet
 press-tells s t q x h held e =
     let after = after-sheet s t ((h.1).3) in
     let now : told_sheets t ≡ Some t.sheets = ap (λ b. if b then None else Some t.sheets) (after.2 ∙ h.0) in
-    let same : t.sheets ≡ held = cc in
-    (
+    let same : t.sheets ≡ held = cc in (
       s.sheets,
       ap (λ b. if b then None else Some s.sheets) (h.0),
       ap (λ k. (k, s.sheets + 1)) (sym ((h.1).4)) ∙ ap (λ k. (x, k)) (sym after.0 ∙ same),
@@ -149,16 +148,22 @@ after_two = record { sheets = 2; paper = 1; sound = 0; jammed = false }
 
 pub two_sheets : Ends Prints (sheets_plan 2) (loaded 3 2) after_two 2
 two_sheets = (
-  1, with_sheet (loaded 3 2), (refl, omega arith, omega arith, refl, refl),
+  1,
+  with_sheet (loaded 3 2),
+  (refl, omega arith, omega arith, refl, refl),
   (2, after_two, (refl, omega arith, omega arith, refl, refl), (refl, refl)),
 )
 
 -- The third is cut: its first page was printed, and one sheet was left to do.
 pub third_is_cut : Stops Prints (sheets_plan 3) (loaded 3 2) (record after_two { jammed = true }) Jammed 1
 third_is_cut = inr (
-  1, with_sheet (loaded 3 2), (refl, omega arith, omega arith, refl, refl),
+  1,
+  with_sheet (loaded 3 2),
+  (refl, omega arith, omega arith, refl, refl),
   inr (
-    2, after_two, (refl, omega arith, omega arith, refl, refl),
+    2,
+    after_two,
+    (refl, omega arith, omega arith, refl, refl),
     inl ((refl, inr (refl, omega arith, refl)), refl),
   ),
 )
@@ -182,9 +187,13 @@ out_of_paper = record { sheets = 2; paper = 0; sound = 7; jammed = false }
 
 pub third_is_late : Stops Prints (sheets_plan 3) (loaded 2 9) out_of_paper NoPaper 1
 third_is_late = inr (
-  1, with_sheet (loaded 2 9), (refl, omega arith, omega arith, refl, refl),
+  1,
+  with_sheet (loaded 2 9),
+  (refl, omega arith, omega arith, refl, refl),
   inr (
-    2, out_of_paper, (refl, omega arith, omega arith, refl, refl),
+    2,
+    out_of_paper,
+    (refl, omega arith, omega arith, refl, refl),
     inl ((refl, refl, refl), refl),
   ),
 )

@@ -1,6 +1,6 @@
 -- A layer T whose every step is a chain of steps of what is below it: its chains are chains of what is below.
-use Rattle.std.proofs.Common.{◌≡◌, ◌⊎◌, Result, Ok, Err, refl, sym, ap, subst, inl, inr}
-use Rattle.request_plan.specs.Plan.{Plan, Done, Ask, Ends, Stops, through, Reply, Refuses, Gives, Caught, Refused, Ended, caught, ComesTo}
+use Rattle.std.proofs.Common.{◌⊎◌, Result, Err, refl, sym, ap, subst, inl, inr}
+use Rattle.request_plan.specs.Plan.{Plan, Done, Ask, Ends, Stops, through, Reply, Refuses, Gives, Refused, Ended, caught, ComesTo}
 use Rattle.request_plan.specs.Laws.{EndsBelow, StopsBelow, GivesBelow, RefusesBelow}
 use Rattle.request_plan.proofs.Chains.{Ends-bind, Stops-bind, Stops-bind-next}
 
@@ -83,22 +83,22 @@ module _ {S Q X P Y E F T H C L : Type 0}
         | inl refused ↦ inl (
             subst (λ y. Ends step (caught serve (Ask q c k) (held s)) (below s) (below t) (Refused (refusal e) y)) (sym h.1)
             (Ends-bind step _ (serve (held s) q) _ (below s) (below t) (below t) (Refuses (refusal e)) _ refused (refl, refl))
-          )
+            )
         | inr stopped ↦ inr (
             subst (λ y. Stops step (caught serve (Ask q c k) (held s)) (below s) (below t) (cause e) (left t, y)) (sym h.1)
             (Stops-bind step _ (serve (held s) q) _ (below s) (below t) (cause e) (left t) stopped)
-          )
+            )
       ]
   Stops-either left refusal cause each (Ask q c k) s t e b (inr h) =
       elim (Stops-either left refusal cause each (k (h.0)) (h.1) t e b (h.3)) [
         | inl refused ↦ inl (
             Ends-bind step _ (serve (held s) q) _ (below s) (below (h.1)) (below t) (Gives (held (h.1)) (h.0)) _
             (ends s (h.1) q (h.0) (h.2)) refused
-          )
+            )
         | inr stopped ↦ inr (
             Stops-bind-next step _ (serve (held s) q) _ (below s) (below (h.1)) (below t) (Gives (held (h.1)) (h.0)) (cause e) _
             (ends s (h.1) q (h.0) (h.2)) stopped
-          )
+            )
       ]
 
 -- A layer that is defined by its plans: each request comes to what its plan comes to.

@@ -8,7 +8,6 @@ ghost use Rattle.request_plan.specs.Course.{Source, Finished, course, after_cour
 ghost use Rattle.request_plan.specs.Laws.{AnswersKeep, Within, EndsBelow, StopsBelow, GivesBelow, RefusesBelow, Tells, NotesAnswers};
 ghost use Rattle.request_plan.specs.Laws.{StopsUnnoted, StaysClean, TakesTurns, CutsTurns, EndsTurns, StaysQuiet, AnswersCarry};
 ghost use Rattle.request_plan.specs.Laws.{StopsCarry};
-
 ghost use Rattle.request_plan.specs.Press.{PressState, loaded, Prints, IsSound, IsFew, sheets_to, pages_of, pages, IsFirstPage};
 ghost use Rattle.request_plan.specs.Press.{IsJam, IsOut, shift, IsLike, IsEmpty, told_sheets, count_sheet, numbers, FolderState};
 ghost use Rattle.request_plan.specs.Press.{leaflet_plan, Folds, sheets_plan, with_sheet, hand_out};

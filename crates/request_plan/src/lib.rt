@@ -27,15 +27,15 @@
 mod laws;
 pub mod press;
 
+ghost use Rattle.std.specs.Prelude.{List, Result};
+ghost use Rattle.request_plan.specs.Plan.{Plan};
+
 pub use laws::{
     carried_along, invariant_kept, noted_is_run, one_after_another, one_run_after_another,
     outcomes_and_requests, play_or_cut, press_meets_the_laws, through_a_layer,
     through_a_refusing_layer, told_is_served,
 };
 pub use press::{Folder, Halted, Press};
-
-ghost use Rattle.std.specs.Prelude.{List, Result};
-ghost use Rattle.request_plan.specs.Plan.{Plan};
 
 /// A value that is asked, and answers or is stopped.
 pub trait Stepped {

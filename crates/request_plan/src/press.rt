@@ -140,10 +140,7 @@ impl Folder {
     pub fn new(press: Press) -> Folder
         ensures { result ≡ record { press = press; leaflets = 0 } }
     {
-        Folder {
-            press,
-            leaflets: 0,
-        }
+        Folder { press, leaflets: 0 }
     }
 
     /// Makes a leaflet: two sheets, one after the other; the number of the second. A leaflet that was stopped doesn't count,
@@ -179,10 +176,10 @@ mod tests {
     use super::{Folder, Halted, Press};
 
     #[test]
-    fn folds_until_it_jams() {
+    fn folds_until_it_jams(rt: HostRuntime) {
         let mut folder = Folder::new(Press::new(9, 3));
-        assert_eq!(folder.fold(), Ok(2));
-        assert_eq!(folder.fold(), Err(Halted::Jammed));
-        assert_eq!(folder.fold(), Err(Halted::Jammed));
+        assert_eq!(rt; folder.fold(), Ok(2));
+        assert_eq!(rt; folder.fold(), Err(Halted::Jammed));
+        assert_eq!(rt; folder.fold(), Err(Halted::Jammed));
     }
 }
