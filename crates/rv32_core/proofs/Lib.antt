@@ -6,7 +6,7 @@ pub mod ItemLaws
 pub mod LineLaws
 pub mod OutputLaws
 pub mod PlanLaws
-pub mod Rows
+pub mod LineRows
 pub mod RunLaws
 pub mod Served
 pub mod StepLines

@@ -1,4 +1,4 @@
-use Rattle.rv32_core.proofs.Rows.{exits, traps, exits-run}
+use Rattle.rv32_core.proofs.LineRows.{exits, traps, exits-run}
 use Rattle.rv32_core.proofs.laws.worked_line_lists.Goals as goal
 
 pub returns-clause-exits : goal.returns-clause-exits
