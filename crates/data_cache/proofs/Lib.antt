@@ -1,0 +1,4 @@
+pub mod SetLaws
+pub mod Parts
+pub mod KeptLaws
+pub mod MirrorLaws
