@@ -1,19 +1,17 @@
 -- A set of a cache and its lists go on alike.
-use Rattle.std.proofs.Common.{zero, suc, ◌≡◌, ℕ, ◌+◌, ◌-◌, ◌*◌, ◌%◌, ◌<◌, ◌≤◌, Bool, true, false, cond, not, ◌==◌, ◌||◌, ◌&&◌, if◌then◌else◌, List, [], ◌∷◌, ◌++◌, Option, Some, None, length, take, drop, map, slice_get, slice_set, refl, sym, ap, subst, ◌∙◌, arith, inl, inr, eqb-true, eq-eqb, length-take, length-set}
+use Rattle.std.proofs.Common.{zero, suc, ◌≡◌, ℕ, ◌+◌, ◌-◌, ◌*◌, ◌%◌, ◌<◌, ◌≤◌, Bool, true, false, cond, not, ◌==◌, ◌||◌, ◌&&◌, if◌then◌else◌, List, [], ◌∷◌, Option, Some, None, length, take, slice_get, slice_set, refl, sym, ap, subst, ◌∙◌, arith, inl, inr, eqb-true, eq-eqb, length-take, length-set}
 use Rattle.std.proofs.lemmas.List.{map-set, take-map, take-set, length-map}
 use Rattle.std.proofs.Math.Seq.{map-set_same}
 use Rattle.std.proofs.lemmas.Bool.Decides.{eqb_tells}
 use Rattle.std.proofs.lemmas.Option.{slice_get-map, get_or_from_slice_get}
 use Rattle.std.specs.Option.{option_map}
-use Rattle.std.specs.List.{list_any}
-use Rattle.std.specs.Prelude.{filter}
 use Rattle.asc_base.specs.declared.block.Line.{Line}
 use Rattle.request_plan.specs.Plan.{Plan, Done, Ask, bind, Alike}
 use Rattle.rv32_core.specs.Access.{spliced, length-spliced}
-use Rattle.rv32_core.specs.LineList.{LineKind, Read, Write, WholeWrite, LineUse}
+use Rattle.rv32_core.specs.LineList.{LineKind, WholeWrite}
 use Rattle.data_cache.specs.Lines.{LineRequest, Fetch, Store, IsLineAnswer}
-use Rattle.data_cache.specs.CacheLists.{Kept, changes, needs, keeps, keeps_dirty, others, set_after, victim, line_in, stored, fetched, set_settled, ask_all, use_set}
-use Rattle.data_cache.specs.Contents.{find_line, without, settled, settle, obtained, obtain, replaced, replace}
+use Rattle.data_cache.specs.CacheLists.{Kept, changes, needs, keeps, keeps_dirty, others, set_after, victim, line_in, stored, set_settled, ask_all, use_set}
+use Rattle.data_cache.specs.Contents.{find_line, without, settled, obtained, obtain, replaced, replace}
 use Rattle.data_cache.specs.Mirror.{marks, pairs, NotIn, Fit}
 use Rattle.data_cache.specs.declared.set.Held.{Held}
 use Rattle.data_cache.proofs.Parts.{line-patched, other-patched}
@@ -143,8 +141,16 @@ module _ (sets k lines : ℕ) where
   hit-at n mem w ws h false t e f ih =
       let r : Hit n mem ws h = ih e in
       let ne : w.line ≡ n → ⊥ = λ q. (let y : (w.line == n) ≡ true = eq-eqb (w.line) n q in cc) in (
-        r.0, r.1, r.2, ap (λ (ms : List Kept). mark w ∷ ms) (r.3), r.4, r.5, r.6, (ne, r.7),
-        (f.0, f.1, f.2, NotIn-without n (w.line) ws (f.3), r.8), ap suc (r.9),
+        r.0,
+        r.1,
+        r.2,
+        ap (λ (ms : List Kept). mark w ∷ ms) (r.3),
+        r.4,
+        r.5,
+        r.6,
+        (ne, r.7),
+        (f.0, f.1, f.2, NotIn-without n (w.line) ws (f.3), r.8),
+        ap suc (r.9),
       )
 
   pub hit : (n : ℕ) (mem : List ℕ) (l : List Held) (h : Held) → find_line n l ≡ Some h → Fit sets k lines mem (pairs l) → Hit n mem l h
@@ -167,7 +173,7 @@ module _ (sets k lines : ℕ) where
   uses_at ways n ms mem v test a =
       bind (λ left. left) (ask_all ms mem (stored mem v))
       (λ now. bind (λ left. left) (ask_all (set_settled ways ms v) now (if test then Fetch n ∷ [] else []))
-        (λ brought. Done (a, brought)))
+      (λ brought. Done (a, brought)))
 
   use_is : (ways n : ℕ) (ms : List Kept) (mem : List ℕ) (kind : LineKind) (v : Option Kept) (test : Bool) (a : List Kept)
       → victim ways ms n ≡ v → (needs kind && not (keeps ms n)) ≡ test
@@ -227,7 +233,9 @@ module _ (sets k lines : ℕ) where
         refl,
         ap (λ (ms : List Kept). record { line = n; dirty = changes kind } ∷ ms) marked,
         (
-          at, lt, line-patched mem n bytes long room,
+          at,
+          lt,
+          line-patched mem n bytes long room,
           subst (NotIn n) (sym kept) (NotIn-take (ways - 1) n (pairs l) out),
           subst (Fit sets k lines (spliced mem (64 * n) bytes)) (sym kept)
               (Fit-other n mem (spliced mem (64 * n) bytes) (take (ways - 1) (pairs l)) other
@@ -305,8 +313,11 @@ module _ (sets k lines : ℕ) where
         r.0,
         ap (λ z. record { line = z; dirty = h.dirty || changes kind } ∷ marks (without n l)) (sym (r.0)),
         (
-          ap (λ z. z % sets) (r.0) ∙ at, subst (λ z. z < lines) (sym (r.0)) lt, ap (line_in mem) (r.0) ∙ r.6,
-          subst (λ z. NotIn z (pairs (without n l))) (sym (r.0)) (r.7), r.8,
+          ap (λ z. z % sets) (r.0) ∙ at,
+          subst (λ z. z < lines) (sym (r.0)) lt,
+          ap (line_in mem) (r.0) ∙ r.6,
+          subst (λ z. NotIn z (pairs (without n l))) (sym (r.0)) (r.7),
+          r.8,
         ),
         (refl, λ m ne. refl),
         (let all : suc (length (without n l)) ≤ ways = omega (arith, r.9, fits) in all),

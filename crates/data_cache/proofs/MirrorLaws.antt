@@ -1,14 +1,14 @@
 -- A cache and its lists over a list of bytes ask alike, and stand for the same bytes after each call.
-use Rattle.std.proofs.Common.{zero, suc, ◌≡◌, ◌⊎◌, ℕ, ◌+◌, ◌-◌, ◌*◌, ◌%◌, ◌<◌, ◌≤◌, Bool, true, false, cond, not, ◌||◌, ◌&&◌, List, [], ◌∷◌, ◌++◌, Option, Some, None, length, take, drop, map, get_or, set, slice_get, slice_set, refl, sym, ap, subst, ◌∙◌, arith, inl, inr, length-set, get_or-set_same, get_or-set_other}
+use Rattle.std.proofs.Common.{◌≡◌, ◌⊎◌, ℕ, ◌+◌, ◌*◌, ◌%◌, ◌<◌, ◌≤◌, List, [], ◌∷◌, ◌++◌, length, take, drop, map, get_or, set, refl, sym, ap, subst, ◌∙◌, arith, inl, inr, length-set, get_or-set_same, get_or-set_other}
 use Rattle.std.proofs.lemmas.List.{map-set, length-map, get_or-map}
 use Rattle.std.proofs.lemmas.Bool.Decides.{eqb_tells}
 use Rattle.asc_base.specs.declared.block.Line.{Line}
-use Rattle.request_plan.specs.Plan.{Plan, Done, Ask, bind, Alike}
+use Rattle.request_plan.specs.Plan.{Alike}
 use Rattle.request_plan.proofs.Alike.{Alike-bind}
-use Rattle.rv32_core.specs.Access.{slice_of, spliced, length-spliced}
-use Rattle.rv32_core.specs.LineList.{LineKind, Read, Write, WholeWrite}
-use Rattle.data_cache.specs.Lines.{LineRequest, IsLineAnswer}
-use Rattle.data_cache.specs.CacheLists.{Kept, Sets, Lines, set_of, with_kept, line_in, after_use, use_set, read_lines, write_lines, write_whole_line}
+use Rattle.rv32_core.specs.Access.{spliced, length-spliced}
+use Rattle.rv32_core.specs.LineList.{Read, Write, WholeWrite}
+use Rattle.data_cache.specs.Lines.{IsLineAnswer}
+use Rattle.data_cache.specs.CacheLists.{Kept, Sets, Lines, set_of, with_kept, line_in, use_set, read_lines, write_lines, write_whole_line}
 use Rattle.data_cache.specs.Contents.{Contents, held_in, with_set, obtain, replace, first_bytes, written, read_plan, write_plan, write_line_plan}
 use Rattle.data_cache.specs.Mirror.{marks, pairs, NotIn, Fit, Mirrors}
 use Rattle.data_cache.specs.declared.set.Held.{Held}

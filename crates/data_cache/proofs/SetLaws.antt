@@ -1,11 +1,11 @@
-use Rattle.std.proofs.Common.{zero, suc, ◌≡◌, ℕ, ◌+◌, ◌-◌, ◌<◌, ◌≤◌, ◌%◌, Bool, true, false, cond, ◌==◌, List, [], ◌∷◌, ◌++◌, Option, Some, None, length, take, drop, map, get_or, set, slice_get, slice_set, refl, sym, ap, subst, ◌∙◌, arith, Result}
+use Rattle.std.proofs.Common.{zero, suc, ◌≡◌, ℕ, ◌+◌, ◌<◌, ◌%◌, List, [], ◌∷◌, ◌++◌, length, take, drop, map, get_or, set, refl, sym, ap, subst, ◌∙◌, Result}
 use Rattle.std.specs.List.{All}
 use Rattle.std.proofs.lemmas.List.Elements.{All-set, All-append, All-take, All-drop}
 use Rattle.std.proofs.lemmas.List.{length-map, map-set, get_or-map}
 use Rattle.asc_base.specs.declared.block.Line.{Line}
 use Rattle.rv32_core.specs.Access.{slice_of}
 use Rattle.data_cache.specs.Lines.{LineRequest}
-use Rattle.request_plan.specs.Plan.{Plan, Done, Ask, bind, Ends, Stops}
+use Rattle.request_plan.specs.Plan.{Plan, Done, bind, Ends, Stops}
 use Rattle.request_plan.proofs.Chains.{Ends-bind, Stops-bind}
 use Rattle.data_cache.specs.declared.set.Held.{Held}
 use Rattle.data_cache.specs.Contents.{moved, obtain, replace, first_bytes, written, Contents, held_in, with_set, read_plan, write_plan, write_line_plan, HoldsBelow}

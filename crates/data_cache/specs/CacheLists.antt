@@ -100,8 +100,8 @@ abbrev pub use_set : ℕ → List Kept → List ℕ → LineUse → Plan LineReq
 use_set ways set memory use_of =
     bind (λ left. left) (ask_all set memory (stored memory (victim ways set use_of.line)))
     (λ now. bind (λ left. left)
-      (ask_all (set_settled ways set (victim ways set use_of.line)) now (fetched set use_of))
-      (λ brought. Done (set_after ways set use_of, brought)))
+    (ask_all (set_settled ways set (victim ways set use_of.line)) now (fetched set use_of))
+    (λ brought. Done (set_after ways set use_of, brought)))
 
 -- A list of bytes, and which of its lines are kept.
 pub record Lines : Type 0 where

@@ -1,5 +1,5 @@
 -- What a cache holds, with the bytes of each line, and what its calls ask of a store.
-use Rattle.std.specs.Prelude.{◌≡◌, ℕ, ◌<◌, ◌≤◌, ◌+◌, ◌-◌, ◌%◌, Bool, true, false, cond, ◌==◌, List, [], ◌∷◌, ◌++◌, Option, Some, None, All, length, take, drop, slice_get, slice_set, slice_index_or}
+use Rattle.std.specs.Prelude.{◌≡◌, ℕ, ◌<◌, ◌+◌, ◌-◌, ◌%◌, true, false, cond, ◌==◌, List, [], ◌∷◌, ◌++◌, Option, Some, None, All, length, take, drop, slice_get, slice_set, slice_index_or}
 use Rattle.asc_base.specs.declared.block.Line.{Line}
 use Rattle.request_plan.specs.Plan.{Plan, Done, Ask, bind}
 use Rattle.rv32_core.specs.Access.{slice_of, spliced}
@@ -41,7 +41,7 @@ obtained ways set n (Some h) = Done (h ∷ without n set)
 obtained ways set n None =
     bind (λ s. s) (settle ways set)
     (λ s. Ask (Fetch n) s
-      (λ bytes. Done (record { line = n; dirty = false; value = record { 0 = bytes } } ∷ take (ways - 1) s)))
+    (λ bytes. Done (record { line = n; dirty = false; value = record { 0 = bytes } } ∷ take (ways - 1) s)))
 
 abbrev pub obtain : ℕ → List Held → ℕ → Plan LineRequest (List ℕ) (List Held) (List Held)
 obtain ways set n = obtained ways set n (find_line n set)

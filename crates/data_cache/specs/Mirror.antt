@@ -1,5 +1,5 @@
 -- When lists of kept lines and a list of bytes stand for what a cache holds.
-use Rattle.std.specs.Prelude.{◌≡◌, ℕ, ◌+◌, ◌*◌, ◌%◌, ◌<◌, ◌≤◌, List, [], ◌∷◌, length, map, slice_index_or}
+use Rattle.std.specs.Prelude.{◌≡◌, ℕ, ◌*◌, ◌%◌, ◌<◌, ◌≤◌, List, [], ◌∷◌, length, map, slice_index_or}
 use Rattle.data_cache.specs.CacheLists.{Kept, Lines, line_in}
 use Rattle.data_cache.specs.Contents.{Contents}
 use Rattle.data_cache.specs.declared.set.Held.{Held}

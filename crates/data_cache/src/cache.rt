@@ -4,7 +4,7 @@ ghost use Rattle.std.specs.Prelude.{◌≡◌, ℕ, ◌<◌, ◌≤◌, ◌+◌,
 ghost use Rattle.request_plan.specs.Plan.{Ends, Stops};
 ghost use Rattle.data_cache.specs.Contents.{read_plan, write_plan, write_line_plan, CacheBelow};
 
-use crate::set::{bring, put_whole, read_first, write_first, Held};
+use crate::set::{Held, bring, put_whole, read_first, write_first};
 use crate::store::LineStore;
 use asc_base::{Line, NoMemory};
 use std::alloc::Global;

@@ -1,4 +1,4 @@
-use Rattle.std.proofs.Common.{refl, ◌≡◌, ℕ, ◌<◌, ◌≤◌, ◌%◌, length, subst, ◌∙◌, ap, sym, arith}
+use Rattle.std.proofs.Common.{refl, ◌%◌, length, ◌∙◌, ap, arith}
 use Rattle.std.proofs.lemmas.Result.{err_from_is_err_and}
 use Rattle.data_cache.specs.Contents.{first_bytes}
 use Rattle.rv32_core.specs.Access.{slice_of}

@@ -1,6 +1,5 @@
-use Rattle.std.proofs.Common.{refl, ◌≡◌, ℕ, ◌<◌, ◌≤◌, ◌%◌, length, subst, ◌∙◌, ap, sym, arith}
+use Rattle.std.proofs.Common.{◌%◌, ◌∙◌, ap, arith}
 use Rattle.std.proofs.lemmas.Result.{err_from_is_err_and}
-use Rattle.data_cache.specs.Contents.{CacheBelow, HoldsBelow, written}
 use Rattle.data_cache.proofs.SetLaws.{below_at, below_set, below_written, write_ends, write_stops}
 use Rattle.data_cache.proofs.cache.Cache.write.Goals as goal
 

@@ -1,4 +1,4 @@
-use Rattle.std.proofs.Common.{◌≡◌, ℕ, ◌%◌, ◌∙◌, ap, arith}
+use Rattle.std.proofs.Common.{◌%◌, ◌∙◌, ap, arith}
 use Rattle.std.proofs.lemmas.Result.{err_from_is_err_and}
 use Rattle.data_cache.proofs.SetLaws.{below_at, below_set, whole_ends, whole_stops}
 use Rattle.data_cache.proofs.cache.Cache.write_line.Goals as goal
