@@ -69,7 +69,8 @@ pub unkept : (n : ℕ) (l : List Held) → NotIn n (pairs l) → Unkept n l
 unkept n [] h = (refl, refl, refl)
 unkept n (w ∷ ws) h = unkept-at n w ws (w.line == n) (eqb-false (w.line) n (h.0)) (unkept n ws (h.1))
 
-without-at : (n m : ℕ) (w : Held) (ws : List Held) (b : Bool) → NotIn m (pairs (w ∷ ws)) → NotIn m (pairs (without n ws))
+without-at : (n m : ℕ) (w : Held) (ws : List Held) (b : Bool) → NotIn m (pairs (w ∷ ws))
+    → NotIn m (pairs (without n ws))
     → NotIn m (pairs (cond b ws (w ∷ without n ws)))
 without-at n m w ws true h r = h.1
 without-at n m w ws false h r = (h.0, r)
@@ -84,18 +85,21 @@ NotIn-take (suc i) m [] h = tt
 NotIn-take (suc i) m (p ∷ ps) h = (h.0, NotIn-take i m ps (h.1))
 
 module _ (sets k lines : ℕ) where
-  pub Fit-other : (n : ℕ) (mem now : List ℕ) (ps : List (ℕ × List ℕ)) → ((m : ℕ) → (m ≡ n → ⊥) → line_in now m ≡ line_in mem m)
+  pub Fit-other : (n : ℕ) (mem now : List ℕ) (ps : List (ℕ × List ℕ)) → ((m : ℕ) → (m ≡ n → ⊥)
+      → line_in now m ≡ line_in mem m)
       → NotIn n ps → Fit sets k lines mem ps → Fit sets k lines now ps
   Fit-other n mem now [] same out f = tt
   Fit-other n mem now (p ∷ ps) same out f =
       (f.0, f.1, same (p.0) (out.0) ∙ f.2, f.3, Fit-other n mem now ps same (out.1) (f.4))
 
-  pub Fit-take : (i : ℕ) (mem : List ℕ) (ps : List (ℕ × List ℕ)) → Fit sets k lines mem ps → Fit sets k lines mem (take i ps)
+  pub Fit-take : (i : ℕ) (mem : List ℕ) (ps : List (ℕ × List ℕ)) → Fit sets k lines mem ps
+      → Fit sets k lines mem (take i ps)
   Fit-take zero mem ps f = tt
   Fit-take (suc i) mem [] f = tt
   Fit-take (suc i) mem (p ∷ ps) f = (f.0, f.1, f.2, NotIn-take i (p.0) ps (f.3), Fit-take i mem ps (f.4))
 
-  pub Fit-elsewhere : (n : ℕ) (mem : List ℕ) (ps : List (ℕ × List ℕ)) → (n % sets ≡ k → ⊥) → Fit sets k lines mem ps → NotIn n ps
+  pub Fit-elsewhere : (n : ℕ) (mem : List ℕ) (ps : List (ℕ × List ℕ)) → (n % sets ≡ k → ⊥)
+      → Fit sets k lines mem ps → NotIn n ps
   Fit-elsewhere n mem [] ne f = tt
   Fit-elsewhere n mem (p ∷ ps) ne f = ((λ e. ne (ap (λ z. z % sets) (sym e) ∙ f.0)), Fit-elsewhere n mem ps ne (f.4))
 
@@ -112,7 +116,8 @@ module _ (sets k lines : ℕ) where
   Hit n mem l h =
       (h.line ≡ n) × (keeps (marks l) n ≡ true) × (keeps_dirty (marks l) n ≡ h.dirty)
       × (others (marks l) n ≡ marks (without n l)) × (n % sets ≡ k) × (n < lines) × (line_in mem n ≡ h.value.0)
-      × NotIn n (pairs (without n l)) × Fit sets k lines mem (pairs (without n l)) × (suc (length (without n l)) ≡ length l)
+      × NotIn n (pairs (without n l)) × Fit sets k lines mem (pairs (without n l))
+      × (suc (length (without n l)) ≡ length l)
 
   hit-at : (n : ℕ) (mem : List ℕ) (w : Held) (ws : List Held) (h : Held) (b : Bool) → (w.line == n) ≡ b
       → cond b (Some w) (find_line n ws) ≡ Some h → Fit sets k lines mem (pairs (w ∷ ws))
@@ -153,7 +158,8 @@ module _ (sets k lines : ℕ) where
         ap suc (r.9),
       )
 
-  pub hit : (n : ℕ) (mem : List ℕ) (l : List Held) (h : Held) → find_line n l ≡ Some h → Fit sets k lines mem (pairs l) → Hit n mem l h
+  pub hit : (n : ℕ) (mem : List ℕ) (l : List Held) (h : Held) → find_line n l ≡ Some h
+      → Fit sets k lines mem (pairs l) → Hit n mem l h
   hit n mem [] h e f = cc
   hit n mem (w ∷ ws) h e f = hit-at n mem w ws h (w.line == n) refl e f (λ q. hit n mem ws h q (f.4))
 
@@ -175,12 +181,14 @@ module _ (sets k lines : ℕ) where
       (λ now. bind (λ left. left) (ask_all (set_settled ways ms v) now (if test then Fetch n ∷ [] else []))
       (λ brought. Done (a, brought)))
 
-  use_is : (ways n : ℕ) (ms : List Kept) (mem : List ℕ) (kind : LineKind) (v : Option Kept) (test : Bool) (a : List Kept)
+  use_is : (ways n : ℕ) (ms : List Kept) (mem : List ℕ) (kind : LineKind) (v : Option Kept) (test : Bool)
+      (a : List Kept)
       → victim ways ms n ≡ v → (needs kind && not (keeps ms n)) ≡ test
       → set_after ways ms (record { line = n; kind = kind }) ≡ a
       → use_set ways ms mem (record { line = n; kind = kind }) ≡ uses_at ways n ms mem v test a
   use_is ways n ms mem kind v test a one two three =
-      ap (λ z. uses_at ways n ms mem z (needs kind && not (keeps ms n)) (set_after ways ms (record { line = n; kind = kind }))) one
+      ap (λ z. uses_at ways n ms mem z (needs kind && not (keeps ms n)) (set_after ways ms
+      (record { line = n; kind = kind }))) one
       ∙ ap (λ z. uses_at ways n ms mem v z (set_after ways ms (record { line = n; kind = kind }))) two
       ∙ ap (λ z. uses_at ways n ms mem v test z) three
 
@@ -196,11 +204,13 @@ module _ (sets k lines : ℕ) where
   -- a set with the line first, its lists, and the list of bytes beside them
   abbrev pub OOut : LineKind → ℕ → ℕ → List ℕ → List Held → List Kept × List ℕ → Type 0
   OOut kind ways n mem l r =
-      First n l × (r.0 ≡ used_by kind (marks l)) × Fit sets k lines (r.1) (pairs l) × Same n mem (r.1) × (length l ≤ ways)
+      First n l × (r.0 ≡ used_by kind (marks l)) × Fit sets k lines (r.1) (pairs l) × Same n mem (r.1)
+      × (length l ≤ ways)
 
   -- the set after a use of a line that isn't kept
   after-miss : (ways n : ℕ) (ms : List Kept) (kind : LineKind) → 0 < ways → keeps_dirty ms n ≡ false → others ms n ≡ ms
-      → set_after ways ms (record { line = n; kind = kind }) ≡ record { line = n; dirty = changes kind } ∷ take (ways - 1) ms
+      → set_after ways ms (record { line = n; kind = kind })
+      ≡ record { line = n; dirty = changes kind } ∷ take (ways - 1) ms
   after-miss ways n ms kind some clean all =
       ap (λ b. take ways (record { line = n; dirty = b || changes kind } ∷ others ms n)) clean
       ∙ ap (λ (l : List Kept). take ways (record { line = n; dirty = changes kind } ∷ l)) all
@@ -257,16 +267,19 @@ module _ (sets k lines : ℕ) where
   )
 
   -- the last of a set is settled, and then each goes on
-  settles : {A : Type 0} {D : Type 0} (Out : A → D → Type 0) (ways : ℕ) (mem : List ℕ) (l : List Held) (last : Held) (b : Bool)
+  settles : {A : Type 0} {D : Type 0} (Out : A → D
+      → Type 0) (ways : ℕ) (mem : List ℕ) (l : List Held) (last : Held) (b : Bool)
       (next : List Held → Plan LineRequest (List ℕ) (List Held) A)
       (go : List Kept → List ℕ → Plan LineRequest (List ℕ) (List Kept) D)
       → slice_get l (ways - 1) ≡ Some last → line_in mem (last.line) ≡ last.value.0
       → ((s : List Held) (ms : List Kept) → SOut l s ms → take (ways - 1) s ≡ take (ways - 1) l
       → Alike IsLineAnswer (SOut l) Out (next s) (go ms mem))
       → Alike IsLineAnswer (SOut l) Out
-      (bind (λ s. s) (cond b (Ask (Store (last.line) (last.value.0)) l (λ _. Done (slice_set l (ways - 1) (record last { dirty = false })))) (Done l)) next)
+      (bind (λ s. s) (cond b (Ask (Store (last.line) (last.value.0)) l (λ _. Done (slice_set l (ways - 1)
+      (record last { dirty = false })))) (Done l)) next)
       (bind (λ left. left) (ask_all (marks l) mem (if b then Store (last.line) (line_in mem (last.line)) ∷ [] else []))
-      (λ now. go (if b then slice_set (marks l) (ways - 1) (record { line = last.line; dirty = false }) else marks l) now))
+      (λ now. go (if b then slice_set (marks l) (ways - 1)
+      (record { line = last.line; dirty = false }) else marks l) now))
   settles Out ways mem l last false next go e fit each = each l (marks l) (refl, refl, refl) refl
   settles Out ways mem l last true next go e fit each = (
     ap (Store (last.line)) (sym fit),
@@ -277,25 +290,31 @@ module _ (sets k lines : ℕ) where
   )
 
   -- a use that fetches its line
-  fetches : (kind : LineKind) (ways n : ℕ) (mem : List ℕ) (l : List Held) (last : Option Held) → slice_get l (ways - 1) ≡ last
-      → 0 < ways → n % sets ≡ k → n < lines → length mem ≡ 64 * lines → Fit sets k lines mem (pairs l) → NotIn n (pairs l)
+  fetches : (kind : LineKind) (ways n : ℕ) (mem : List ℕ) (l : List Held) (last : Option Held)
+      → slice_get l (ways - 1) ≡ last
+      → 0 < ways → n % sets ≡ k → n < lines → length mem ≡ 64 * lines → Fit sets k lines mem (pairs l)
+      → NotIn n (pairs l)
       → Alike IsLineAnswer (SOut l) (OOut kind ways n mem)
       (bind (λ s. s) (settled ways l last) (λ s. Ask (Fetch n) s
       (λ bytes. Done (record { line = n; dirty = false; value = record { 0 = bytes } } ∷ take (ways - 1) s))))
-      (uses_at ways n (marks l) mem (option_map mark last) true (record { line = n; dirty = changes kind } ∷ take (ways - 1) (marks l)))
+      (uses_at ways n (marks l) mem (option_map mark last) true (record { line = n; dirty = changes kind } ∷ take
+      (ways - 1) (marks l)))
   fetches kind ways n mem l None e some at lt size f out =
       (refl, (refl, refl, refl), λ bytes fine. brought kind ways n mem bytes l l some at lt size (fine.0) f out refl)
   fetches kind ways n mem l (Some last) e some at lt size f out =
       settles (OOut kind ways n mem) ways mem l last (last.dirty)
-      (λ s. Ask (Fetch n) s (λ bytes. Done (record { line = n; dirty = false; value = record { 0 = bytes } } ∷ take (ways - 1) s)))
+      (λ s. Ask (Fetch n) s (λ bytes. Done (record { line = n; dirty = false; value = record { 0 = bytes } } ∷ take
+      (ways - 1) s)))
       (λ ms now. bind (λ left. left) (ask_all ms now (Fetch n ∷ []))
       (λ brought. Done (record { line = n; dirty = changes kind } ∷ take (ways - 1) (marks l), brought)))
       e
       (Fit-at (ways - 1) mem (pairs l) (last.line, last.value.0)
-      (slice_get-map (λ (h : Held). (h.line, h.value.0)) l (ways - 1) ∙ ap (option_map (λ (h : Held). (h.line, h.value.0))) e) f)
+      (slice_get-map (λ (h : Held). (h.line, h.value.0)) l (ways - 1)
+      ∙ ap (option_map (λ (h : Held). (h.line, h.value.0))) e) f)
       (λ s ms x same. (refl, x, λ bytes fine. brought kind ways n mem bytes l s some at lt size (fine.0) f out same))
 
-  obtain-by : (kind : LineKind) (ways n : ℕ) (mem : List ℕ) (l : List Held) (found : Option Held) → find_line n l ≡ found
+  obtain-by : (kind : LineKind) (ways n : ℕ) (mem : List ℕ) (l : List Held) (found : Option Held)
+      → find_line n l ≡ found
       → needs kind ≡ true → 0 < ways → length l ≤ ways → n % sets ≡ k → n < lines → length mem ≡ 64 * lines
       → Fit sets k lines mem (pairs l)
       → Alike IsLineAnswer (SOut l) (OOut kind ways n mem) (obtained ways l n found)
@@ -305,9 +324,12 @@ module _ (sets k lines : ℕ) where
       let few : length (marks (without n l)) ≡ length (without n l) = length-map (without n l) mark in
       let kept : length (without n l) ≤ ways - 1 = omega (arith, r.9) in
       let none : victim ways (marks l) n ≡ None =
-      ap (λ (ms : List Kept). slice_get ms (ways - 1)) (r.3) ∙ get-past (marks (without n l)) (ways - 1) (omega (arith, few, kept)) in
-      let no : (needs kind && not (keeps (marks l) n)) ≡ false = ap (λ b. needs kind && not b) (r.1) ∙ ap (λ b. b && false) need in
-      let after = after-hit ways n (marks l) (marks (without n l)) kind (h.dirty) (omega (arith, few, kept, some)) (r.2) (r.3) in
+      ap (λ (ms : List Kept). slice_get ms (ways - 1)) (r.3)
+      ∙ get-past (marks (without n l)) (ways - 1) (omega (arith, few, kept)) in
+      let no : (needs kind && not (keeps (marks l) n)) ≡ false = ap (λ b. needs kind && not b) (r.1)
+      ∙ ap (λ b. b && false) need in
+      let after = after-hit ways n (marks l) (marks (without n l)) kind (h.dirty) (omega (arith, few, kept, some))
+      (r.2) (r.3) in
       subst (λ p. Alike IsLineAnswer (SOut l) (OOut kind ways n mem) (obtained ways l n (Some h)) p)
       (sym (use_is ways n (marks l) mem kind None false _ none no after)) (
         r.0,
@@ -327,7 +349,8 @@ module _ (sets k lines : ℕ) where
       let r = unkept n l out in
       let last : victim ways (marks l) n ≡ option_map mark (slice_get l (ways - 1)) =
       ap (λ (ms : List Kept). slice_get ms (ways - 1)) (r.2) ∙ slice_get-map mark l (ways - 1) in
-      let yes : (needs kind && not (keeps (marks l) n)) ≡ true = ap (λ b. needs kind && not b) (r.0) ∙ ap (λ b. b && true) need in
+      let yes : (needs kind && not (keeps (marks l) n)) ≡ true = ap (λ b. needs kind && not b) (r.0)
+      ∙ ap (λ b. b && true) need in
       subst (λ p. Alike IsLineAnswer (SOut l) (OOut kind ways n mem) (obtained ways l n None) p)
       (sym (use_is ways n (marks l) mem kind _ true _ last yes (after-miss ways n (marks l) kind some (r.1) (r.2))))
       (fetches kind ways n mem l (slice_get l (ways - 1)) refl some at lt size f out)
@@ -347,17 +370,28 @@ module _ (sets k lines : ℕ) where
       (r.0 ≡ marks l) × (r.1 ≡ mem) × Fit sets k lines (spliced mem (64 * n) (value.0)) (pairs l) × (length l ≤ ways)
 
   -- a new line is first, before lines that are others
-  put_in : (ways n : ℕ) (mem : List ℕ) (value : Line) (rest : List Held) (ms : List Kept) (b : Bool) → b ≡ true → n % sets ≡ k → n < lines
-      → length mem ≡ 64 * lines → length (value.0) ≡ 64 → ms ≡ marks rest → NotIn n (pairs rest) → Fit sets k lines mem (pairs rest)
+  put_in : (ways n : ℕ) (mem : List ℕ) (value : Line) (rest : List Held) (ms : List Kept) (b : Bool) → b ≡ true
+      → n % sets ≡ k → n < lines
+      → length mem ≡ 64 * lines → length (value.0) ≡ 64 → ms ≡ marks rest → NotIn n (pairs rest)
+      → Fit sets k lines mem (pairs rest)
       → suc (length rest) ≤ ways
-      → WOut ways n mem value (record { line = n; dirty = true; value = value } ∷ rest) (record { line = n; dirty = b } ∷ ms, mem)
+      → WOut ways n mem value (record { line = n; dirty = true; value = value } ∷ rest)
+      (record { line = n; dirty = b } ∷ ms, mem)
   put_in ways n mem value rest ms b dirty at lt size long is out f fits =
       let room : 64 * n + 64 ≤ length mem = omega arith in
       let other : (m : ℕ) → (m ≡ n → ⊥) → line_in (spliced mem (64 * n) (value.0)) m ≡ line_in mem m =
       λ m ne. other-patched mem n m (value.0) long room ne in (
-        ap (λ z. record { line = n; dirty = z } ∷ ms) dirty ∙ ap (λ (l : List Kept). record { line = n; dirty = true } ∷ l) is,
+        ap (λ z. record { line = n; dirty = z } ∷ ms) dirty
+            ∙ ap (λ (l : List Kept). record { line = n; dirty = true } ∷ l) is,
         refl,
-        (at, lt, line-patched mem n (value.0) long room, out, Fit-other n mem (spliced mem (64 * n) (value.0)) (pairs rest) other out f),
+        (
+          at,
+          lt,
+          line-patched mem n (value.0) long room,
+          out,
+          Fit-other n mem (spliced mem (64 * n) (value.0))
+              (pairs rest) other out f,
+        ),
         fits,
       )
 
@@ -381,8 +415,10 @@ module _ (sets k lines : ℕ) where
       → 0 < ways → n % sets ≡ k → n < lines → length mem ≡ 64 * lines → length (value.0) ≡ 64
       → Fit sets k lines mem (pairs l) → NotIn n (pairs l)
       → Alike IsLineAnswer (SOut l) (WOut ways n mem value)
-      (bind (λ s. s) (settled ways l last) (λ s. Done (record { line = n; dirty = true; value = value } ∷ take (ways - 1) s)))
-      (uses_at ways n (marks l) mem (option_map mark last) false (record { line = n; dirty = true } ∷ take (ways - 1) (marks l)))
+      (bind (λ s. s) (settled ways l last) (λ s. Done (record { line = n; dirty = true; value = value } ∷ take
+      (ways - 1) s)))
+      (uses_at ways n (marks l) mem (option_map mark last) false (record { line = n; dirty = true } ∷ take
+      (ways - 1) (marks l)))
   puts ways n mem value l None e some at lt size long f out = put_first ways n mem value l l some at lt size long f out refl
   puts ways n mem value l (Some last) e some at lt size long f out =
       settles (WOut ways n mem value) ways mem l last (last.dirty)
@@ -391,7 +427,8 @@ module _ (sets k lines : ℕ) where
       (λ brought. Done (record { line = n; dirty = true } ∷ take (ways - 1) (marks l), brought)))
       e
       (Fit-at (ways - 1) mem (pairs l) (last.line, last.value.0)
-      (slice_get-map (λ (h : Held). (h.line, h.value.0)) l (ways - 1) ∙ ap (option_map (λ (h : Held). (h.line, h.value.0))) e) f)
+      (slice_get-map (λ (h : Held). (h.line, h.value.0)) l (ways - 1)
+      ∙ ap (option_map (λ (h : Held). (h.line, h.value.0))) e) f)
       (λ s ms x same. put_first ways n mem value l s some at lt size long f out same)
 
   replace-by : (ways n : ℕ) (mem : List ℕ) (value : Line) (l : List Held) (found : Option Held) → find_line n l ≡ found
@@ -404,11 +441,14 @@ module _ (sets k lines : ℕ) where
       let few : length (marks (without n l)) ≡ length (without n l) = length-map (without n l) mark in
       let kept : length (without n l) ≤ ways - 1 = omega (arith, r.9) in
       let none : victim ways (marks l) n ≡ None =
-      ap (λ (ms : List Kept). slice_get ms (ways - 1)) (r.3) ∙ get-past (marks (without n l)) (ways - 1) (omega (arith, few, kept)) in
-      let after = after-hit ways n (marks l) (marks (without n l)) WholeWrite (h.dirty) (omega (arith, few, kept, some)) (r.2) (r.3) in
+      ap (λ (ms : List Kept). slice_get ms (ways - 1)) (r.3)
+      ∙ get-past (marks (without n l)) (ways - 1) (omega (arith, few, kept)) in
+      let after = after-hit ways n (marks l) (marks (without n l)) WholeWrite (h.dirty) (omega
+      (arith, few, kept, some)) (r.2) (r.3) in
       subst (λ p. Alike IsLineAnswer (SOut l) (WOut ways n mem value) (replaced ways l n value (Some h)) p)
       (sym (use_is ways n (marks l) mem WholeWrite None false _ none refl after))
-      (put_in ways n mem value (without n l) (marks (without n l)) (h.dirty || true) (or_true (h.dirty)) at lt size long refl (r.7) (r.8)
+      (put_in ways n mem value (without n l) (marks (without n l)) (h.dirty || true) (or_true
+      (h.dirty)) at lt size long refl (r.7) (r.8)
       (omega (arith, r.9, fits)))
   replace-by ways n mem value l None e some fits at lt size long f =
       let out : NotIn n (pairs l) = miss n l e in
@@ -416,7 +456,8 @@ module _ (sets k lines : ℕ) where
       let last : victim ways (marks l) n ≡ option_map mark (slice_get l (ways - 1)) =
       ap (λ (ms : List Kept). slice_get ms (ways - 1)) (r.2) ∙ slice_get-map mark l (ways - 1) in
       subst (λ p. Alike IsLineAnswer (SOut l) (WOut ways n mem value) (replaced ways l n value None) p)
-      (sym (use_is ways n (marks l) mem WholeWrite _ false _ last refl (after-miss ways n (marks l) WholeWrite some (r.1) (r.2))))
+      (sym (use_is ways n (marks l) mem WholeWrite _ false _ last refl (after-miss ways n (marks l) WholeWrite some
+      (r.1) (r.2))))
       (puts ways n mem value l (slice_get l (ways - 1)) refl some at lt size long f out)
 
   -- A write of a whole line is made alike.

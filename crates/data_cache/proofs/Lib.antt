@@ -2,3 +2,4 @@ pub mod SetLaws
 pub mod Parts
 pub mod KeptLaws
 pub mod MirrorLaws
+pub mod UseLaws

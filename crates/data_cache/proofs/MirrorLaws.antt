@@ -55,17 +55,20 @@ module _ (count : ℕ) where
       each-at k h lt (inl q) = rw q (rw get_or-set_same f)
       each-at k h lt (inr ne) =
           rw get_or-set_other (Fit-other (length (c.sets)) k count n mem now (pairs (get_or (c.sets) k [])) (same.1)
-          (Fit-elsewhere (length (c.sets)) k count n mem (pairs (get_or (c.sets) k [])) (λ q. ne (sym q)) (m.each k h)) (m.each k h))
+          (Fit-elsewhere (length (c.sets)) k count n mem (pairs (get_or (c.sets) k [])) (λ q. ne (sym q))
+          (m.each k h)) (m.each k h))
 
   -- what the first line is
-  first_line : (sets k n : ℕ) (mem : List ℕ) (l : List Held) → First n l → Fit sets k count mem (pairs l) → first_bytes l ≡ line_in mem n
+  first_line : (sets k n : ℕ) (mem : List ℕ) (l : List Held) → First n l → Fit sets k count mem (pairs l)
+      → first_bytes l ≡ line_in mem n
   first_line sets k n mem [] h f = absurd h
   first_line sets k n mem (w ∷ ws) h f = sym (f.2) ∙ ap (line_in mem) h
 
   -- the set of the lists is that of the cache, marked
   set_of_is : (c : Contents) (n : ℕ) → 0 < length (c.sets) → set_of (map marks (c.sets)) n ≡ marks (held_in c n)
   set_of_is c n h =
-      rw (length-map (c.sets) marks) (get_or-map marks (c.sets) (n % length (c.sets)) [] [] (below-mod n (length (c.sets)) h))
+      rw (length-map (c.sets) marks) (get_or-map marks (c.sets) (n % length (c.sets)) [] [] (below-mod n (length
+      (c.sets)) h))
 
   -- a read changes no mark
   used-read : (l : List Held) → used_by 0 0 0 Read (marks l) ≡ marks l
@@ -76,14 +79,17 @@ module _ (count : ℕ) where
   OutRead a d = Mirrors count (a.0) (d.0) × (a.1 ≡ d.1)
 
   -- a read is made alike
-  read-of : (c : Contents) (mem : List ℕ) (n offset len : ℕ) → Mirrors count c (lines_of c mem) → n < count → offset + len ≤ 64
-      → Alike IsLineAnswer (λ (left : Contents) (sets : Sets). Mirrors count left (record { memory = mem; sets = sets })) OutRead
+  read-of : (c : Contents) (mem : List ℕ) (n offset len : ℕ) → Mirrors count c (lines_of c mem) → n < count
+      → offset + len ≤ 64
+      → Alike IsLineAnswer (λ (left : Contents) (sets : Sets). Mirrors count left
+      (record { memory = mem; sets = sets })) OutRead
       (read_plan c n offset len) (read_lines (c.ways) (lines_of c mem) n offset len)
   read-of c mem n offset len m lt range =
       let k : ℕ = n % length (c.sets) in
       let l : List Held = held_in c n in
       let inside : n % length (c.sets) < length (c.sets) = below-mod n (length (c.sets)) m.some in
-      let f : Fit (length (c.sets)) (n % length (c.sets)) count mem (pairs (held_in c n)) = m.each (n % length (c.sets)) inside in
+      let f : Fit (length (c.sets)) (n % length (c.sets)) count mem (pairs (held_in c n)) = m.each (n % length
+      (c.sets)) inside in
       let long : length (held_in c n) ≤ c.ways = m.fits (n % length (c.sets)) inside in
       Alike-bind IsLineAnswer (SOut (length (c.sets)) (n % length (c.sets)) count (held_in c n))
       (OOut (length (c.sets)) (n % length (c.sets)) count Read (c.ways) n mem)
@@ -98,21 +104,27 @@ module _ (count : ℕ) where
       (subst (λ z. Alike IsLineAnswer (SOut (length (c.sets)) (n % length (c.sets)) count (held_in c n))
       (OOut (length (c.sets)) (n % length (c.sets)) count Read (c.ways) n mem) (obtain (c.ways) (held_in c n) n)
       (use_set (c.ways) z mem (record { line = n; kind = Read }))) (sym (set_of_is c n m.some))
-      (obtain_alike (length (c.sets)) (n % length (c.sets)) count Read (c.ways) n mem (held_in c n) refl m.ways long refl lt m.size f))
+      (obtain_alike (length (c.sets)) (n % length (c.sets)) count Read (c.ways) n mem
+      (held_in c n) refl m.ways long refl lt m.size f))
 
-  pub read_alike : (c : Contents) (lines : Lines) (n offset len : ℕ) → Mirrors count c lines → n < count → offset + len ≤ 64
-      → Alike IsLineAnswer (λ (left : Contents) (sets : Sets). Mirrors count left (record { memory = lines.memory; sets = sets }))
+  pub read_alike : (c : Contents) (lines : Lines) (n offset len : ℕ) → Mirrors count c lines → n < count
+      → offset + len ≤ 64
+      → Alike IsLineAnswer (λ (left : Contents) (sets : Sets). Mirrors count left
+      (record { memory = lines.memory; sets = sets }))
       (λ (a : Contents × List ℕ) (d : Lines × List ℕ). Mirrors count (a.0) (d.0) × (a.1 ≡ d.1))
       (read_plan c n offset len) (read_lines (c.ways) lines n offset len)
   read_alike c lines n offset len m lt range =
-      subst (λ (ss : Sets). Alike IsLineAnswer (λ (left : Contents) (sets : Sets). Mirrors count left (record { memory = lines.memory; sets = sets }))
+      subst (λ (ss : Sets). Alike IsLineAnswer (λ (left : Contents) (sets : Sets). Mirrors count left
+      (record { memory = lines.memory; sets = sets }))
       (λ (a : Contents × List ℕ) (d : Lines × List ℕ). Mirrors count (a.0) (d.0) × (a.1 ≡ d.1))
-      (read_plan c n offset len) (read_lines (c.ways) (record { memory = lines.memory; sets = ss }) n offset len)) (sym m.is)
+      (read_plan c n offset len) (read_lines (c.ways) (record { memory = lines.memory; sets = ss }) n offset len))
+      (sym m.is)
       (read-of c (lines.memory) n offset len
       (subst (λ (ss : Sets). Mirrors count c (record { memory = lines.memory; sets = ss })) m.is m) lt range)
 
   -- a write into the first line
-  write_first : (sets k n offset : ℕ) (mem bytes : List ℕ) (l : List Held) → offset + length bytes ≤ 64 → 64 * n + 64 ≤ length mem
+  write_first : (sets k n offset : ℕ) (mem bytes : List ℕ) (l : List Held) → offset + length bytes ≤ 64
+      → 64 * n + 64 ≤ length mem
       → First n l → Fit sets k count mem (pairs l)
       → (used_by 0 0 0 Write (marks l) ≡ marks (written offset bytes l))
       × Fit sets k count (spliced mem (64 * n + offset) bytes) (pairs (written offset bytes l))
@@ -136,17 +148,21 @@ module _ (count : ℕ) where
       )
 
   -- a write is made alike
-  write-of : (c : Contents) (mem : List ℕ) (n offset : ℕ) (bytes : List ℕ) → Mirrors count c (lines_of c mem) → n < count
+  write-of : (c : Contents) (mem : List ℕ) (n offset : ℕ) (bytes : List ℕ) → Mirrors count c (lines_of c mem)
+      → n < count
       → offset + length bytes ≤ 64
-      → Alike IsLineAnswer (λ (left : Contents) (sets : Sets). Mirrors count left (record { memory = mem; sets = sets })) (Mirrors count)
+      → Alike IsLineAnswer (λ (left : Contents) (sets : Sets). Mirrors count left
+      (record { memory = mem; sets = sets })) (Mirrors count)
       (write_plan c n offset bytes) (write_lines (c.ways) (lines_of c mem) n offset bytes)
   write-of c mem n offset bytes m lt range =
       let inside : n % length (c.sets) < length (c.sets) = below-mod n (length (c.sets)) m.some in
-      let f : Fit (length (c.sets)) (n % length (c.sets)) count mem (pairs (held_in c n)) = m.each (n % length (c.sets)) inside in
+      let f : Fit (length (c.sets)) (n % length (c.sets)) count mem (pairs (held_in c n)) = m.each (n % length
+      (c.sets)) inside in
       let long : length (held_in c n) ≤ c.ways = m.fits (n % length (c.sets)) inside in
       Alike-bind IsLineAnswer (SOut (length (c.sets)) (n % length (c.sets)) count (held_in c n))
       (OOut (length (c.sets)) (n % length (c.sets)) count Write (c.ways) n mem)
-      (λ (left : Contents) (sets : Sets). Mirrors count left (record { memory = mem; sets = sets })) (Mirrors count) _ _ _ _ _ _
+      (λ (left : Contents) (sets : Sets). Mirrors count left (record { memory = mem; sets = sets }))
+      (Mirrors count) _ _ _ _ _ _
       (λ s ms x. Mirrors-put c mem mem n s ms m (x.0) (omega (arith, x.2, long))
       (subst (Fit (length (c.sets)) (n % length (c.sets)) count mem) (sym (x.1)) f) (refl, λ j ne. refl))
       (λ s r x.
@@ -160,48 +176,66 @@ module _ (count : ℕ) where
       (subst (λ z. Alike IsLineAnswer (SOut (length (c.sets)) (n % length (c.sets)) count (held_in c n))
       (OOut (length (c.sets)) (n % length (c.sets)) count Write (c.ways) n mem) (obtain (c.ways) (held_in c n) n)
       (use_set (c.ways) z mem (record { line = n; kind = Write }))) (sym (set_of_is c n m.some))
-      (obtain_alike (length (c.sets)) (n % length (c.sets)) count Write (c.ways) n mem (held_in c n) refl m.ways long refl lt m.size f))
+      (obtain_alike (length (c.sets)) (n % length (c.sets)) count Write (c.ways) n mem
+      (held_in c n) refl m.ways long refl lt m.size f))
 
   pub write_alike : (c : Contents) (lines : Lines) (n offset : ℕ) (bytes : List ℕ) → Mirrors count c lines → n < count
       → offset + length bytes ≤ 64
-      → Alike IsLineAnswer (λ (left : Contents) (sets : Sets). Mirrors count left (record { memory = lines.memory; sets = sets }))
+      → Alike IsLineAnswer (λ (left : Contents) (sets : Sets). Mirrors count left
+      (record { memory = lines.memory; sets = sets }))
       (Mirrors count) (write_plan c n offset bytes) (write_lines (c.ways) lines n offset bytes)
   write_alike c lines n offset bytes m lt range =
-      subst (λ (ss : Sets). Alike IsLineAnswer (λ (left : Contents) (sets : Sets). Mirrors count left (record { memory = lines.memory; sets = sets }))
-      (Mirrors count) (write_plan c n offset bytes) (write_lines (c.ways) (record { memory = lines.memory; sets = ss }) n offset bytes)) (sym m.is)
+      subst (λ (ss : Sets). Alike IsLineAnswer (λ (left : Contents) (sets : Sets). Mirrors count left
+      (record { memory = lines.memory; sets = sets }))
+      (Mirrors count) (write_plan c n offset bytes) (write_lines (c.ways)
+      (record { memory = lines.memory; sets = ss }) n offset bytes)) (sym m.is)
       (write-of c (lines.memory) n offset bytes
       (subst (λ (ss : Sets). Mirrors count c (record { memory = lines.memory; sets = ss })) m.is m) lt range)
 
   -- and so is a write of a whole line
   whole-of : (c : Contents) (mem : List ℕ) (n : ℕ) (value : Line) → Mirrors count c (lines_of c mem) → n < count
       → length (value.0) ≡ 64
-      → Alike IsLineAnswer (λ (left : Contents) (sets : Sets). Mirrors count left (record { memory = mem; sets = sets })) (Mirrors count)
+      → Alike IsLineAnswer (λ (left : Contents) (sets : Sets). Mirrors count left
+      (record { memory = mem; sets = sets })) (Mirrors count)
       (write_line_plan c n value) (write_whole_line (c.ways) (lines_of c mem) n (value.0))
   whole-of c mem n value m lt whole =
       let inside : n % length (c.sets) < length (c.sets) = below-mod n (length (c.sets)) m.some in
-      let f : Fit (length (c.sets)) (n % length (c.sets)) count mem (pairs (held_in c n)) = m.each (n % length (c.sets)) inside in
+      let f : Fit (length (c.sets)) (n % length (c.sets)) count mem (pairs (held_in c n)) = m.each (n % length
+      (c.sets)) inside in
       let long : length (held_in c n) ≤ c.ways = m.fits (n % length (c.sets)) inside in
       let room : 64 * n + 64 ≤ length mem = omega (arith, m.size) in
       Alike-bind IsLineAnswer (SOut (length (c.sets)) (n % length (c.sets)) count (held_in c n))
       (WOut (length (c.sets)) (n % length (c.sets)) count (c.ways) n mem value)
-      (λ (left : Contents) (sets : Sets). Mirrors count left (record { memory = mem; sets = sets })) (Mirrors count) _ _ _ _ _ _
+      (λ (left : Contents) (sets : Sets). Mirrors count left (record { memory = mem; sets = sets }))
+      (Mirrors count) _ _ _ _ _ _
       (λ s ms x. Mirrors-put c mem mem n s ms m (x.0) (omega (arith, x.2, long))
       (subst (Fit (length (c.sets)) (n % length (c.sets)) count mem) (sym (x.1)) f) (refl, λ j ne. refl))
-      (λ s r x. subst (λ (now : List ℕ). Mirrors count (with_set c n s) (record { memory = spliced now (64 * n) (value.0); sets = with_kept (map marks (c.sets)) n (r.0) }))
+      (λ s r x. subst (λ (now : List ℕ). Mirrors count (with_set c n s) (record {
+        memory = spliced now (64 * n)
+            (value.0);
+        sets = with_kept (map marks (c.sets)) n (r.0);
+      }))
       (sym (x.1))
-      (Mirrors-put c mem (spliced mem (64 * n) (value.0)) n s (r.0) m (x.0) (x.3) (x.2)
-      (length-spliced mem (64 * n) (value.0) (omega (arith, whole, room)), λ j ne. other-patched mem n j (value.0) whole room ne)))
+      (Mirrors-put c mem (spliced mem (64 * n) (value.0)) n s (r.0) m (x.0) (x.3) (x.2) (
+        length-spliced mem (64 * n) (value.0) (omega (arith, whole, room)),
+        λ j ne. other-patched mem n j
+            (value.0) whole room ne,
+      )))
       (subst (λ z. Alike IsLineAnswer (SOut (length (c.sets)) (n % length (c.sets)) count (held_in c n))
       (WOut (length (c.sets)) (n % length (c.sets)) count (c.ways) n mem value) (replace (c.ways) (held_in c n) n value)
       (use_set (c.ways) z mem (record { line = n; kind = WholeWrite }))) (sym (set_of_is c n m.some))
-      (replace_alike (length (c.sets)) (n % length (c.sets)) count (c.ways) n mem value (held_in c n) m.ways long refl lt m.size whole f))
+      (replace_alike (length (c.sets)) (n % length (c.sets)) count (c.ways) n mem value
+      (held_in c n) m.ways long refl lt m.size whole f))
 
   pub whole_alike : (c : Contents) (lines : Lines) (n : ℕ) (value : Line) → Mirrors count c lines → n < count
       → length (value.0) ≡ 64
-      → Alike IsLineAnswer (λ (left : Contents) (sets : Sets). Mirrors count left (record { memory = lines.memory; sets = sets }))
+      → Alike IsLineAnswer (λ (left : Contents) (sets : Sets). Mirrors count left
+      (record { memory = lines.memory; sets = sets }))
       (Mirrors count) (write_line_plan c n value) (write_whole_line (c.ways) lines n (value.0))
   whole_alike c lines n value m lt whole =
-      subst (λ (ss : Sets). Alike IsLineAnswer (λ (left : Contents) (sets : Sets). Mirrors count left (record { memory = lines.memory; sets = sets }))
-      (Mirrors count) (write_line_plan c n value) (write_whole_line (c.ways) (record { memory = lines.memory; sets = ss }) n (value.0))) (sym m.is)
+      subst (λ (ss : Sets). Alike IsLineAnswer (λ (left : Contents) (sets : Sets). Mirrors count left
+      (record { memory = lines.memory; sets = sets }))
+      (Mirrors count) (write_line_plan c n value) (write_whole_line (c.ways)
+      (record { memory = lines.memory; sets = ss }) n (value.0))) (sym m.is)
       (whole-of c (lines.memory) n value
       (subst (λ (ss : Sets). Mirrors count c (record { memory = lines.memory; sets = ss })) m.is m) lt whole)

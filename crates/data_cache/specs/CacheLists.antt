@@ -82,10 +82,17 @@ abbrev pub requests_of : ℕ → List ℕ → Sets → LineUse → List LineRequ
 requests_of ways memory sets use_of =
     let set = set_of sets use_of.line in stored memory (victim ways set use_of.line) ++ fetched set use_of
 
+-- The requests of uses, one after another, over a list of bytes that stays as it is.
+abbrev pub requests_along : ℕ → List ℕ → Sets → List LineUse → List LineRequest
+requests_along ways memory sets [] = []
+requests_along ways memory sets (first ∷ others) =
+    requests_of ways memory sets first ++ requests_along ways memory (sets_after ways sets first) others
+
 -- The set after its victim was stored: as it was, but the victim is clean.
 abbrev pub set_settled : ℕ → List Kept → Option Kept → List Kept
 set_settled ways set victim =
-    option_map_or (λ (k : Kept). if k.dirty then slice_set set (ways - 1) (record k { dirty = false }) else set) victim set
+    option_map_or (λ (k : Kept). if k.dirty then slice_set set (ways - 1)
+    (record k { dirty = false }) else set) victim set
 
 -- The requests, one after another, where a fetched line takes its place in the list of bytes; what is left is always this.
 abbrev pub ask_all : {B : Type 0} → B → List ℕ → List LineRequest → Plan LineRequest (List ℕ) B (List ℕ)

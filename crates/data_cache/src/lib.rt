@@ -14,7 +14,9 @@ mod store;
 
 pub use cache::Cache;
 pub use flat::{FlatLines, Never};
-pub use laws::asks_as_its_lists;
+pub use laws::{
+    asks_as_its_lists, empty_cache_has_empty_lists, uses_make_their_requests, worked_requests,
+};
 pub use set::Held;
 pub use store::LineStore;
 

@@ -88,7 +88,8 @@ pub(crate) fn bring<S: LineStore>(
     requires line { line < S.lines store.old }
     requires lines { HoldsBelow (S.lines store.old) set.old.items }
     ensures ok { IfOk result (λ _. Ends S.step (obtain ways set.old.items line) store.old store.new set.new.items) }
-    ensures err { IfErr result (λ stop. Stops S.step (obtain ways set.old.items line) store.old store.new stop set.new.items) }
+    ensures err { IfErr result (λ stop. Stops S.step
+        (obtain ways set.old.items line) store.old store.new stop set.new.items) }
     ensures room { vec_capacity set.old ≤ vec_capacity set.new }
     ensures fits { vec_len set.new ≤ ways }
     ensures first { OnOk result (0 < vec_len set.new) }
@@ -126,8 +127,10 @@ pub(crate) fn put_whole<S: LineStore>(
     requires room { ways ≤ vec_capacity set.old }
     requires line { line < S.lines store.old }
     requires lines { HoldsBelow (S.lines store.old) set.old.items }
-    ensures ok { IfOk result (λ _. Ends S.step (replace ways set.old.items line value) store.old store.new set.new.items) }
-    ensures err { IfErr result (λ stop. Stops S.step (replace ways set.old.items line value) store.old store.new stop set.new.items) }
+    ensures ok { IfOk result (λ _. Ends S.step
+        (replace ways set.old.items line value) store.old store.new set.new.items) }
+    ensures err { IfErr result (λ stop. Stops S.step
+        (replace ways set.old.items line value) store.old store.new stop set.new.items) }
     ensures room { vec_capacity set.old ≤ vec_capacity set.new }
     ensures fits { vec_len set.new ≤ ways }
     ensures below { HoldsBelow (S.lines store.old) set.new.items }
