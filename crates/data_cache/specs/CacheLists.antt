@@ -49,7 +49,8 @@ others set line = filter (λ (k : Kept). not (k.line == line)) set
 -- The used line comes first, and is dirty if it was or if the use changes it; the last of a full set finds no room.
 abbrev pub set_after : ℕ → List Kept → LineUse → List Kept
 set_after ways set use_of =
-    take ways (record { line = use_of.line; dirty = keeps_dirty set use_of.line || changes use_of.kind } ∷ others set use_of.line)
+    let first : Kept = record { line = use_of.line; dirty = keeps_dirty set use_of.line || changes use_of.kind } in
+    take ways (first ∷ others set use_of.line)
 
 -- the line that finds no room
 abbrev pub victim : ℕ → List Kept → ℕ → Option Kept
@@ -94,15 +95,16 @@ set_settled ways set victim =
     option_map_or (λ (k : Kept). if k.dirty then slice_set set (ways - 1)
     (record k { dirty = false }) else set) victim set
 
--- The requests, one after another, where a fetched line takes its place in the list of bytes; what is left is always this.
+-- The requests, one after another, where a fetched line takes its place in the list of bytes; what is left is always
+-- this.
 abbrev pub ask_all : {B : Type 0} → B → List ℕ → List LineRequest → Plan LineRequest (List ℕ) B (List ℕ)
 ask_all left memory [] = Done memory
 ask_all left memory (Fetch line ∷ rest) =
     Ask (Fetch line) left (λ bytes. ask_all left (spliced memory (64 * line) bytes) rest)
 ask_all left memory (Store line value ∷ rest) = Ask (Store line value) left (λ _. ask_all left memory rest)
 
--- A use, on its set: its requests, the set after it, and the list of bytes. A stop of the store leaves the set as it was; one of
--- the fetch leaves it so, but a victim that was stored is clean.
+-- A use, on its set: its requests, the set after it, and the list of bytes. A stop of the store leaves the set as it
+-- was; one of the fetch leaves it so, but a victim that was stored is clean.
 abbrev pub use_set : ℕ → List Kept → List ℕ → LineUse → Plan LineRequest (List ℕ) (List Kept) (List Kept × List ℕ)
 use_set ways set memory use_of =
     bind (λ left. left) (ask_all set memory (stored memory (victim ways set use_of.line)))

@@ -35,7 +35,8 @@ settled ways set (Some last) =
 abbrev pub settle : ℕ → List Held → Plan LineRequest (List ℕ) (List Held) (List Held)
 settle ways set = settled ways set (slice_get set (ways - 1))
 
--- The set with the line first; where it isn't held, the last of a full set is settled, and the line fetched in its place.
+-- The set with the line first; where it isn't held, the last of a full set is settled, and the line fetched in its
+-- place.
 abbrev pub obtained : ℕ → List Held → ℕ → Option Held → Plan LineRequest (List ℕ) (List Held) (List Held)
 obtained ways set n (Some h) = Done (h ∷ without n set)
 obtained ways set n None =
@@ -81,8 +82,8 @@ held_in c n = slice_index_or (c.sets) (index_of c n) []
 abbrev pub with_set : Contents → ℕ → List Held → Contents
 with_set c n set = record { ways = c.ways; sets = slice_set (c.sets) (index_of c n) set }
 
--- A read of so many bytes of a line from an offset on, a write of bytes there, and a write of the whole line: the cache then,
--- and for a read the bytes.
+-- A read of so many bytes of a line from an offset on, a write of bytes there, and a write of the whole line: the
+-- cache then, and for a read the bytes.
 abbrev pub read_plan : Contents → ℕ → ℕ → ℕ → Plan LineRequest (List ℕ) Contents (Contents × List ℕ)
 read_plan c n offset count =
     bind (with_set c n) (obtain (c.ways) (held_in c n) n)

@@ -54,8 +54,8 @@ impl Cache {
         Ok(Cache { sets: all, ways })
     }
 
-    /// Reads bytes of a line from `offset` on, as many as `into` has. A stop is only the store's; after it the lines are as
-    /// before, but a victim that was stored is clean, and `into` is as it was.
+    /// Reads bytes of a line from `offset` on, as many as `into` has. A stop is only the store's; after it the lines
+    /// are as before, but a victim that was stored is clean, and `into` is as it was.
     pub fn read<S: LineStore>(
         &mut self,
         store: &mut S,
@@ -80,8 +80,8 @@ impl Cache {
         Ok(())
     }
 
-    /// Writes bytes into a line from `offset` on, which is dirty then. A stop is only the store's; after it the lines are as
-    /// before, but a victim that was stored is clean.
+    /// Writes bytes into a line from `offset` on, which is dirty then. A stop is only the store's; after it the lines
+    /// are as before, but a victim that was stored is clean.
     pub fn write<S: LineStore>(
         &mut self,
         store: &mut S,
@@ -106,8 +106,8 @@ impl Cache {
         Ok(())
     }
 
-    /// Writes a whole line, which is dirty then, and fetches nothing. A stop is only the store's; after it the lines are as
-    /// before.
+    /// Writes a whole line, which is dirty then, and fetches nothing. A stop is only the store's; after it the lines
+    /// are as before.
     pub fn write_line<S: LineStore>(
         &mut self,
         store: &mut S,

@@ -10,9 +10,9 @@ ghost use Rattle.data_cache.specs.Contents.{Contents, read_plan, write_plan, wri
 ghost use Rattle.data_cache.specs.Mirror.{Mirrors};
 ghost use Rattle.asc_base.specs.declared.block.Line.{Line};
 
-/// Where lists of kept lines and a list of bytes stand for what a cache holds, the cache asks its store as the lists do,
-/// whatever lines are answered, and the lists and the list of bytes, in which each fetched line took its place, stand for what
-/// it holds then; a read answers their bytes. After a stop they stand for it too.
+/// Where lists of kept lines and a list of bytes stand for what a cache holds, the cache asks its store as the lists
+/// do, whatever lines are answered, and the lists and the list of bytes, in which each fetched line took its place,
+/// stand for what it holds then; a read answers their bytes. After a stop they stand for it too.
 pub fn asks_as_its_lists()
     ensures read { (count : ℕ) (cache : Contents) (lines : Lines) (line offset count_read : ℕ)
         → Mirrors count cache lines
@@ -33,8 +33,8 @@ pub fn asks_as_its_lists()
         (Mirrors count) (write_line_plan cache line value) (write_whole_line (cache.ways) lines line (value.0)) }
 {}
 
-/// A use makes exactly the requests of the lists, in order, whatever is answered: a dirty victim's store, and then the fetch
-/// of a line that isn't kept, where the use needs its bytes.
+/// A use makes exactly the requests of the lists, in order, whatever is answered: a dirty victim's store, and then
+/// the fetch of a line that isn't kept, where the use needs its bytes.
 pub fn uses_make_their_requests()
     ensures { (ways : ℕ) (memory : List ℕ) (sets : Sets) (use_of : LineUse)
         → Requests (use_set ways (set_of sets use_of.line) memory use_of) (requests_of ways memory sets use_of) }
@@ -47,8 +47,8 @@ pub fn empty_cache_has_empty_lists()
         (record { memory = memory; sets = no_lines sets }) }
 {}
 
-/// Worked rows: one set of one way, in which an image line is used and put out by line 1; one set of two ways; and a line
-/// that is written twice and stored once.
+/// Worked rows: one set of one way, in which an image line is used and put out by line 1; one set of two ways; and a
+/// line that is written twice and stored once.
 pub fn worked_requests()
     ensures one_way { requests_along 1 [] (no_lines 1)
         (record { line = 0; kind = WholeWrite } ∷ record { line = 0; kind = Read } ∷ record { line = 1; kind = Read }

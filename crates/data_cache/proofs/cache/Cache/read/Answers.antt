@@ -24,14 +24,19 @@ returns-clause-ok g c =
     (c.args.line % c.len.result) _ c.bring.new.set (ap (λ z. c.args.line % z) (c.len.ensures ∙ c.self.inside.sets.ok.0))
     (omega (arith, c.self.inside.sets.ok.0)) c.args.offset _ _ _ _ _
     (rw c.index_mut-set.ensures.value at c.in_ok-bring.ensures.ok) refl
-    (c.read_first.ensures ∙ ap (λ s. slice_of (first_bytes s) c.args.offset (length c.args.into.now)) c.deref.ensures.value))
+    (c.read_first.ensures
+    ∙ ap (λ s. slice_of (first_bytes s) c.args.offset (length c.args.into.now)) c.deref.ensures.value))
 
 pub returns-in_err-bring-clause-below : goal.returns-in_err-bring-clause-below
 returns-in_err-bring-clause-below g c =
-    rw c.in_err-bring.ensures.same (below_set (λ v. v.items) (g.S.LineStore.lines c.args.store.now) c.self.inside.sets.items
-    (c.args.line % c.len.result) c.bring.new.set (rw (← c.self.view_is) at c.requires.lines) c.in_err-bring.ensures.below)
+    rw c.in_err-bring.ensures.same (below_set (λ v. v.items)
+    (g.S.LineStore.lines c.args.store.now) c.self.inside.sets.items
+    (c.args.line % c.len.result) c.bring.new.set (rw
+    (← c.self.view_is) at c.requires.lines) c.in_err-bring.ensures.below)
 
 pub returns-clause-below : goal.returns-clause-below
 returns-clause-below g c =
-    rw c.in_ok-bring.ensures.same (below_set (λ v. v.items) (g.S.LineStore.lines c.args.store.now) c.self.inside.sets.items
-    (c.args.line % c.len.result) c.bring.new.set (rw (← c.self.view_is) at c.requires.lines) c.in_ok-bring.ensures.below)
+    rw c.in_ok-bring.ensures.same (below_set (λ v. v.items)
+    (g.S.LineStore.lines c.args.store.now) c.self.inside.sets.items
+    (c.args.line % c.len.result) c.bring.new.set (rw
+    (← c.self.view_is) at c.requires.lines) c.in_ok-bring.ensures.below)

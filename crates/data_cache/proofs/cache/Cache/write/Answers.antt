@@ -19,18 +19,22 @@ returns-in_err-bring-clause-err g c =
 pub returns-clause-ok : goal.returns-clause-ok
 returns-clause-ok g c =
     rw (← c.self.view_is) (write_ends g.S.LineStore.step (λ v. v.items) _ _ c.self.inside.sets.items
-    (c.args.line % c.len.result) _ c.write_first.new.set (ap (λ z. c.args.line % z) (c.len.ensures ∙ c.self.inside.sets.ok.0))
+    (c.args.line % c.len.result) _ c.write_first.new.set (ap (λ z. c.args.line % z) (c.len.ensures
+    ∙ c.self.inside.sets.ok.0))
     (omega (arith, c.self.inside.sets.ok.0)) c.args.offset c.args.bytes.now _ _ _
     (rw c.index_mut-set.ensures.value at c.in_ok-bring.ensures.ok) c.write_first.ensures.items)
 
 pub returns-in_err-bring-clause-below : goal.returns-in_err-bring-clause-below
 returns-in_err-bring-clause-below g c =
-    rw c.in_err-bring.ensures.same (below_set (λ v. v.items) (g.S.LineStore.lines c.args.store.now) c.self.inside.sets.items
-    (c.args.line % c.len.result) c.bring.new.set (rw (← c.self.view_is) at c.requires.lines) c.in_err-bring.ensures.below)
+    rw c.in_err-bring.ensures.same (below_set (λ v. v.items)
+    (g.S.LineStore.lines c.args.store.now) c.self.inside.sets.items
+    (c.args.line % c.len.result) c.bring.new.set (rw
+    (← c.self.view_is) at c.requires.lines) c.in_err-bring.ensures.below)
 
 pub returns-clause-below : goal.returns-clause-below
 returns-clause-below g c =
-    rw c.in_ok-bring.ensures.same (below_set (λ v. v.items) (g.S.LineStore.lines c.args.store.now) c.self.inside.sets.items
+    rw c.in_ok-bring.ensures.same (below_set (λ v. v.items)
+    (g.S.LineStore.lines c.args.store.now) c.self.inside.sets.items
     (c.args.line % c.len.result) c.write_first.new.set (rw (← c.self.view_is) at c.requires.lines)
     (rw c.write_first.ensures.items (below_written (g.S.LineStore.lines c.args.store.now) c.args.offset c.args.bytes.now
     c.bring.new.set.items c.in_ok-bring.ensures.below)))
