@@ -26,7 +26,8 @@ module _ {S Q X E : Type 0} (step : S → Q → Result X E → S → Type 0) whe
   Stops-last P each (Ask q c k) s t e b (inl h) = each s t q e (h.0)
   Stops-last P each (Ask q c k) s t e b (inr h) = Stops-last P each (k (h.0)) (h.1) t e b (h.3)
 
-  -- where each answered step keeps it, a chain from where it holds is one of steps from where it holds, and it holds after it
+  -- where each answered step keeps it, a chain from where it holds is one of steps from where it holds, and it holds
+  -- after it
   pub Ends-narrows : (Holds : S → Type 0) → AnswersKeep step Holds
       → {B A : Type 0} (p : Plan Q X B A) (s t : S) (a : A) → Holds s → Ends step p s t a
       → Ends (Within Holds step) p s t a × Holds t
@@ -78,7 +79,8 @@ Outcomes-bind First P put (Ask q b k) next h each = λ x. Outcomes-bind First P 
 
 -- what holds at the end of every chain of steps that may answer anything, every outcome has
 pub Outcomes-from : {Q X B A : Type 0} (P : A → Type 0) (p : Plan Q X B A)
-    → ((a : A) → Ends {E = Unit {0}} (λ (s : Unit {0}) (q : Q) (r : Result X (Unit {0})) (t : Unit {0}). Unit {0}) p tt tt a
+    → ((a : A)
+    → Ends {E = Unit {0}} (λ (s : Unit {0}) (q : Q) (r : Result X (Unit {0})) (t : Unit {0}). Unit {0}) p tt tt a
     → P a)
     → Outcomes P p
 Outcomes-from P (Done a) h = h a (cc, cc)

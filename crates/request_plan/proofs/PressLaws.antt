@@ -11,7 +11,8 @@ use Rattle.request_plan.proofs.Plays.{IsCut, Stops-follows, Stops-late}
 use Rattle.request_plan.proofs.Keeps.{Stops-narrows}
 
 -- after an answer
-after-sheet : (s t : PressState) → t ≡ with_sheet s → (t.sheets ≡ s.sheets + 1) × (t.paper ≡ s.paper - 1) × (t.jammed ≡ s.jammed)
+after-sheet : (s t : PressState) → t ≡ with_sheet s
+    → (t.sheets ≡ s.sheets + 1) × (t.paper ≡ s.paper - 1) × (t.jammed ≡ s.jammed)
 after-sheet s t e =
     (ap (λ (p : PressState). p.sheets) e, ap (λ (p : PressState). p.paper) e, ap (λ (p : PressState). p.jammed) e)
 
@@ -26,10 +27,12 @@ press-clean s t q (Err Jammed) h few =
     let same : t.sheets ≡ s.sheets = ap (λ (p : PressState). p.sheets) ((h.1).0) in omega arith
 
 -- the turn of a server with some paper
-shift-some : (n paper : ℕ) → 0 < paper → shift_of n paper ≡ record { records = (n + 1) ∷ []; held = (n + 1, paper - 1); answer = n + 1 }
+shift-some : (n paper : ℕ) → 0 < paper
+    → shift_of n paper ≡ record { records = (n + 1) ∷ []; held = (n + 1, paper - 1); answer = n + 1 }
 shift-some n zero some = absurd (omega arith)
 shift-some n (suc paper) some =
-    ap (λ (k : ℕ). let turn : Turn ℕ (ℕ × ℕ) ℕ = record { records = (n + 1) ∷ []; held = (n + 1, k); answer = n + 1 } in turn)
+    ap
+    (λ (k : ℕ). let turn : Turn ℕ (ℕ × ℕ) ℕ = record { records = (n + 1) ∷ []; held = (n + 1, k); answer = n + 1 } in turn)
     (let e : paper ≡ suc paper - 1 = omega arith in e)
 
 -- the pages of a press that hasn't jammed
@@ -43,7 +46,8 @@ pages-sound p n sound is =
 sheets-next : (n : ℕ) → sheets_to (n + 1) ≡ sheets_to n ++ (n + 1) ∷ []
 sheets-next n = let e : n + 1 ≡ suc n = omega arith in rw e refl
 
-pages-next : (n : ℕ) → flat_map pages_of (sheets_to (n + 1)) ≡ flat_map pages_of (sheets_to n) ++ flat_map pages_of ((n + 1) ∷ [])
+pages-next : (n : ℕ)
+    → flat_map pages_of (sheets_to (n + 1)) ≡ flat_map pages_of (sheets_to n) ++ flat_map pages_of ((n + 1) ∷ [])
 pages-next n = ap (flat_map pages_of) (sheets-next n) ∙ flat_map-append pages_of (sheets_to n) ((n + 1) ∷ [])
 
 pub press-turns : TakesTurns (Within IsSound Prints) shift IsLike pages pages_of IsFew
@@ -56,7 +60,8 @@ press-turns s t q x h few held like =
     let more : t.sheets ≡ n + 1 = omega (arith, after.0, sheets) in
     let less : t.paper ≡ held.1 - 1 = omega (arith, after.1, like.1) in
     let number : x ≡ n + 1 = omega (arith, (h.1).4, sheets) in
-    subst (λ (turn : Turn ℕ (ℕ × ℕ) ℕ). (x ≡ turn.answer) × IsLike t turn.held × (pages t ≡ pages s ++ flat_map pages_of turn.records))
+    subst (λ (turn : Turn ℕ (ℕ × ℕ) ℕ). (x ≡ turn.answer) × IsLike t turn.held
+    × (pages t ≡ pages s ++ flat_map pages_of turn.records))
     (sym turn) (
       number,
       (more, less),
@@ -98,7 +103,8 @@ shift-none n paper e = rw e refl
 pub press-late : EndsTurns (Within IsSound Prints) shift IsLike pages pages_of IsOut IsEmpty IsFew
 press-late s t q NoPaper h out few held like =
     let none : held.1 ≡ 0 = omega (arith, (h.1).1, like.1) in
-    subst (λ (turn : Turn ℕ (ℕ × ℕ) ℕ). IsEmpty turn.held × IsLike t turn.held × (pages t ≡ pages s ++ flat_map pages_of turn.records))
+    subst (λ (turn : Turn ℕ (ℕ × ℕ) ℕ). IsEmpty turn.held × IsLike t turn.held
+    × (pages t ≡ pages s ++ flat_map pages_of turn.records))
     (sym (shift-none (held.0) (held.1) none)) (
       refl,
       (ap (λ (p : PressState). p.sheets) ((h.1).2) ∙ like.0, ap (λ (p : PressState). p.paper) ((h.1).2) ∙ (h.1).1),
@@ -108,7 +114,8 @@ press-late s t q Jammed h out few held like = absurd (cc)
 
 pub press-quiet : StaysQuiet shift IsLike IsEmpty
 press-quiet held q empty =
-    subst (λ (turn : Turn ℕ (ℕ × ℕ) ℕ). (turn.records ≡ []) × IsEmpty turn.held × ((t : PressState) → IsLike t held → IsLike t turn.held))
+    subst (λ (turn : Turn ℕ (ℕ × ℕ) ℕ). (turn.records ≡ []) × IsEmpty turn.held × ((t : PressState) → IsLike t held
+    → IsLike t turn.held))
     (sym (shift-none (held.0) (held.1) empty)) (refl, refl, λ t like. (like.0, like.1 ∙ empty))
 
 pub press-notes : NotesAnswers (Within IsSound Prints) numbers (λ (p : PressState). sheets_to p.sheets)
@@ -134,7 +141,8 @@ press-tells s t q x h held e =
 pub folder-ends : EndsBelow Prints Folds (λ (f : FolderState). f.press) (λ (f : FolderState). f.leaflets) leaflet_plan
 folder-ends s t q x h = h
 
-pub folder-stops : StopsBelow Prints Folds (λ (f : FolderState). f.press) (λ (f : FolderState). f.leaflets) (λ (f : FolderState). tt) leaflet_plan
+pub folder-stops : StopsBelow Prints Folds
+    (λ (f : FolderState). f.press) (λ (f : FolderState). f.leaflets) (λ (f : FolderState). tt) leaflet_plan
 folder-stops s t q e h = h.0
 
 -- ---- rows
@@ -168,11 +176,13 @@ third_is_cut = inr (
   ),
 )
 
-pub third-noted : IsCut pages_of IsFirstPage pages (play shift (sheets_plan 3) (0, 3)) (loaded 3 2) (record after_two { jammed = true }) Jammed 1
+pub third-noted : IsCut pages_of IsFirstPage pages (play shift (sheets_plan 3) (0, 3)) (loaded 3 2)
+    (record after_two { jammed = true }) Jammed 1
 third-noted =
     Stops-follows (Within IsSound Prints) shift IsLike pages pages_of IsFew press-clean press-turns IsJam IsFirstPage press-cuts
     (sheets_plan 3) (loaded 3 2) (record after_two { jammed = true }) Jammed 1
-    (Stops-narrows Prints IsSound press-keeps (sheets_plan 3) (loaded 3 2) (record after_two { jammed = true }) Jammed 1 refl third_is_cut)
+    (Stops-narrows Prints IsSound press-keeps (sheets_plan 3) (loaded 3 2)
+    (record after_two { jammed = true }) Jammed 1 refl third_is_cut)
     refl (omega arith) (0, 3) (refl, refl)
 
 pub third_halt : halt 0 (play shift (sheets_plan 3) (0, 3)) 3 ≡ (1 ∷ 2 ∷ 3 ∷ [], 1)

@@ -73,7 +73,8 @@ module _ {S Q X P Y E F T H C L : Type 0}
       (ends s (h.1) q (h.0) (h.2)) (Stops-caught left e f each (k (h.0)) (h.1) t b (h.3))
 
   -- a stop of the layer is a refusal, or a stop below
-  pub Stops-either : (left : T → C) (refusal : E → L) (cause : E → F) → RefusesBelow step upper below held left refusal cause serve
+  pub Stops-either : (left : T → C) (refusal : E → L) (cause : E → F)
+      → RefusesBelow step upper below held left refusal cause serve
       → {B A : Type 0} (p : Plan Q X B A) (s t : T) (e : E) (b : B) → Stops upper p s t e b
       → Ends step (caught serve p (held s)) (below s) (below t) (Refused (refusal e) b)
       ⊎ Stops step (caught serve p (held s)) (below s) (below t) (cause e) (left t, b)
@@ -81,11 +82,14 @@ module _ {S Q X P Y E F T H C L : Type 0}
   Stops-either left refusal cause each (Ask q c k) s t e b (inl h) =
       elim (each s t q e (h.0)) [
         | inl refused ↦ inl (
-            subst (λ y. Ends step (caught serve (Ask q c k) (held s)) (below s) (below t) (Refused (refusal e) y)) (sym h.1)
-            (Ends-bind step _ (serve (held s) q) _ (below s) (below t) (below t) (Refuses (refusal e)) _ refused (refl, refl))
+            subst (λ y. Ends step (caught serve (Ask q c k) (held s)) (below s) (below t) (Refused (refusal e) y))
+            (sym h.1)
+            (Ends-bind step _ (serve (held s) q) _ (below s) (below t) (below t) (Refuses (refusal e)) _ refused
+            (refl, refl))
             )
         | inr stopped ↦ inr (
-            subst (λ y. Stops step (caught serve (Ask q c k) (held s)) (below s) (below t) (cause e) (left t, y)) (sym h.1)
+            subst (λ y. Stops step (caught serve (Ask q c k) (held s)) (below s) (below t) (cause e) (left t, y))
+            (sym h.1)
             (Stops-bind step _ (serve (held s) q) _ (below s) (below t) (cause e) (left t) stopped)
             )
       ]
@@ -96,7 +100,8 @@ module _ {S Q X P Y E F T H C L : Type 0}
             (ends s (h.1) q (h.0) (h.2)) refused
             )
         | inr stopped ↦ inr (
-            Stops-bind-next step _ (serve (held s) q) _ (below s) (below (h.1)) (below t) (Gives (held (h.1)) (h.0)) (cause e) _
+            Stops-bind-next step _ (serve (held s) q) _ (below s) (below (h.1)) (below t) (Gives (held (h.1)) (h.0))
+            (cause e) _
             (ends s (h.1) q (h.0) (h.2)) stopped
             )
       ]

@@ -65,8 +65,8 @@ StopsUnnoted {S} {Q} {E} step noted = (s t : S) (q : Q) (e : E) → step s q (Er
 abbrev pub StaysClean : {S Q X E : Type 0} → (S → Q → Result X E → S → Type 0) → (S → Type 0) → Type 0
 StaysClean {S} {Q} {X} {E} step clean = (s t : S) (q : Q) (a : Result X E) → step s q a t → clean t → clean s
 
--- From whatever the value before it stands for, an answer is that of the server's turn, its records' items were noted, and
--- the value after it stands for what the server holds then.
+-- From whatever the value before it stands for, an answer is that of the server's turn, its records' items were
+-- noted, and the value after it stands for what the server holds then.
 abbrev pub TakesTurns : {S H Q X E R N : Type 0}
     → (S → Q → Result X E → S → Type 0) → (H → Q → Turn R H X)
     → (S → H → Type 0) → (S → List N) → (R → List N) → (S → Type 0) → Type 0
@@ -75,8 +75,8 @@ TakesTurns {S} {H} {Q} {X} step serve StandsFor noted items clean =
     → (x ≡ (serve h q).answer) × StandsFor t (serve h q).held
     × (noted t ≡ noted s ++ flat_map items ((serve h q).records))
 
--- A stop that cuts comes in one of the records of the server's turn: the items of those before it were noted, and some for
--- that one, of which Part says, by the stop and the value after it, what they are. They may be none.
+-- A stop that cuts comes in one of the records of the server's turn: the items of those before it were noted, and
+-- some for that one, of which Part says, by the stop and the value after it, what they are. They may be none.
 abbrev pub CutsTurns : {S H Q X E R N : Type 0}
     → (S → Q → Result X E → S → Type 0) → (H → Q → Turn R H X)
     → (S → H → Type 0) → (S → List N) → (R → List N) → (E → Type 0) → (E → S → R → List N → Type 0) → (S → Type 0)
@@ -84,7 +84,8 @@ abbrev pub CutsTurns : {S H Q X E R N : Type 0}
 CutsTurns {S} {H} {Q} {E} {R} {N} step serve StandsFor noted items Cuts Part clean =
     (s t : S) (q : Q) (e : E) → step s q (Err e) t → Cuts e → clean t → (h : H) → StandsFor s h
     → (done : List R) × (cut : R) × (rest : List R) × (some : List N)
-    × ((serve h q).records ≡ done ++ cut ∷ rest) × (noted t ≡ noted s ++ flat_map items done ++ some) × Part e t cut some
+    × ((serve h q).records ≡ done ++ cut ∷ rest) × (noted t ≡ noted s ++ flat_map items done ++ some)
+    × Part e t cut some
 
 -- A late stop comes after all records of the server's turn, from where on the server is quiet.
 abbrev pub EndsTurns : {S H Q X E R N : Type 0}

@@ -65,7 +65,8 @@ abbrev pub Outcomes : {Q X B A : Type 0} → (A → Type 0) → Plan Q X B A →
 Outcomes P (Done a) = P a
 Outcomes {Q} {X} P (Ask q b k) = (x : X) → Outcomes P (k x)
 
--- What a plan over such a layer that holds nothing comes to: it gives an answer; or it ends with a refusal, or is stopped.
+-- What a plan over such a layer that holds nothing comes to: it gives an answer; or it ends with a refusal, or is
+-- stopped.
 abbrev pub ComesTo : {S P Y X E : Type 0} → (S → P → Result Y E → S → Type 0)
     → Plan P Y (Unit {0}) (Reply E (Unit {0}) X) → S → Result X E → S → Type 0
 ComesTo step plan old (Ok x) new = Ends step plan old new (Gives tt x)

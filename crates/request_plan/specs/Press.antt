@@ -26,7 +26,8 @@ with_sheet p = record p { sheets = p.sheets + 1; paper = p.paper - 1; sound = p.
 abbrev pub Halts : PressState → Halted → PressState → Type 0
 Halts old NoPaper new = (old.jammed ≡ false) × (old.paper ≡ 0) × (new ≡ old)
 Halts old Jammed new =
-    (new ≡ record old { jammed = true }) × ((old.jammed ≡ true) ⊎ ((old.jammed ≡ false) × (0 < old.paper) × (old.sound ≡ 0)))
+    (new ≡ record old { jammed = true }) × ((old.jammed ≡ true) ⊎ ((old.jammed ≡ false) × (0 < old.paper)
+    × (old.sound ≡ 0)))
 
 -- A request for a sheet, which is answered by its number.
 abbrev pub Prints : PressState → Unit {0} → Result ℕ Halted → PressState → Type 0

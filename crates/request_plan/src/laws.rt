@@ -45,8 +45,8 @@ pub fn one_after_another<S: Stepped, A, B, C, D>()
         × Ends S.step first start middle a × Stops S.step (next a) middle end stop left) }
 {}
 
-/// What each answered step keeps holds along a chain: each of its steps is one from where it holds, and it holds at the end.
-/// Every law of single steps can so be asked of the steps from where it holds alone.
+/// What each answered step keeps holds along a chain: each of its steps is one from where it holds, and it holds at
+/// the end. Every law of single steps can so be asked of the steps from where it holds alone.
 pub fn invariant_kept<S: Kept, A, B>()
     ensures ends { AnswersKeep S.step S.holds
         → (plan : Plan S.Request S.Answer B A) (start end : S) (a : A)
@@ -57,8 +57,8 @@ pub fn invariant_kept<S: Kept, A, B>()
         → Stops (Within S.holds S.step) plan start end stop left }
 {}
 
-/// What is known of a value and of the rest of its plan, and is carried over each answer, is known at a chain's end; and a
-/// chain that is stopped has what it gives there of the stop and of what is left.
+/// What is known of a value and of the rest of its plan, and is carried over each answer, is known at a chain's end;
+/// and a chain that is stopped has what it gives there of the stop and of what is left.
 pub fn carried_along<S: Knows<A, B>, A, B>()
     ensures ends { AnswersCarry S.step S.known
         → (plan : Plan S.Request S.Answer B A) (start end : S) (a : A)
@@ -68,9 +68,9 @@ pub fn carried_along<S: Knows<A, B>, A, B>()
         → Stops S.step plan start end stop left → S.known start plan → S.known_left end stop left }
 {}
 
-/// What every outcome of a plan has, whatever is answered, the outcome of each chain has. One plan after another has the
-/// outcomes of the second after those of the first, and its requests are those of the first, and those of the second after
-/// each outcome of the first.
+/// What every outcome of a plan has, whatever is answered, the outcome of each chain has. One plan after another has
+/// the outcomes of the second after those of the first, and its requests are those of the first, and those of the
+/// second after each outcome of the first.
 pub fn outcomes_and_requests<S: Stepped, A: Says, B, C, D: Says>()
 where
     S::Request: Says,
@@ -78,16 +78,17 @@ where
         → (start end : S) (a : A) → Ends S.step plan start end a → A.says a }
     ensures outcomes { (put : B → C) (first : Plan S.Request S.Answer B A)
         (next : A → Plan S.Request S.Answer C D)
-        → Outcomes A.says first → ((a : A) → A.says a → Outcomes D.says (next a)) → Outcomes D.says (bind put first next) }
+        → Outcomes A.says first → ((a : A) → A.says a → Outcomes D.says (next a))
+        → Outcomes D.says (bind put first next) }
     ensures requests { (put : B → C)
         (first : Plan S.Request S.Answer B A) (next : A → Plan S.Request S.Answer C D)
         → Asks S.Request.says first → Outcomes A.says first → ((a : A) → A.says a → Asks S.Request.says (next a))
         → Asks S.Request.says (bind put first next) }
 {}
 
-/// What follows a plan of the requests of a layer `T` follows, below in `S`, that plan through the layer. It is asked of the
-/// layer that each answer is the end of its plan below, and each stop a stop of it; `held` is what the layer holds itself,
-/// and `left` what it holds after a stop.
+/// What follows a plan of the requests of a layer `T` follows, below in `S`, that plan through the layer. It is asked
+/// of the layer that each answer is the end of its plan below, and each stop a stop of it; `held` is what the layer
+/// holds itself, and `left` what it holds after a stop.
 pub fn through_a_layer<T: Kept, S: Stepped<Stop = T::Stop>, H, L, A, B>()
     ensures ends { AnswersKeep T.step T.holds → (below : T → S) (held : T → H)
         (serve : H → T.Request → Plan S.Request S.Answer L (H × T.Answer))
@@ -106,9 +107,9 @@ pub fn through_a_layer<T: Kept, S: Stepped<Stop = T::Stop>, H, L, A, B>()
         stop (left end, b) }
 {}
 
-/// The same through a layer that may refuse a request, which is no stop below: where it answers with a stop, that plan ends
-/// with a refusal, or is stopped below. A layer that holds nothing, and whose requests come to what their plans come to, is
-/// one.
+/// The same through a layer that may refuse a request, which is no stop below: where it answers with a stop, that
+/// plan ends with a refusal, or is stopped below. A layer that holds nothing, and whose requests come to what their
+/// plans come to, is one.
 pub fn through_a_refusing_layer<T: Kept, S: Stepped, H, K, L, A, B>()
     ensures ends { AnswersKeep T.step T.holds → (below : T → S) (held : T → H)
         (serve : H → T.Request → Plan S.Request S.Answer L (Reply K H T.Answer))
@@ -138,8 +139,8 @@ pub fn through_a_refusing_layer<T: Kept, S: Stepped, H, K, L, A, B>()
         ⊎ Stops S.step (caught (λ (held : Unit {0}) (q : T.Request). serve q) plan tt) start end stop (tt, b) }
 {}
 
-/// Where each step tells what it was served from, as an honest memory tells its contents, the plan of a chain is served by
-/// what was told at its start, to the chain's outcome and what is told at its end.
+/// Where each step tells what it was served from, as an honest memory tells its contents, the plan of a chain is
+/// served by what was told at its start, to the chain's outcome and what is told at its end.
 pub fn told_is_served<S: Kept, H, A, B>()
     ensures { AnswersKeep S.step S.holds
         → (told : S → Option H) (serve : H → S.Request → S.Answer × H) → Tells (Within S.holds S.step) told serve
@@ -148,8 +149,8 @@ pub fn told_is_served<S: Kept, H, A, B>()
         → (before : H) × (told start ≡ Some before) × (served serve plan before ≡ (a, after)) }
 {}
 
-/// Where a value notes what it answers, the plan of a chain was run on exactly what was noted: it finishes on these items
-/// with the chain's outcome, and a stopped chain's plan uses them all.
+/// Where a value notes what it answers, the plan of a chain was run on exactly what was noted: it finishes on these
+/// items with the chain's outcome, and a stopped chain's plan uses them all.
 pub fn noted_is_run<S: Kept, N, A, B>()
     ensures ends { AnswersKeep S.step S.holds
         → (source : S.Request → Source N S.Answer) (noted : S → List N)
@@ -167,8 +168,8 @@ pub fn noted_is_run<S: Kept, N, A, B>()
         × UsesAll (course source plan items) }
 {}
 
-/// One plan after another runs on a list of items as the first does, and from there as the second: a stop in the first is a
-/// stop of both. On no item a plan is starved at its first request that needs one, or finishes.
+/// One plan after another runs on a list of items as the first does, and from there as the second: a stop in the
+/// first is a stop of both. On no item a plan is starved at its first request that needs one, or finishes.
 pub fn one_run_after_another<S: Stepped, N, A, B, C, D>()
     ensures joins { (source : S.Request → Source N S.Answer) (put : B → C) (first : Plan S.Request S.Answer B A)
         (next : A → Plan S.Request S.Answer C D) (items : List N)
@@ -178,10 +179,11 @@ pub fn one_run_after_another<S: Stepped, N, A, B, C, D>()
         → UsesAll (course source plan []) }
 {}
 
-/// Where each step that ends clean takes a server's turn, from whatever the value stands for, and notes the items of its
-/// records, a chain that ends clean has the outcome of the plan's play, and noted the items of its records. A chain stopped
-/// by a stop that cuts noted those of the records before one of them, and a part of that one's, which leaves what the plan
-/// does: the play's halt at that record (`none` is what is left at no record). One with a late stop noted the whole play.
+/// Where each step that ends clean takes a server's turn, from whatever the value stands for, and notes the items of
+/// its records, a chain that ends clean has the outcome of the plan's play, and noted the items of its records. A
+/// chain stopped by a stop that cuts noted those of the records before one of them, and a part of that one's, which
+/// leaves what the plan does: the play's halt at that record (`none` is what is left at no record). One with a late
+/// stop noted the whole play.
 pub fn play_or_cut<S: Follows, A, B>()
     ensures ends { AnswersKeep S.step S.holds
         → (serve : S.Held → S.Request → Turn S.Record S.Held S.Answer)
@@ -204,7 +206,8 @@ pub fn play_or_cut<S: Follows, A, B>()
         → (held : S.Held) → S.stands_for start held
         → (done : List S.Record) × (cut : S.Record) × (some : List S.Item) × IsHalt (play serve plan held) done cut left
         × (noted end ≡ noted start ++ flat_map items done ++ some) × S.part stop end cut some }
-    ensures halt { (none : B) (serve : S.Held → S.Request → Turn S.Record S.Held S.Answer) (plan : Plan S.Request S.Answer B A) (held : S.Held)
+    ensures halt { (none : B) (serve : S.Held → S.Request
+        → Turn S.Record S.Held S.Answer) (plan : Plan S.Request S.Answer B A) (held : S.Held)
         (done : List S.Record) (cut : S.Record) (left : B) → IsHalt (play serve plan held) done cut left
         → halt none (play serve plan held) (suc (length done)) ≡ (done ++ cut ∷ [], left) }
     ensures late { AnswersKeep S.step S.holds
@@ -221,9 +224,9 @@ pub fn play_or_cut<S: Follows, A, B>()
         S.stands_for end whole.held × (noted end ≡ noted start ++ flat_map items (bare (whole.records))) }
 {}
 
-/// The press and the folder meet all that the laws ask, from where the press hasn't jammed. A jammed press answers so for
-/// good. A press that jams within its third sheet printed two sheets' pages and one page, and its server's play is cut in its
-/// third record; one whose paper ends before it printed the whole play.
+/// The press and the folder meet all that the laws ask, from where the press hasn't jammed. A jammed press answers so
+/// for good. A press that jams within its third sheet printed two sheets' pages and one page, and its server's play
+/// is cut in its third record; one whose paper ends before it printed the whole play.
 pub fn press_meets_the_laws()
     ensures keeps { AnswersKeep Prints IsSound }
     ensures clean { StaysClean (Within IsSound Prints) IsFew }

@@ -91,7 +91,8 @@ pub trait Follows: Guarded {
     ghost quiet: { Self.Held → Type 0 };
 }
 
-/// A value of which something is known beside the plan that is left, `A` and `B` being the plan's outcomes and what it leaves.
+/// A value of which something is known beside the plan that is left, `A` and `B` being the plan's outcomes and what
+/// it leaves.
 pub trait Knows<A, B>: Stepped {
     /// It is known.
     ghost known: { Self → Plan Self.Request Self.Answer B A → Type 0 };

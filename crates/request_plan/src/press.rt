@@ -49,8 +49,8 @@ impl Press {
         }
     }
 
-    /// Prints a sheet; its number, the first being 1. Without paper the press is as it was. Where it jams it printed the first
-    /// page alone, and every later call answers `Jammed` and changes nothing.
+    /// Prints a sheet; its number, the first being 1. Without paper the press is as it was. Where it jams it printed
+    /// the first page alone, and every later call answers `Jammed` and changes nothing.
     pub fn print(&mut self) -> Result<u64, Halted>
         ensures { MatchResult result
             (λ number. Prints self.old tt (Ok number) self.new)
@@ -143,8 +143,8 @@ impl Folder {
         Folder { press, leaflets: 0 }
     }
 
-    /// Makes a leaflet: two sheets, one after the other; the number of the second. A leaflet that was stopped doesn't count,
-    /// and the first stop is answered.
+    /// Makes a leaflet: two sheets, one after the other; the number of the second. A leaflet that was stopped doesn't
+    /// count, and the first stop is answered.
     pub fn fold(&mut self) -> Result<u64, Halted>
         ensures ends { IfOk result (λ last. Ends Prints (leaflet_plan self.old.leaflets tt)
             self.old.press self.new.press (self.new.leaflets, last)) }

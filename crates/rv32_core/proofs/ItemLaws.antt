@@ -8,7 +8,7 @@ use Rattle.asc_base.specs.Memory.{IsMemory}
 use Rattle.rv32_table.specs.Meaning.{load_width, store_width}
 use Rattle.rv32_core.specs.Machine.{CoreState, Machine, IsEffect, is_inside, effect_of_word, cost_of_word}
 use Rattle.rv32_core.specs.FlatMachine.{FlatStep, bytes_at, effected, flat_step}
-use Rattle.rv32_core.specs.FlatRun.{FlatEnding, Exited, Trapped, Budget, FlatRun, finished_before, run_from, flat_run}
+use Rattle.rv32_core.specs.FlatRun.{Budget, FlatRun, run_from, flat_run}
 use Rattle.rv32_core.specs.LineList.{LineKind, Read, Write, WholeWrite, LineUse, LineItem, line_of, lines_from, lines_of, used, data_lines, word_lines, fetch_line, step_lines, items_after, items_from, run_items, image_items, cost_after}
 use Rattle.rv32_core.specs.declared.effect.Effect.{Effect}
 use Rattle.rv32_core.specs.declared.effect.Effect.TheVariants.{Passes, Sets, Jumps, Loads, Stores, Answers, Breaks, Reads, Writes, Exits, Traps}

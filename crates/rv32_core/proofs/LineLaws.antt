@@ -1,12 +1,12 @@
 -- Lines: those of a range are those of its pieces, those that a step asks for, and that they rise and lie in the memory.
-use Rattle.std.proofs.Common.{◌≡◌, ℕ, ◌+◌, ◌-◌, ◌/◌, ◌%◌, ◌^◌, ◌<◌, ◌≤◌, ◌==◌, ◌&&◌, ◌||◌, nat_le, min, Bool, true, false, IsTrue, if◌then◌else◌, List, [], ◌∷◌, ◌++◌, map, refl, sym, ap, subst, ◌∙◌, arith, zero, suc, take, drop, length, append-nil, inl, inr}
+use Rattle.std.proofs.Common.{◌≡◌, ℕ, ◌+◌, ◌-◌, ◌%◌, ◌<◌, ◌≤◌, ◌==◌, false, List, [], ◌∷◌, ◌++◌, refl, sym, ap, subst, ◌∙◌, arith, zero, suc, drop, inl, inr}
 use Rattle.std.proofs.lemmas.Bool.{cases_lt}
 use Rattle.std.proofs.lemmas.Bool.Decides.{nat_tests}
 use Rattle.request_plan.specs.Plan.{Plan, Done as Outcome, Ask, bind}
-use Rattle.rv32_core.specs.Access.{Access, Load, Store}
+use Rattle.rv32_core.specs.Access.{Access}
 use Rattle.rv32_core.specs.Transfer.{pieces_within, pieces, stores_plan, loads_plan}
-use Rattle.rv32_core.specs.Machine.{CoreState, Machine}
-use Rattle.rv32_core.specs.LineList.{LineKind, Read, Write, LineUse, line_of, lines_from, lines_of, used, line_used, AsksLines, asked_lines}
+use Rattle.rv32_core.specs.Machine.{CoreState}
+use Rattle.rv32_core.specs.LineList.{Read, Write, LineUse, line_of, lines_from, lines_of, used, AsksLines, asked_lines}
 use Rattle.rv32_core.proofs.TransferLaws.{first_length, pieces_within-none, pieces_within-more}
 
 -- ---- the lines of a range

@@ -1,13 +1,13 @@
 -- A flat run's output is a prefix of a longer one's, and its bytes stay as many.
-use Rattle.std.proofs.Common.{◌≡◌, ℕ, suc, zero, ◌+◌, ◌-◌, ◌≤◌, ◌<◌, Bool, true, false, if◌then◌else◌, List, [], ◌∷◌, ◌++◌, IsTrue, length, refl, sym, ap, subst, ◌∙◌, append_assoc, append-nil, arith}
+use Rattle.std.proofs.Common.{◌≡◌, ℕ, suc, zero, ◌+◌, ◌-◌, ◌≤◌, ◌<◌, List, [], ◌∷◌, ◌++◌, IsTrue, length, refl, sym, ap, subst, ◌∙◌, append_assoc, append-nil, arith}
 use Rattle.std.proofs.lemmas.Grind.{common_steps}
 use Rattle.std.specs.Int.{from_le_bytes, w32}
 use Rattle.rv32_table.specs.Meaning.{store_width}
 use Rattle.rv32_table.specs.declared.instruction.StoreOp.{StoreOp}
 use Rattle.rv32_core.specs.Access.{slice_of, spliced, length-spliced}
-use Rattle.rv32_core.specs.Machine.{CoreState, Machine, IsEffect, is_inside, is_buffer, cost_of_word, effect_of_word}
+use Rattle.rv32_core.specs.Machine.{Machine, IsEffect, is_inside, is_buffer, cost_of_word, effect_of_word}
 use Rattle.rv32_core.specs.FlatMachine.{FlatStep, flat_step, effected, bytes_at, stored_bytes}
-use Rattle.rv32_core.specs.FlatRun.{FlatEnding, Exited, Trapped, Budget, FlatRun, flat_run, run_from, gone_on_from, gone_on}
+use Rattle.rv32_core.specs.FlatRun.{FlatEnding, Exited, Trapped, Budget, FlatRun, flat_run, run_from, gone_on_from}
 use Rattle.rv32_core.specs.declared.effect.Effect.{Effect}
 use Rattle.rv32_core.specs.declared.effect.Effect.TheVariants.{Passes, Sets, Jumps, Loads, Stores, Answers, Breaks, Reads, Writes, Exits, Traps}
 use Rattle.rv32_core.specs.declared.outcome.Ended.{Ended}
@@ -15,7 +15,7 @@ use Rattle.rv32_core.specs.declared.outcome.Ended.TheVariants.{No, Exit, Trap}
 use Rattle.rv32_core.specs.declared.outcome.TrapKind.TheVariants.{FetchFault}
 use Rattle.rv32_core.proofs.EffectLaws.{is_buffer-above, is_buffer-below, is_inside-above, is_inside-below, effect_of_word-fine}
 use Rattle.rv32_core.proofs.FlatRunLaws.{flat_run-zero, flat_run-suc, flat_run-goes_on}
-use Rattle.rv32_core.proofs.ItemLaws.{step-if, flat_step-base, flat_step-size}
+use Rattle.rv32_core.proofs.ItemLaws.{step-if, flat_step-size}
 use Rattle.rv32_core.proofs.PlanLaws.{length-stored_bytes}
 use Rattle.rv32_core.proofs.Served.{length-slice_of}
 

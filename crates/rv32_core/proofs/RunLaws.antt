@@ -1,9 +1,9 @@
 -- A run as one plan: it is the flat run over a list of bytes, and asks for the line list's lines.
-use Rattle.std.proofs.Common.{◌≡◌, ℕ, suc, zero, ◌+◌, ◌-◌, ◌/◌, List, [], ◌∷◌, ◌++◌, map, refl, sym, ap, subst, ◌∙◌, append-nil, arith}
+use Rattle.std.proofs.Common.{◌≡◌, ℕ, suc, zero, ◌+◌, List, [], ◌∷◌, ◌++◌, map, refl, sym, ap, subst, ◌∙◌, arith}
 use Rattle.std.proofs.lemmas.List.{map-append}
 use Rattle.asc_base.specs.Memory.{IsMemory}
 use Rattle.request_plan.specs.Plan.{Plan, Done as Outcome, Ask, bind, Asks, Outcomes}
-use Rattle.request_plan.specs.Play.{Turn, Played, marked, bare, play, served}
+use Rattle.request_plan.specs.Play.{Played, bare, play, served}
 use Rattle.request_plan.proofs.Alike.{Asks-bind-where}
 use Rattle.request_plan.proofs.Keeps.{Outcomes-from}
 use Rattle.request_plan.proofs.Plays.{put_all, play-bind, bare-append}
@@ -11,7 +11,7 @@ use Rattle.request_plan.proofs.Served.{served-bind, play-served}
 use Rattle.rv32_core.specs.Access.{Access, Load, Store, IsAccess, access_bytes}
 use Rattle.rv32_core.specs.Machine.{CoreState, Machine, IsCore}
 use Rattle.rv32_core.specs.FlatMachine.{FlatStep, flat_step}
-use Rattle.rv32_core.specs.FlatRun.{FlatEnding, Exited, Trapped, Budget, FlatRun, finished_before, run_from, flat_run}
+use Rattle.rv32_core.specs.FlatRun.{Trapped, Budget, FlatRun, finished_before, run_from, flat_run}
 use Rattle.rv32_core.specs.LineList.{LineUse, LineItem, step_lines, items_after, items_from, run_items, line_used, noting, asked_lines}
 use Rattle.rv32_core.specs.RunPlan.{RunEnd, end_of, MachineRun, after_instruction, run_plan}
 use Rattle.rv32_core.specs.StepPlan.{step_plan}

@@ -1,35 +1,27 @@
 -- The lines of a step: where an effect's bytes lie, what its plan asks for, and what a trap gives.
-use Rattle.std.proofs.Common.{◌≡◌, ℕ, ℤ, ◌+◌, ◌-◌, ◌/◌, ◌%◌, ◌^◌, ◌<◌, ◌≤◌, ◌==◌, ◌&&◌, ◌||◌, nat_le, min, Bool, IsTrue, true, false, if◌then◌else◌, List, [], ◌∷◌, ◌++◌, Option, Some, None, map, refl, sym, ap, subst, ◌∙◌, arith, zero, suc, take, drop, length, append-nil}
+use Rattle.std.proofs.Common.{◌≡◌, ℕ, ◌+◌, ◌%◌, ◌<◌, ◌≤◌, Bool, IsTrue, true, false, if◌then◌else◌, List, [], ◌∷◌, refl, sym, ap, subst, arith}
 use Rattle.std.proofs.lemmas.Bool.Decides.{nat_tests}
-use Rattle.std.specs.Prelude.{All, AllPairs}
 use Rattle.std.specs.Int.{from_le_bytes, w32}
-use Rattle.std.proofs.lemmas.List.Elements.{All-nil, All-cons, All-append}
-use Rattle.std.proofs.lemmas.List.Kept.{AllPairs-cons}
 use Rattle.asc_base.specs.Memory.{IsMemory}
-use Rattle.request_plan.specs.Plan.{Plan, Done as Outcome, Ask, bind}
-use Rattle.rv32_table.specs.Meaning.{load_width, store_width, branch_meaning, target_of, jump_target, address_of}
-use Rattle.rv32_table.specs.Table.{decoded}
-use Rattle.rv32_table.specs.declared.instruction.Instr.{Instr}
-use Rattle.rv32_table.specs.declared.instruction.Instr.TheVariants.{Lui, Auipc, Jal, Jalr, Branch, Load as LoadInstr, Store as StoreInstr, OpImm, Op, Fence, FenceI, Ecall, Ebreak}
-use Rattle.rv32_table.specs.declared.instruction.BranchOp.{BranchOp}
+use Rattle.request_plan.specs.Plan.{Plan, Done as Outcome, Ask}
+use Rattle.rv32_table.specs.Meaning.{load_width, store_width}
 use Rattle.rv32_table.specs.declared.instruction.LoadOp.{LoadOp}
 use Rattle.rv32_table.specs.declared.instruction.LoadOp.TheVariants.{Lb, Lh, Lw, Lbu, Lhu}
 use Rattle.rv32_table.specs.declared.instruction.StoreOp.{StoreOp}
 use Rattle.rv32_table.specs.declared.instruction.StoreOp.TheVariants.{Sb, Sh, Sw}
-use Rattle.rv32_core.specs.Access.{Access, Load, Store, access_bytes, slice_of}
+use Rattle.rv32_core.specs.Access.{Access, Load, access_bytes, slice_of}
 use Rattle.rv32_core.specs.Transfer.{pieces, stores_plan, loads_plan}
-use Rattle.rv32_core.specs.Machine.{CoreState, Machine, IsEffect, is_inside, is_buffer, register, bytes_left, bad_file, bad_buffer, no_call, read_of, write_of, takes_break, break_of, call_of, jump_to, branch_of, load_from, store_at, effect_of, effect_of_decoded, effect_of_word, cost_of_word}
-use Rattle.rv32_core.specs.FlatMachine.{FlatStep, trap_at, bytes_at, stored_bytes, after_read, after_write, going_on, effected, flat_step}
+use Rattle.rv32_core.specs.Machine.{CoreState, Machine, IsEffect, is_inside, is_buffer, effect_of_word, cost_of_word}
+use Rattle.rv32_core.specs.FlatMachine.{trap_at, bytes_at, after_read, after_write, going_on, effected, flat_step}
 use Rattle.rv32_core.specs.StepPlan.{effect_plan, word_plan, step_plan}
-use Rattle.rv32_core.specs.LineList.{LineKind, Read, Write, LineUse, line_of, lines_from, lines_of, used, data_lines, word_lines, fetch_line, step_lines, line_used, AsksLines, asked_lines}
+use Rattle.rv32_core.specs.LineList.{Read, Write, LineUse, line_of, lines_of, used, data_lines, word_lines, fetch_line, step_lines, AsksLines, asked_lines}
 use Rattle.rv32_core.specs.declared.effect.Effect.{Effect}
 use Rattle.rv32_core.specs.declared.effect.Effect.TheVariants.{Passes, Sets, Jumps, Loads, Stores, Answers, Breaks, Reads, Writes, Exits, Traps}
-use Rattle.rv32_core.specs.declared.outcome.Ended.{Ended}
-use Rattle.rv32_core.specs.declared.outcome.Ended.TheVariants.{No, Exit, Trap}
+use Rattle.rv32_core.specs.declared.outcome.Ended.TheVariants.{Trap}
 use Rattle.rv32_core.specs.declared.outcome.TrapKind.{TrapKind}
-use Rattle.rv32_core.specs.declared.outcome.TrapKind.TheVariants.{FetchFault, Illegal, FetchMisaligned, LoadMisaligned, StoreMisaligned, LoadFault, StoreFault, Breakpoint, OutputLimit}
+use Rattle.rv32_core.specs.declared.outcome.TrapKind.TheVariants.{FetchFault}
 use Rattle.rv32_core.proofs.EffectLaws.{is_buffer-above, is_buffer-below, is_inside-above, is_inside-below, effect_of_word-fine}
-use Rattle.rv32_core.proofs.LineLaws.{lines_of-some, lines_of-one, lines_from-more, lines_from-none, AsksLines-last, AsksLines-asked, stores_plan-lines, loads_plan-lines}
+use Rattle.rv32_core.proofs.LineLaws.{lines_of-one, AsksLines-last, AsksLines-asked, stores_plan-lines, loads_plan-lines}
 
 -- ---- where the bytes of an effect lie
 -- so many bytes from an address on are none, or all in the memory

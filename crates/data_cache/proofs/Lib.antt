@@ -1,0 +1,5 @@
+pub mod SetLaws
+pub mod Parts
+pub mod KeptLaws
+pub mod MirrorLaws
+pub mod UseLaws

@@ -1,0 +1,4 @@
+pub mod Lines
+pub mod CacheLists
+pub mod Contents
+pub mod Mirror

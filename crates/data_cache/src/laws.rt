@@ -1,0 +1,65 @@
+//! Laws of the cache's lists. The calls do nothing.
+
+ghost use Rattle.std.specs.Prelude.{◌≡◌, ℕ, ◌+◌, ◌*◌, ◌<◌, ◌≤◌, List, [], ◌∷◌, length, replicate};
+ghost use Rattle.request_plan.specs.Plan.{Alike};
+ghost use Rattle.rv32_core.specs.LineList.{LineUse, Read, Write, WholeWrite};
+ghost use Rattle.data_cache.specs.Lines.{Fetch, Store, IsLineAnswer};
+ghost use Rattle.data_cache.specs.CacheLists.{Sets, Lines, no_lines, set_of, requests_of, requests_along, use_set, Requests};
+ghost use Rattle.data_cache.specs.CacheLists.{read_lines, write_lines, write_whole_line};
+ghost use Rattle.data_cache.specs.Contents.{Contents, read_plan, write_plan, write_line_plan};
+ghost use Rattle.data_cache.specs.Mirror.{Mirrors};
+ghost use Rattle.asc_base.specs.declared.block.Line.{Line};
+
+/// Where lists of kept lines and a list of bytes stand for what a cache holds, the cache asks its store as the lists
+/// do, whatever lines are answered, and the lists and the list of bytes, in which each fetched line took its place,
+/// stand for what it holds then; a read answers their bytes. After a stop they stand for it too.
+pub fn asks_as_its_lists()
+    ensures read { (count : ℕ) (cache : Contents) (lines : Lines) (line offset count_read : ℕ)
+        → Mirrors count cache lines
+        → line < count → offset + count_read ≤ 64
+        → Alike IsLineAnswer
+        (λ (left : Contents) (sets : Sets). Mirrors count left (record { memory = lines.memory; sets = sets }))
+        (λ (a : Contents × List ℕ) (d : Lines × List ℕ). Mirrors count (a.0) (d.0) × (a.1 ≡ d.1))
+        (read_plan cache line offset count_read) (read_lines (cache.ways) lines line offset count_read) }
+    ensures write { (count : ℕ) (cache : Contents) (lines : Lines) (line offset : ℕ) (bytes : List ℕ)
+        → Mirrors count cache lines → line < count → offset + length bytes ≤ 64
+        → Alike IsLineAnswer
+        (λ (left : Contents) (sets : Sets). Mirrors count left (record { memory = lines.memory; sets = sets }))
+        (Mirrors count) (write_plan cache line offset bytes) (write_lines (cache.ways) lines line offset bytes) }
+    ensures write_line { (count : ℕ) (cache : Contents) (lines : Lines) (line : ℕ) (value : Line)
+        → Mirrors count cache lines → line < count → length (value.0) ≡ 64
+        → Alike IsLineAnswer
+        (λ (left : Contents) (sets : Sets). Mirrors count left (record { memory = lines.memory; sets = sets }))
+        (Mirrors count) (write_line_plan cache line value) (write_whole_line (cache.ways) lines line (value.0)) }
+{}
+
+/// A use makes exactly the requests of the lists, in order, whatever is answered: a dirty victim's store, and then
+/// the fetch of a line that isn't kept, where the use needs its bytes.
+pub fn uses_make_their_requests()
+    ensures { (ways : ℕ) (memory : List ℕ) (sets : Sets) (use_of : LineUse)
+        → Requests (use_set ways (set_of sets use_of.line) memory use_of) (requests_of ways memory sets use_of) }
+{}
+
+/// A cache that holds nothing has empty lists, over any list of bytes.
+pub fn empty_cache_has_empty_lists()
+    ensures { (count sets ways : ℕ) (memory : List ℕ) → 0 < sets → 0 < ways → length memory ≡ 64 * count
+        → Mirrors count (record { ways = ways; sets = replicate sets [] })
+        (record { memory = memory; sets = no_lines sets }) }
+{}
+
+/// Worked rows: one set of one way, in which an image line is used and put out by line 1; one set of two ways; and a
+/// line that is written twice and stored once.
+pub fn worked_requests()
+    ensures one_way { requests_along 1 [] (no_lines 1)
+        (record { line = 0; kind = WholeWrite } ∷ record { line = 0; kind = Read } ∷ record { line = 1; kind = Read }
+        ∷ record { line = 0; kind = Read } ∷ record { line = 0; kind = Read } ∷ [])
+        ≡ Store 0 [] ∷ Fetch 1 ∷ Fetch 0 ∷ [] }
+    ensures two_ways { requests_along 2 [] (no_lines 1)
+        (record { line = 0; kind = Read } ∷ record { line = 1; kind = Read } ∷ record { line = 0; kind = Read }
+        ∷ record { line = 2; kind = Read } ∷ record { line = 0; kind = Read } ∷ record { line = 1; kind = Read } ∷ [])
+        ≡ Fetch 0 ∷ Fetch 1 ∷ Fetch 2 ∷ Fetch 1 ∷ [] }
+    ensures stored_once { requests_along 1 [] (no_lines 1)
+        (record { line = 0; kind = Write } ∷ record { line = 0; kind = Write } ∷ record { line = 1; kind = Read }
+        ∷ record { line = 2; kind = Read } ∷ [])
+        ≡ Fetch 0 ∷ Store 0 [] ∷ Fetch 1 ∷ Fetch 2 ∷ [] }
+{}
