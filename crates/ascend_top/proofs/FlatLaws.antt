@@ -8,9 +8,10 @@ use Rattle.rv32_core.specs.declared.outcome.Ended.{Ended}
 use Rattle.rv32_core.specs.declared.outcome.Ended.TheVariants.{No, Exit, Trap}
 use Rattle.rv32_core.specs.declared.outcome.TrapKind.{TrapKind}
 use Rattle.rv32_core.proofs.FlatRunLaws.{RunsOn, runs_on_after_step, run_ends_with_exit, run_ends_with_trap, run_ends_with_budget}
-use Rattle.ascend_top.specs.declared.ending.Ending.{Ending}
-use Rattle.ascend_top.specs.declared.ending.Ending.TheVariants.{Exit as Exits, Trap as Traps, Budget as OutOfBudget}
-use Rattle.ascend_top.specs.Flat.{EndsAs, flat_ending}
+use Rattle.ascend_top.specs.declared.status.Ending.{Ending}
+use Rattle.ascend_top.specs.declared.status.Ending.TheVariants.{Exit as Exits, Trap as Traps, Budget as OutOfBudget}
+use Rattle.ascend_top.specs.FlatRun.{ending_of}
+use Rattle.ascend_top.specs.Parts.{EndsAs}
 
 -- what a step tells of its bytes
 abbrev pub TellsStep : Machine → List ℕ → Machine → List ℕ → Done → Type 0
@@ -26,7 +27,7 @@ step_told machine next memory after done ended told e =
     ap (flat_step machine) same ∙ t.2
     ∙ ap (λ (x : Ended). let s : FlatStep = record { machine = next; memory = after; done = record { ended = x; cost = done.cost } } in s) e
 
-ends_as : (whole run : FlatRun) (end : Ending) → whole ≡ run → flat_ending end ≡ run.ending → EndsAs whole run.instructions end run.machine.files.output
+ends_as : (whole run : FlatRun) (end : Ending) → whole ≡ run → ending_of end ≡ run.ending → EndsAs whole run.instructions end run.machine.files.output
 ends_as whole run end e ending = record {
   finished = ap (λ (r : FlatRun). r.instructions) (sym e);
   ending = ending ∙ ap (λ (r : FlatRun). r.ending) (sym e);
