@@ -3,18 +3,19 @@ use Rattle.std.proofs.Common.{◌≡◌, ◌⊎◌, ℕ, ◌≤◌, List, [], �
 use Rattle.std.specs.Prelude.{IsSome, is_some}
 use Rattle.std.specs.List.{AllByRecursion}
 use Rattle.asc_base.specs.declared.settings.Settings.{Settings}
-use Rattle.asc_outside.specs.Host.{HostState, Files, Rose}
+use Rattle.asc_outside.specs.Host.{Files, HostState, IsLonger, Rose}
 use Rattle.elf_loader.specs.Faults.{IsFaultless}
+use Rattle.elf_loader.specs.declared.fault.ElfFault.{ElfFault}
 use Rattle.ascend_words.specs.Grammar.{Pair, Read}
 use Rattle.ascend_words.specs.Settings.{text_in, settings_of}
 use Rattle.ascend_words.specs.declared.table.Command.{Command}
 use Rattle.ascend_words.specs.declared.table.Command.TheVariants.{Run, Flat}
 use Rattle.ascend_words.specs.declared.table.Name.TheVariants.{Input}
-use Rattle.ascend_top.specs.Command.{AreRight, CommandEnds, Completes, StepsEnd, Tells, steps_of}
+use Rattle.ascend_top.specs.Command.{AreRight, CommandEnds, Completes, IsFirstRefusal, IsOfFiles, StepsEnd, Tells, steps_of}
 use Rattle.ascend_top.specs.Flat.{input_steps, report_steps}
 use Rattle.ascend_top.specs.FlatRun.{Report, flat_report}
 use Rattle.ascend_top.specs.Status.{status_of, status_of_ending, status_of_refusal}
-use Rattle.ascend_top.specs.Steps.{Step, Judges, Reads, Writes, Prints, Rule, Anything, AKey, AnElf, AllDone, Does, IsCause, IsDone, IsReadCause, IsRefused, IsRight, IsSettingCause, IsWriteCause, Refuses}
+use Rattle.ascend_top.specs.Steps.{AKey, AllDone, AnElf, Anything, Breaks, Does, IsCause, IsDone, IsReadCause, IsRefused, IsRight, IsSettingCause, IsWriteCause, IsWrong, Judges, Prints, Reads, Refuses, Rule, Step, Writes, limit_of}
 use Rattle.ascend_top.specs.Texts.{refusal_text}
 use Rattle.ascend_top.specs.declared.refusal.Refusal.{Refusal}
 use Rattle.ascend_top.specs.declared.refusal.Refusal.TheVariants.{Usage, OutOfRange, Elf, KeyLength, TooLong, Host, NoMemory}
@@ -203,3 +204,115 @@ completes read files status (Err end) old new is (refusal, mid, steps, tells) to
     go (inr (some, none)) free = inl (is ∙ ap status_of_refusal none)
     go (inl same) (inl none) = inl (is ∙ ap status_of_refusal (same ∙ none))
     go (inl same) (inr (host, rose)) = absurd (safe (omega (arith, rose, tells.later)))
+
+-- a refusal that isn't a failure of the host or want of memory is none that has its cause elsewhere
+of_files_not_free : {P : Type 0} (refusal : Refusal) → IsOfFiles refusal → HasNone refusal → P
+of_files_not_free refusal of (inl e) = absurd (subst IsOfFiles e of)
+of_files_not_free refusal of (inr e) = absurd (subst IsOfFiles e of)
+
+-- two refusals of one step whose causes are in the files have one status
+abbrev Agrees : Refusal → Refusal → Type 0
+Agrees a b = HasNone a ⊎ (status_of_refusal a ≡ status_of_refusal b)
+
+wrong_not_long : {P : Type 0} (files : Files) (source : Source) (name : List ℕ) (rule : Rule) (refusal : Refusal) → IsWrong files source name rule refusal
+    → IsLonger files name (limit_of source) → P
+wrong_not_long files source name rule refusal wrong longer =
+    let e = ap length (one_file files name wrong.bytes (longer.0) wrong.is (longer.1)) in
+    absurd (let no : ⊥ = omega (arith, e, wrong.within, longer.2) in no)
+
+key_not_elf : {P : Type 0} (rule : Rule) (x y : List ℕ) (count : ℕ) (fault : ElfFault) → Breaks rule x (KeyLength count) → Breaks rule y (Elf fault) → P
+key_not_elf Anything x y count fault h k = absurd h
+key_not_elf AKey x y count fault h k = absurd k
+key_not_elf (AnElf base size) x y count fault h k = absurd h
+
+read_agrees : (files : Files) (source : Source) (name : List ℕ) (rule : Rule) (a b : Refusal) → IsReadCause files source name rule a
+    → IsReadCause files source name rule b → IsOfFiles b → Agrees a b
+read_agrees files source name rule Host b h k of = inl (inr refl)
+read_agrees files source name rule NoMemory b h k of = inl (inl refl)
+read_agrees files source name rule (Usage word) b h k of = absurd h
+read_agrees files source name rule (OutOfRange setting) b h k of = absurd h
+read_agrees files source name rule a Host h k of = absurd of
+read_agrees files source name rule a NoMemory h k of = absurd of
+read_agrees files source name rule a (Usage word) h k of = absurd k
+read_agrees files source name rule a (OutOfRange setting) h k of = absurd k
+read_agrees files source name rule (TooLong other) (TooLong another) h k of = inr refl
+read_agrees files source name rule (TooLong other) (KeyLength count) h k of = wrong_not_long files source name rule (KeyLength count) k (h.1)
+read_agrees files source name rule (TooLong other) (Elf fault) h k of = wrong_not_long files source name rule (Elf fault) k (h.1)
+read_agrees files source name rule (KeyLength count) (TooLong other) h k of = wrong_not_long files source name rule (KeyLength count) h (k.1)
+read_agrees files source name rule (KeyLength count) (KeyLength other) h k of = inr refl
+read_agrees files source name rule (KeyLength count) (Elf fault) h k of = key_not_elf rule h.bytes k.bytes count fault h.breaks k.breaks
+read_agrees files source name rule (Elf fault) (TooLong other) h k of = wrong_not_long files source name rule (Elf fault) h (k.1)
+read_agrees files source name rule (Elf fault) (KeyLength count) h k of = key_not_elf rule k.bytes h.bytes count fault k.breaks h.breaks
+read_agrees files source name rule (Elf fault) (Elf other) h k of = inr refl
+
+setting_agrees : (settings : Settings) (a b : Refusal) → IsSettingCause settings a → IsSettingCause settings b → IsOfFiles b → Agrees a b
+setting_agrees settings NoMemory b h k of = inl (inl refl)
+setting_agrees settings (OutOfRange x) (OutOfRange y) h k of = inr refl
+setting_agrees settings (OutOfRange x) NoMemory h k of = absurd of
+setting_agrees settings (OutOfRange x) Host h k of = absurd of
+setting_agrees settings (OutOfRange x) (Usage word) h k of = absurd k
+setting_agrees settings (OutOfRange x) (Elf fault) h k of = absurd k
+setting_agrees settings (OutOfRange x) (KeyLength count) h k of = absurd k
+setting_agrees settings (OutOfRange x) (TooLong source) h k of = absurd k
+setting_agrees settings Host b h k of = absurd h
+setting_agrees settings (Usage word) b h k of = absurd h
+setting_agrees settings (Elf fault) b h k of = absurd h
+setting_agrees settings (KeyLength count) b h k of = absurd h
+setting_agrees settings (TooLong source) b h k of = absurd h
+
+cause_agrees : (files : Files) (step : Step) (a b : Refusal) → IsCause files step a → IsCause files step b → IsOfFiles b → Agrees a b
+cause_agrees files (Judges settings) a b h k of = setting_agrees settings a b h k of
+cause_agrees files (Reads source name rule) a b h k of = read_agrees files source name rule a b h k of
+cause_agrees files (Writes name bytes) a b h k of = of_files_not_free b of (write_free b k)
+cause_agrees files (Prints text) a b h k of = of_files_not_free b of (write_free b k)
+
+-- where a refusal comes first over the files, the steps aren't all done, and are refused with its status or as is free
+module _ (files : Files) (refusal : Refusal) (of : IsOfFiles refusal) where
+  pub never_done : (steps : List Step) (old at : HostState) → AllByRecursion IsReading steps → old.files ≡ Some files → AllDone steps old at
+      → IsFirstRefusal files steps refusal → ⊥
+  never_done [] old at are told done first = first
+  never_done (step ∷ steps) old at are told (mid, does, rest) (inl cause) =
+      of_files_not_free refusal of (cause_free files step refusal (does.done files told) cause)
+  never_done (step ∷ steps) old at are told (mid, does, rest) (inr (right, first)) =
+      never_done steps mid at are.1 (does_files step old mid are.0 does ∙ told) rest first
+
+  pub refused_first : (steps : List Step) (other : Refusal) (old new : HostState) → AllByRecursion IsReading steps → old.files ≡ Some files → IsRefused steps other old new
+      → IsFirstRefusal files steps refusal → IsFree other old.faults new.faults ⊎ (status_of_refusal other ≡ status_of_refusal refusal)
+  refused_first [] other old new are told refused first = absurd first
+  refused_first (step ∷ steps) other old new are told (inl refuses) (inl cause) =
+      go (cause_agrees files step other refusal (refuses.cause files told) cause of)
+    where
+      go : Agrees other refusal → IsFree other old.faults new.faults ⊎ (status_of_refusal other ≡ status_of_refusal refusal)
+      go (inl (inl e)) = inl (inl e)
+      go (inl (inr e)) = inl (inr (e, refuses.fault e))
+      go (inr e) = inr e
+  refused_first (step ∷ steps) other old new are told (inl refuses) (inr (right, first)) = inl (step_free files step other old new right told refuses)
+  refused_first (step ∷ steps) other old new are told (inr (mid, does, rest)) (inl cause) =
+      of_files_not_free refusal of (cause_free files step refusal (does.done files told) cause)
+  refused_first (step ∷ steps) other old new are told (inr (mid, does, rest)) (inr (right, first)) =
+      go (refused_first steps other mid new are.1 (does_files step old mid are.0 does ∙ told) rest first)
+    where
+      go : IsFree other mid.faults new.faults ⊎ (status_of_refusal other ≡ status_of_refusal refusal)
+          → IsFree other old.faults new.faults ⊎ (status_of_refusal other ≡ status_of_refusal refusal)
+      go (inl free) = inl (free_later other old.faults mid.faults new.faults new.faults does.later (omega arith) free)
+      go (inr e) = inr e
+
+-- where a refusal comes first over the files, and the host never fails, it gives the status
+pub refuses_first : (read : Read) (files : Files) (refusal : Refusal) (status : ℕ) (end : Result Report Refusal) (old new : HostState) → status ≡ status_of end
+    → CommandEnds read end old new → old.files ≡ Some files → IsOfFiles refusal → IsFirstRefusal files (steps_of read.command read.given) refusal
+    → ¬ Rose old.faults new.faults → (status ≡ 11) ⊎ (status ≡ status_of_refusal refusal)
+refuses_first read files refusal status (Ok report) old new is (at, before, flat, after) told of first safe =
+    absurd (never_done files refusal of (steps_of read.command read.given) old at (steps_reading read.command read.given) told before first)
+refuses_first read files refusal status (Err end) old new is (other, mid, steps, tells) told of first safe = go tells.same (ends steps)
+  where
+    ends : StepsEnd (steps_of read.command read.given) read.given (Err other) old mid → IsFree other old.faults mid.faults ⊎ (status_of_refusal other ≡ status_of_refusal refusal)
+    ends (inl refused) = refused_first files refusal of (steps_of read.command read.given) other old mid (steps_reading read.command read.given) told refused first
+    ends (inr (at, before, rest)) =
+        absurd (never_done files refusal of (steps_of read.command read.given) old at (steps_reading read.command read.given) told before first)
+
+    go : (end ≡ other) ⊎ (IsSome (refusal_text other) × (end ≡ NoMemory)) → IsFree other old.faults mid.faults ⊎ (status_of_refusal other ≡ status_of_refusal refusal)
+        → (status ≡ 11) ⊎ (status ≡ status_of_refusal refusal)
+    go (inr (some, none)) free = inl (is ∙ ap status_of_refusal none)
+    go (inl same) (inl (inl none)) = inl (is ∙ ap status_of_refusal (same ∙ none))
+    go (inl same) (inl (inr (host, rose))) = absurd (safe (omega (arith, rose, tells.later)))
+    go (inl same) (inr e) = inr (is ∙ ap status_of_refusal same ∙ e)

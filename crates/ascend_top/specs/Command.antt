@@ -9,11 +9,11 @@ use Rattle.ascend_top.specs.Flat.{flat_steps, report_steps}
 use Rattle.ascend_top.specs.FlatRun.{Report, flat_report, outcome_report}
 use Rattle.ascend_top.specs.Run.{run_steps}
 use Rattle.ascend_top.specs.Status.{status_of_ending}
-use Rattle.ascend_top.specs.Steps.{Step, AllDone, IsRefused, IsDone, AsksMore, PrintsMore}
+use Rattle.ascend_top.specs.Steps.{AllDone, AsksMore, IsCause, IsDone, IsRefused, PrintsMore, Step}
 use Rattle.ascend_top.specs.Texts.{refusal_text}
 use Rattle.ascend_top.specs.declared.commands.flat.Outcome.{Outcome}
 use Rattle.ascend_top.specs.declared.refusal.Refusal.{Refusal}
-use Rattle.ascend_top.specs.declared.refusal.Refusal.TheVariants.{NoMemory}
+use Rattle.ascend_top.specs.declared.refusal.Refusal.TheVariants.{Usage, OutOfRange, Elf, KeyLength, TooLong, Host, NoMemory}
 
 -- the steps of a command before its run
 abbrev pub steps_of : Command → List Pair → List Step
@@ -63,6 +63,22 @@ CommandEnds read (Err end) old new =
 -- over these files nothing is refused before the run
 abbrev pub AreRight : Read → Files → Type 0
 AreRight read files = AllByRecursion (IsDone files) (steps_of read.command read.given)
+
+-- a refusal whose cause is in the words or the files: no failure of the host, and no want of memory
+abbrev pub IsOfFiles : Refusal → Type 0
+IsOfFiles Host = ⊥
+IsOfFiles NoMemory = ⊥
+IsOfFiles (Usage word) = Unit {0}
+IsOfFiles (OutOfRange setting) = Unit {0}
+IsOfFiles (Elf fault) = Unit {0}
+IsOfFiles (KeyLength length) = Unit {0}
+IsOfFiles (TooLong source) = Unit {0}
+
+-- over these files this is the first refusal of the steps: those before it are done, and it has its cause there
+abbrev pub IsFirstRefusal : Files → List Step → Refusal → Type 0
+IsFirstRefusal files [] refusal = ⊥
+IsFirstRefusal files (step ∷ steps) refusal =
+    IsCause files step refusal ⊎ (IsDone files step × IsFirstRefusal files steps refusal)
 
 -- What a command comes to whose files are right and whose host never fails: its steps are all done with the flat run's
 -- report, or there is no memory.

@@ -13,7 +13,7 @@ mod text;
 ghost use Rattle.std.specs.Prelude.{◌≡◌, ◌⊎◌, ℕ, List, Some, Err, Result};
 ghost use Rattle.asc_outside.specs.Host.{Files, Rose};
 ghost use Rattle.ascend_words.specs.Grammar.{Read, IsFault, IsWords, texts};
-ghost use Rattle.ascend_top.specs.Command.{AreRight, CommandEnds, Completes, StepsEnd, Tells, end_of, steps_of};
+ghost use Rattle.ascend_top.specs.Command.{AreRight, CommandEnds, Completes, IsFirstRefusal, IsOfFiles, StepsEnd, Tells, end_of, steps_of};
 ghost use Rattle.ascend_top.specs.FlatRun.{Report};
 ghost use Rattle.ascend_top.specs.Status.{status_of, status_of_refusal};
 ghost use Rattle.ascend_top.specs.declared.refusal.Refusal.{Refusal as WhyRefused};
@@ -52,6 +52,11 @@ pub fn ascend<H: Host>(alloc: Global, words: &[String], host: &mut H) -> u8
         → (H.state host.old).files ≡ Some files → AreRight read files
         → ¬ Rose (H.state host.old).faults (H.state host.new).faults
         → Completes read files result (H.state host.old) (H.state host.new) }
+    ensures refused { (read : Read) (files : Files) (refusal : WhyRefused) → IsWords (texts words.now) read
+        → (H.state host.old).files ≡ Some files → IsOfFiles refusal
+        → IsFirstRefusal files (steps_of read.command read.given) refusal
+        → ¬ Rose (H.state host.old).faults (H.state host.new).faults
+        → (result ≡ NO_MEMORY) ⊎ (result ≡ status_of_refusal refusal) }
 {
     match read_words(alloc, words) {
         Ok(words) => finish(alloc, &words, host),

@@ -7,7 +7,7 @@ use Rattle.ascend_top.specs.FlatRun.{Report}
 use Rattle.ascend_top.specs.Status.{status_of, status_of_refusal}
 use Rattle.ascend_top.specs.declared.refusal.Refusal.{Refusal}
 use Rattle.ascend_top.specs.declared.refusal.Refusal.TheVariants.{Usage, NoMemory}
-use Rattle.ascend_top.proofs.EndLaws.{completes, lost_at_start, tells_nothing, tells_no_text}
+use Rattle.ascend_top.proofs.EndLaws.{completes, lost_at_start, refuses_first, tells_nothing, tells_no_text}
 use Rattle.ascend_top.proofs.ascend.Goals as goal
 
 -- one answer isn't another
@@ -69,3 +69,16 @@ returns-in-Err-NoMemory-clause-command g c read is =
 
 pub returns-in-Err-NoMemory-clause-complete : goal.returns-in-Err-NoMemory-clause-complete
 returns-in-Err-NoMemory-clause-complete g c read files is told right safe = inl refl
+
+pub returns-in-Ok-clause-refused : goal.returns-in-Ok-clause-refused
+returns-in-Ok-clause-refused g c read files refusal is told of first safe =
+    let ends = returns-in-Ok-clause-command g c read is in
+    refuses_first read files refusal c.finish.result (ends.0) _ _ (ends.1) (ends.2) told of first safe
+
+pub returns-in-Err-Usage-clause-refused : goal.returns-in-Err-Usage-clause-refused
+returns-in-Err-Usage-clause-refused g c read files refusal is told of first safe =
+    let accepted = rw c.in-Err-Usage.field-0-is at c.in-Err-Usage.ensures.accepted in
+    wrong_right c.in-Err-Usage.word read (accepted read is)
+
+pub returns-in-Err-NoMemory-clause-refused : goal.returns-in-Err-NoMemory-clause-refused
+returns-in-Err-NoMemory-clause-refused g c read files refusal is told of first safe = inl refl
