@@ -1,6 +1,6 @@
 #!/usr/bin/env python3
-"""Runs a program of some ten million instructions with `ascend run`, and prints how many instructions a second that makes,
-beside qemu-riscv32 on the same file where Debian's qemu-user is installed.
+"""Runs a program of some ten million instructions with `ascend run` and `ascend flat`, and prints how many instructions a
+second each makes, beside qemu-riscv32 on the same file where Debian's qemu-user is installed.
 
 `rt` must be on the path: it builds the program first. Each command is run several times, and the least time counts; the
 time of a program that ends at once is taken off.
@@ -93,11 +93,13 @@ def main():
             with open(path, "wb") as file:
                 file.write(data)
             os.chmod(path, 0o755)
-        words = lambda path: ["run", f"elf={path}", f"key={key}", f"output={folder}/output"]
-        subprocess.run(["rt", "run", "--", *words(empty)], cwd=ASCEND, check=True, stdout=subprocess.DEVNULL)
+        run = lambda path: ["run", f"elf={path}", f"key={key}", f"output={folder}/output"]
+        flat = lambda path: ["flat", f"elf={path}", f"output={folder}/output"]
+        subprocess.run(["rt", "run", "--", *run(empty)], cwd=ASCEND, check=True, stdout=subprocess.DEVNULL)
         program = os.path.join(ASCEND, "out", "ascend")
         report = f"end exit 0\ninstructions {INSTRUCTIONS}\n".encode()
-        show("ascend run", lambda path: [program, *words(path)], folder, loop, empty, report)
+        show("ascend run", lambda path: [program, *run(path)], folder, loop, empty, report)
+        show("ascend flat", lambda path: [program, *flat(path)], folder, loop, empty, report)
         if shutil.which("qemu-riscv32"):
             show("qemu-riscv32", lambda path: ["qemu-riscv32", path], folder, loop, empty, b"")
         else:

@@ -8,12 +8,6 @@ use std::process::ExitCode;
 use std::rt::{Env, Files};
 use std::{env, io};
 
-/// The status where a call of the host fails.
-const HOST: u8 = 5;
-
-/// The status where there is no memory.
-const NO_MEMORY: u8 = 11;
-
 /// The words that the program was given, without its own name.
 fn words<R: Env + AllocGlobal>(rt: &R) -> io::Result<Vec<String>> {
     let mut words = Vec::new(rt.alloc());
@@ -26,8 +20,8 @@ fn words<R: Env + AllocGlobal>(rt: &R) -> io::Result<Vec<String>> {
 fn run<R: Files + Print + Env + AllocGlobal>(rt: &R) -> u8 {
     let words = match words(rt) {
         Ok(words) => words,
-        Err(error) if error.kind() == io::ErrorKind::OutOfMemory => return NO_MEMORY,
-        Err(_) => return HOST,
+        Err(error) if error.kind() == io::ErrorKind::OutOfMemory => return ascend_top::NO_MEMORY,
+        Err(_) => return ascend_top::HOST_FAILED,
     };
     let mut host = StdHost::new(rt);
     ascend_top::ascend(rt.alloc(), words.as_slice(), &mut host)

@@ -1,4 +1,5 @@
-ghost use Rattle.std.specs.Prelude.{◌≡◌, ◌≢◌, ◌≤◌, None, IfOk, IfSome, vec_len};
+ghost use Rattle.std.specs.Prelude.{◌≡◌, ◌≢◌, ◌<◌, ◌≤◌, None, IfOk, IfSome, OnOk, MatchOption, length, vec_len};
+ghost use Rattle.std.specs.Io.KnownBytes.{Appends};
 ghost use Rattle.asc_outside.specs.Rose.{Rose};
 
 use asc_outside::{Host, HostFault};
@@ -6,9 +7,6 @@ use std::alloc::Global;
 use std::fs;
 use std::io::{self, Read, Write};
 use std::rt::Files;
-
-/// How many bytes are read at once, at most.
-const CHUNK: usize = 4096;
 
 /// The machine's files and standard output as a host. It counts its failures, and tells nothing else.
 #[derive(Drop)]
@@ -36,38 +34,42 @@ impl<'a, R: Files + Print + AllocGlobal> StdHost<'a, R> {
     }
 }
 
-/// The bytes of a file, None where there are more than `limit`.
-fn read_limited<R: Files + AllocGlobal>(
-    rt: &R,
+/// The bytes that a reader has left, None where there are more than `limit`.
+fn read_limited<F: Read + Drop>(
     alloc: Global,
-    name: &str,
+    reader: F,
     limit: usize,
 ) -> io::Result<Option<Vec<u8>>>
-    ensures { IfOk result (λ read. IfSome read (λ bytes. vec_len bytes ≤ limit)) }
+    ensures within { IfOk result (λ read. IfSome read (λ bytes. vec_len bytes ≤ limit)) }
+    ensures whole { IfOk result (λ read. IfSome (F.remaining reader) (λ rest.
+        MatchOption read (limit < length rest) (λ bytes. bytes.items ≡ rest))) }
 {
-    let mut file = fs::open(rt, name)?;
     let mut bytes = Vec::new(alloc);
-    let mut chunk = [0u8; CHUNK];
-    for _ in 0..=limit {
-        let room = limit - bytes.len();
-        let part = room.min(CHUNK - 1) + 1;
-        let count = file.read(&mut chunk[..part])?;
-        if count == 0 {
-            return Ok(Some(bytes));
-        }
-        if count > room {
-            return Ok(None);
-        }
-        bytes.extend_from_slice(&chunk[..count])?;
+    let most = (limit as u64).saturating_add(1);
+    reader.take(most).read_to_end(&mut bytes)?;
+    if bytes.len() > limit {
+        return Ok(None);
     }
-    Ok(None)
+    Ok(Some(bytes))
+}
+
+/// Writes bytes to a writer, whole.
+fn write_whole<W: Write>(writer: &mut W, bytes: &[u8]) -> io::Result<()>
+    ensures { OnOk result (Appends (W.contents writer.old) (W.contents writer.new) bytes.now) }
+{
+    writer.write_all(bytes)?;
+    writer.flush()
 }
 
 impl<'a, R: Files + Print + AllocGlobal> Host for StdHost<'a, R> {
     ghost state = { λ host. record { faults = host.faults; files = None; printed = None; asked = None } };
 
     fn read_file(&mut self, alloc: Global, name: &str, limit: usize) -> Result<Vec<u8>, HostFault> {
-        match read_limited(self.rt, alloc, name, limit) {
+        let read = match fs::open(self.rt, name) {
+            Ok(file) => read_limited(alloc, file, limit),
+            Err(error) => Err(error),
+        };
+        match read {
             Ok(Some(bytes)) => Ok(bytes),
             Ok(None) => Err(HostFault::TooLong),
             Err(error) => Err(self.fault(&error)),
@@ -75,23 +77,78 @@ impl<'a, R: Files + Print + AllocGlobal> Host for StdHost<'a, R> {
     }
 
     fn write_file(&mut self, name: &str, bytes: &[u8]) -> Result<(), HostFault> {
-        match fs::write(self.rt, name, bytes) {
+        let written = match fs::create(self.rt, name) {
+            Ok(mut file) => write_whole(&mut file, bytes),
+            Err(error) => Err(error),
+        };
+        match written {
             Ok(()) => Ok(()),
             Err(error) => Err(self.fault(&error)),
         }
     }
 
     fn print(&mut self, bytes: &[u8]) -> Result<(), HostFault> {
-        match write_out(self.rt, bytes) {
+        match write_whole(&mut io::writer(self.rt), bytes) {
             Ok(()) => Ok(()),
             Err(error) => Err(self.fault(&error)),
         }
     }
 }
 
-/// Writes bytes to standard output, whole.
-fn write_out<R: Print>(rt: &R, bytes: &[u8]) -> io::Result<()> {
-    let mut out = io::writer(rt);
-    out.write_all(bytes)?;
-    out.flush()
+#[cfg(test)]
+mod tests {
+    use super::*;
+    use asc_outside::HostFault;
+    use std::test::Fail;
+
+    /// Files of these numbers of bytes are written and read back; the last is longer than any buffer.
+    const LENGTHS: [usize; 5] = [0, 1, 9_999, 10_000, 1_048_576];
+
+    /// So many bytes, of which no two neighbours are the same.
+    fn bytes_of(alloc: Global, count: usize) -> io::Result<Vec<u8>> {
+        let mut bytes = Vec::new(alloc);
+        for i in 0..count {
+            bytes.push((i % 251) as u8)?;
+        }
+        Ok(bytes)
+    }
+
+    #[test]
+    fn files_are_read_as_they_were_written(rt: HostRuntime) -> Result<(), Fail> {
+        let mut host = StdHost::new(&rt);
+        for count in LENGTHS {
+            let bytes = bytes_of(rt.alloc(), count)?;
+            host.write_file("written", bytes.as_slice())?;
+            let read = host.read_file(rt.alloc(), "written", count)?;
+            assert!(rt; read.as_slice() == bytes.as_slice(), "{count} bytes");
+        }
+        fs::remove_file(&rt, "written")?;
+        assert!(rt; host.faults == 0);
+        Ok(())
+    }
+
+    #[test]
+    fn longer_files_are_refused(rt: HostRuntime) -> Result<(), Fail> {
+        let mut host = StdHost::new(&rt);
+        let bytes = bytes_of(rt.alloc(), 10_001)?;
+        host.write_file("long", bytes.as_slice())?;
+        let read = host.read_file(rt.alloc(), "long", 10_000);
+        fs::remove_file(&rt, "long")?;
+        assert!(rt; matches!(read, Err(HostFault::TooLong)));
+        assert!(rt; host.faults == 0);
+        Ok(())
+    }
+
+    #[test]
+    fn failures_are_counted(rt: HostRuntime) -> Result<(), Fail> {
+        let mut host = StdHost::new(&rt);
+        let missing = host.read_file(rt.alloc(), "no/such/file", 10);
+        assert!(rt; matches!(missing, Err(HostFault::Failed)));
+        let folder = host.read_file(rt.alloc(), ".", 10);
+        assert!(rt; matches!(folder, Err(HostFault::Failed)));
+        let written = host.write_file(".", b"text");
+        assert!(rt; matches!(written, Err(HostFault::Failed)));
+        assert!(rt; host.faults == 3);
+        Ok(())
+    }
 }

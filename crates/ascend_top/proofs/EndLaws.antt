@@ -1,127 +1,373 @@
--- How a command ends, after its steps and the print of a refusal's text.
-use Rattle.std.proofs.Common.{◌≡◌, ◌⊎◌, ℕ, ◌<◌, ◌≤◌, List, ◌++◌, Option, Some, None, Result, Ok, Err, IsSome, option_map, length, take, refl, sym, ap, subst, ◌∙◌, inl, inr, arith, append_assoc, append-nil}
-use Rattle.asc_outside.specs.Host.{HostCall, HostState, Files, OthersStay}
+-- How a command ends: over right files and a host that never fails it is its run that is reported, or there is no memory.
+use Rattle.std.proofs.Common.{◌≡◌, ◌⊎◌, ℕ, ◌≤◌, List, [], ◌∷◌, true, Option, Some, None, Result, Ok, Err, length, refl}
+use Rattle.std.proofs.Common.{sym, ap, subst, ◌∙◌, inl, inr, arith, rules}
+use Rattle.std.specs.Prelude.{IsSome, is_some}
+use Rattle.std.specs.List.{AllByRecursion}
+use Rattle.asc_base.specs.declared.settings.Settings.{Settings}
+use Rattle.asc_outside.specs.Host.{Files, HostState, IsLonger}
 use Rattle.asc_outside.specs.Rose.{Rose}
-use Rattle.elf_loader.specs.Faults.{IsFault}
-use Rattle.ascend_top.specs.Command.{Completes, Runs, HasAsked, StepsEnd, Reports, Refuses, CommandEnds, HasOutput, Written, AsksMore, PrintsMore, PrintsText, Unprinted, step_calls, print_calls}
-use Rattle.ascend_top.specs.Endings.{status_of, status_of_ending, status_of_flat}
-use Rattle.ascend_top.specs.Flat.{memory_base, memory_size, flat_ending, run_of}
+use Rattle.elf_loader.specs.Faults.{IsFaultless}
+use Rattle.elf_loader.specs.declared.fault.ElfFault.{ElfFault}
+use Rattle.ascend_words.specs.Grammar.{Pair, Read}
+use Rattle.ascend_words.specs.Settings.{text_in, settings_of}
+use Rattle.ascend_words.specs.declared.table.Command.{Command}
+use Rattle.ascend_words.specs.declared.table.Command.TheVariants.{Run, Flat}
+use Rattle.ascend_words.specs.declared.table.Name.TheVariants.{Input}
+use Rattle.ascend_top.specs.Command.{AreRight, CommandEnds, Completes, IsFirstRefusal, IsOfFiles, StepsEnd, Tells}
+use Rattle.ascend_top.specs.Command.{steps_of}
+use Rattle.ascend_top.specs.Flat.{input_steps, report_steps}
+use Rattle.ascend_top.specs.FlatRun.{Report, flat_report}
+use Rattle.ascend_top.specs.Status.{status_of, status_of_ending, status_of_refusal}
+use Rattle.ascend_top.specs.Steps.{AKey, AllDone, AnElf, Anything, Breaks, Does, IsCause, IsDone, IsReadCause}
+use Rattle.ascend_top.specs.Steps.{IsRefused, IsRight, IsSettingCause, IsWriteCause, IsWrong, Judges, Prints, Reads}
+use Rattle.ascend_top.specs.Steps.{Refuses, Rule, Step, Writes, limit_of}
 use Rattle.ascend_top.specs.Texts.{refusal_text}
-use Rattle.ascend_top.specs.Words.{RunValues}
-use Rattle.ascend_top.specs.declared.ending.Ending.{Ending}
-use Rattle.ascend_top.specs.declared.ending.Ending.TheVariants.{Exit, Trap, Budget}
-use Rattle.ascend_top.specs.declared.ending.Refusal.{Refusal}
-use Rattle.ascend_top.specs.declared.ending.Refusal.TheVariants.{Usage, Elf, KeyLength, TooLong, Host, NoMemory}
-use Rattle.ascend_top.specs.declared.words.Name.TheVariants.{Key, Elf as ElfName, Output}
-use Rattle.ascend_top.proofs.StepLaws.{rose_later}
+use Rattle.ascend_top.specs.declared.refusal.Refusal.{Refusal}
+use Rattle.ascend_top.specs.declared.refusal.Refusal.TheVariants.{Usage, OutOfRange, Elf, KeyLength, TooLong, Host}
+use Rattle.ascend_top.specs.declared.refusal.Refusal.TheVariants.{NoMemory}
+use Rattle.ascend_top.specs.declared.refusal.Source.{Source}
+use Rattle.ascend_top.proofs.StepLaws.{asks_none}
 
--- some calls, and then others
-asks_both : (old mid new : Option (List HostCall)) (calls more : List HostCall) → AsksMore old calls mid → AsksMore mid more new → AsksMore old (calls ++ more) new
-asks_both None mid new calls more h g = g ∙ ap (option_map (λ before. before ++ more)) h
-asks_both (Some all) mid new calls more h g = g ∙ ap (option_map (λ before. before ++ more)) h ∙ ap Some (append_assoc all calls more)
+-- a text that is there
+pub some_text : (o : Option (List ℕ)) (x : List ℕ) → Some x ≡ o → IsSome o
+some_text None x e = absurd (let no : ⊥ = cc in no)
+some_text (Some y) x e = search rules
 
--- the steps ended with a run that was reported
-pub ends_with_run : (given : RunValues) (ending : Ending) (old new : HostState) → StepsEnd 0 given (Ok ending) old new
-    → ((files : Files) (elf : List ℕ) → old.files ≡ Some files → files given.elf ≡ Some elf → Reports given (run_of elf) old new)
-    → CommandEnds given (Ok ending) old new
-ends_with_run given ending old new steps reports = record {
-  cause = λ files told. steps.cause files told tt;
-  fault = steps.fault;
-  reports = reports;
-  text = tt;
-  others = steps.others;
-  calls = ((steps.calls).0, (steps.calls).1, (steps.calls).3, (steps.calls).4 ∙ ap (λ calls. option_map (λ before. before ++ calls) old.asked) (sym (append-nil (take ((steps.calls).0) (step_calls given)))));
+-- there was no memory, and nothing was asked
+pub judge_lost : (settings : Settings) (state : HostState) → Refuses (Judges settings) NoMemory state state
+judge_lost settings state = record {
+  cause = λ files told. tt;
+  fault = λ e. absurd (let no : ⊥ = cc in no);
+  files = refl;
+  printed = refl;
+  later = omega arith;
+  asked = inl refl;
 }
 
--- a refusal whose text is printed comes before the write of the output file
-asked_before_write : (refusal : Refusal) (count : ℕ) → IsSome (refusal_text refusal) → HasAsked (Err refusal) count → count < 3
-asked_before_write (Usage word) count some has = absurd has
-asked_before_write (Elf fault) count some has = omega (arith, has)
-asked_before_write (KeyLength length) count some has = omega (arith, has)
-asked_before_write (TooLong Key) count some has = omega (arith, has)
-asked_before_write (TooLong ElfName) count some has = omega (arith, has)
-asked_before_write (TooLong Output) count some has = absurd has
-asked_before_write Host count some has = absurd (let no : ⊥ = cc in no)
-asked_before_write NoMemory count some has = absurd (let no : ⊥ = cc in no)
+pub lost_at_start : (command : Command) (given : List Pair) (state : HostState)
+    → IsRefused (steps_of command given) NoMemory state state
+lost_at_start Run given state = inl (judge_lost (settings_of given) state)
+lost_at_start Flat given state = inl (judge_lost (settings_of given) state)
 
--- the text of a refusal was printed where nothing was printed before
-text_printed : (text : Option (List ℕ)) (old mid new : HostState) → old.faults ≤ mid.faults → Unprinted text old.printed mid.printed → PrintsText text mid new → PrintsText text old new
-text_printed None old mid new later quiet printed = tt
-text_printed (Some text) old mid new later quiet (inl more) = inl (subst (λ (p : Option (List ℕ)). PrintsMore p text new.printed) quiet more)
-text_printed (Some text) old mid new later quiet (inr rose) = inr (rose_later old.faults mid.faults new.faults later rose)
+pub tells_nothing : (state : HostState) → Tells NoMemory NoMemory state state
+tells_nothing state = record {
+  same = inl refl;
+  files = refl;
+  later = omega arith;
+  asked = asks_none state.asked state.asked refl;
+  printed = inl refl;
+}
 
--- the steps ended with a refusal, which ends the command
-pub ends_with_refusal : (given : RunValues) (refusal end : Refusal) (old mid new : HostState) → StepsEnd 0 given (Err refusal) old mid → Refuses refusal end mid new → CommandEnds given (Err end) old new
-ends_with_refusal given refusal end old mid new steps refuses = ends refuses.same
-  where
-    calls_of : (other : Refusal) → end ≡ other → HasAsked (Err other) ((steps.calls).0) → Written given (Err other) ((steps.calls).0) old new
-        → (count : ℕ) × HasAsked (Err other) count × Written given (Err other) count old new × AsksMore old.asked (take count (step_calls given) ++ print_calls (refusal_text other)) new.asked
-    calls_of other e has written = ((steps.calls).0, has, written, asks_both old.asked mid.asked new.asked _ _ ((steps.calls).4) (subst (λ r. AsksMore mid.asked (print_calls (refusal_text r)) new.asked) e refuses.asked))
+-- there was no memory for the words, whose fault has a text
+pub tells_no_text : (word : ℕ) (state : HostState) → Tells (Usage word) NoMemory state state
+tells_no_text word state = record {
+  same = inr (search rules, refl);
+  files = refl;
+  later = omega arith;
+  asked = asks_none state.asked state.asked refl;
+  printed = inl refl;
+}
 
-    others : OthersStay given.output old.files new.files
-    others = subst (λ (f : Option Files). OthersStay given.output old.files f) (sym refuses.files) steps.others
+-- a step that leaves all files
+abbrev IsReading : Step → Type 0
+IsReading (Judges settings) = Unit {0}
+IsReading (Reads source name rule) = Unit {0}
+IsReading (Writes name bytes) = ⊥
+IsReading (Prints text) = ⊥
 
-    written : Written given (Err refusal) ((steps.calls).0) old new
-    written three spared files elf told is = subst (λ (f : Option Files). HasOutput given (run_of elf) f) (sym refuses.files) ((steps.calls).3 three spared files elf told is)
+does_files : (step : Step) (old new : HostState) → IsReading step → Does step old new → new.files ≡ old.files
+does_files (Judges settings) old new is does = does.files
+does_files (Reads source name rule) old new is does = does.files
+does_files (Writes name bytes) old new is does = absurd is
+does_files (Prints text) old new is does = absurd is
 
-    ends : (end ≡ refusal) ⊎ (IsSome (refusal_text refusal) × (end ≡ NoMemory)) → CommandEnds given (Err end) old new
-    ends (inl e) = subst (λ r. CommandEnds given (Err r) old new) (sym e) (record {
-      cause = λ files told. steps.cause files told tt;
-      fault = λ is. rose_after is;
-      reports = λ files elf told is. tt;
-      text = text_printed (refusal_text refusal) old mid new steps.later steps.quiet (subst (λ r. PrintsText (refusal_text r) mid new) e refuses.printed);
-      others = others;
-      calls = calls_of refusal e ((steps.calls).1) written;
-    })
-      where
-        rose_after : ◌≡◌ {A = Result Ending Refusal} (Err refusal) (Err Host) → Rose old.faults new.faults
-        rose_after is = let before : Rose old.faults mid.faults = steps.fault is in omega (arith, before, refuses.later)
-    ends (inr e) = subst (λ r. CommandEnds given (Err r) old new) (sym e.1) (record {
-      cause = λ files told. tt;
-      fault = λ is. absurd (let no : ⊥ = cc in no);
-      reports = λ files elf told is. tt;
-      text = tt;
-      others = others;
-      calls =
-          let few = asked_before_write refusal ((steps.calls).0) e.0 ((steps.calls).1) in
-          calls_of NoMemory e.1 (omega (arith, few)) (λ three. absurd (let no : ⊥ = omega (arith, few, three) in no));
-    })
+all_files : (steps : List Step) (old new : HostState) → AllByRecursion IsReading steps → AllDone steps old new
+    → new.files ≡ old.files
+all_files [] old new are e = ap (λ (s : HostState). s.files) e
+all_files (step ∷ steps) old new are (mid, does, rest) = all_files steps mid new are.1 rest
+    ∙ does_files step old mid are.0 does
 
--- one file has one content
+all_later : (steps : List Step) (old new : HostState) → AllDone steps old new → old.faults ≤ new.faults
+all_later [] old new e = let same : new.faults ≡ old.faults = ap (λ (s : HostState). s.faults) e in omega arith
+all_later (step ∷ steps) old new (mid, does, rest) = let later = all_later steps mid new rest in omega
+    (arith, does.later, later)
+
+input_reading : (o : Option (List ℕ)) → AllByRecursion IsReading (input_steps o)
+input_reading None = tt
+input_reading (Some name) = (tt, tt)
+
+steps_reading : (command : Command) (given : List Pair) → AllByRecursion IsReading (steps_of command given)
+steps_reading Run given = (tt, (tt, (tt, input_reading (text_in given Input))))
+steps_reading Flat given = (tt, (tt, input_reading (text_in given Input)))
+
+-- the input was read, where a file is named, which left all files
+pub input_files : (o : Option (List ℕ)) (old new : HostState) → AllDone (input_steps o) old new → new.files ≡ old.files
+input_files o old new done = all_files (input_steps o) old new (input_reading o) done
+
+-- a refusal that has no cause in the files: there is no memory, or the host failed
+abbrev IsFree : Refusal → ℕ → ℕ → Type 0
+IsFree refusal before now = (refusal ≡ NoMemory) ⊎ ((refusal ≡ Host) × Rose before now)
+
+free_later : (refusal : Refusal) (a b c d : ℕ) → a ≤ b → c ≤ d → IsFree refusal b c → IsFree refusal a d
+free_later refusal a b c d h k (inl e) = inl e
+free_later refusal a b c d h k (inr (e, rose)) = inr (e, omega (arith, rose))
+
 one_file : (files : Files) (name a b : List ℕ) → files name ≡ Some a → files name ≡ Some b → a ≡ b
-one_file files name a b h g = let e : ◌≡◌ {A = Option (List ℕ)} (Some a) (Some b) = sym h ∙ g in cc
+one_file files name a b h k = let e : ◌≡◌ {A = Option (List ℕ)} (Some a) (Some b) = sym h ∙ k in cc
 
-status_of-flat_ending : (ending : Ending) → status_of_ending ending ≡ status_of_flat (flat_ending ending)
-status_of-flat_ending (Exit status) = refl
-status_of-flat_ending (Trap kind pc) = refl
-status_of-flat_ending Budget = refl
+-- where a step is done over the files, no refusal has its cause there
+abbrev HasNone : Refusal → Type 0
+HasNone refusal = (refusal ≡ NoMemory) ⊎ (refusal ≡ Host)
 
-pub completes : (given : RunValues) (status : ℕ) (end : Result Ending Refusal) (old new : HostState) → status ≡ status_of end → CommandEnds given end old new
-    → (files : Files) (elf : List ℕ) → old.files ≡ Some files → Runs files given elf → ¬ Rose old.faults new.faults → Completes given elf status old new
-completes given status (Ok ending) old new is ends files elf told runs safe =
-    let cause = ends.cause files told in
-    let same = one_file files given.elf cause.0 elf (((cause.1).elf).0) ((runs.elf).0) in
-    inr (
-      is ∙ status_of-flat_ending ending ∙ ap status_of_flat (cause.2) ∙ ap (λ file. status_of_flat ((run_of file).ending)) same,
-      ends.reports files elf told ((runs.elf).0),
-    )
-completes given status (Err Host) old new is ends files elf told runs safe = absurd (safe (ends.fault refl))
-completes given status (Err NoMemory) old new is ends files elf told runs safe = inl is
-completes given status (Err (KeyLength count)) old new is ends files elf told runs safe =
-    let cause = ends.cause files told in
-    let same = one_file files given.key cause.0 (runs.key).0 cause.1 (runs.key).1 in
-    absurd (let no : ⊥ = omega (arith, cause.2, cause.3, (runs.key).2, ap length same) in no)
-completes given status (Err (TooLong Key)) old new is ends files elf told runs safe =
-    let cause = ends.cause files told in
-    let same = one_file files given.key cause.0 (runs.key).0 cause.1 (runs.key).1 in
-    absurd (let no : ⊥ = omega (arith, cause.2, (runs.key).2, ap length same) in no)
-completes given status (Err (TooLong ElfName)) old new is ends files elf told runs safe =
-    let cause = (ends.cause files told).1 in
-    let same = one_file files given.elf cause.0 elf cause.1 (runs.elf).0 in
-    absurd (let no : ⊥ = omega (arith, cause.2, (runs.elf).1, ap length same) in no)
-completes given status (Err (Elf fault)) old new is ends files elf told runs safe =
-    let cause = (ends.cause files told).1 in
-    let same = one_file files given.elf cause.0 elf (cause.1).0 (runs.elf).0 in
-    absurd (runs.faultless fault (subst (λ file. IsFault memory_base memory_size file fault) same (cause.2).present))
-completes given status (Err (TooLong Output)) old new is ends files elf told runs safe = absurd (ends.cause files told)
-completes given status (Err (Usage word)) old new is ends files elf told runs safe = absurd (ends.cause files told)
+setting_free : (settings : Settings) (files : Files) (refusal : Refusal) → IsDone files (Judges settings)
+    → IsSettingCause settings refusal → HasNone refusal
+setting_free settings files (OutOfRange setting) done cause = absurd (cause.fails (done setting))
+setting_free settings files NoMemory done cause = inl refl
+setting_free settings files Host done cause = absurd cause
+setting_free settings files (Usage word) done cause = absurd cause
+setting_free settings files (Elf fault) done cause = absurd cause
+setting_free settings files (KeyLength count) done cause = absurd cause
+setting_free settings files (TooLong source) done cause = absurd cause
+
+read_free : (files : Files) (source : Source) (name : List ℕ) (rule : Rule) (refusal : Refusal)
+    → IsRight files source name rule
+    → IsReadCause files source name rule refusal → HasNone refusal
+read_free files source name rule (TooLong other) right (same, longer) =
+    let e = ap length (one_file files name right.bytes (longer.0) right.is (longer.1)) in
+    absurd (let no : ⊥ = omega (arith, e, right.within, longer.2) in no)
+read_free files source name Anything (KeyLength count) right cause = absurd cause.breaks
+read_free files source name AKey (KeyLength count) right cause =
+    let e = ap length (one_file files name right.bytes cause.bytes right.is cause.is) in
+    absurd (let no : ⊥ = omega (arith, e, right.keeps, cause.breaks.0, cause.breaks.1) in no)
+read_free files source name (AnElf base size) (KeyLength count) right cause = absurd cause.breaks
+read_free files source name Anything (Elf fault) right cause = absurd cause.breaks
+read_free files source name AKey (Elf fault) right cause = absurd cause.breaks
+read_free files source name (AnElf base size) (Elf fault) right cause =
+    let faultless : IsFaultless base size cause.bytes = subst (λ bytes. IsFaultless base size bytes)
+        (one_file files name right.bytes cause.bytes right.is cause.is) right.keeps in
+    absurd (faultless fault cause.breaks.present)
+read_free files source name rule Host right cause = inr refl
+read_free files source name rule NoMemory right cause = inl refl
+read_free files source name rule (Usage word) right cause = absurd cause
+read_free files source name rule (OutOfRange setting) right cause = absurd cause
+
+write_free : (refusal : Refusal) → IsWriteCause refusal → HasNone refusal
+write_free Host cause = inr refl
+write_free NoMemory cause = inl refl
+write_free (Usage word) cause = absurd cause
+write_free (OutOfRange setting) cause = absurd cause
+write_free (Elf fault) cause = absurd cause
+write_free (KeyLength count) cause = absurd cause
+write_free (TooLong source) cause = absurd cause
+
+cause_free : (files : Files) (step : Step) (refusal : Refusal) → IsDone files step → IsCause files step refusal
+    → HasNone refusal
+cause_free files (Judges settings) refusal done cause = setting_free settings files refusal done cause
+cause_free files (Reads source name rule) refusal done cause = read_free files source name rule refusal done cause
+cause_free files (Writes name bytes) refusal done cause = write_free refusal cause
+cause_free files (Prints text) refusal done cause = write_free refusal cause
+
+step_free : (files : Files) (step : Step) (refusal : Refusal) (old new : HostState) → IsDone files step
+    → old.files ≡ Some files → Refuses step refusal old new
+    → IsFree refusal old.faults new.faults
+step_free files step refusal old new done told refuses = go
+    (cause_free files step refusal done (refuses.cause files told))
+  where
+    go : HasNone refusal → IsFree refusal old.faults new.faults
+    go (inl e) = inl e
+    go (inr e) = inr (e, refuses.fault e)
+
+before_free : (files : Files) (steps : List Step) (refusal : Refusal) (old new : HostState)
+    → AllByRecursion IsReading steps → AllByRecursion (IsDone files) steps
+    → old.files ≡ Some files → IsRefused steps refusal old new → IsFree refusal old.faults new.faults
+before_free files [] refusal old new are right told refused = absurd refused
+before_free files (step ∷ steps) refusal old new are right told
+    (inl refuses) = step_free files step refusal old new right.0 told refuses
+before_free files (step ∷ steps) refusal old new are right told (inr (mid, does, rest)) =
+    free_later refusal old.faults mid.faults new.faults new.faults does.later (omega arith)
+    (before_free files steps refusal mid new are.1 right.1 (does_files step old mid are.0 does ∙ told) rest)
+
+still_told : (old new : Option Files) (files : Files) → is_some new ≡ is_some old → old ≡ Some files
+    → (after : Files) × (new ≡ Some after)
+still_told old None files e told = let t : is_some old ≡ true = ap (is_some {T = Files}) told in absurd
+    (let no : ⊥ = cc in no)
+still_told old (Some after) files e told = (after, refl)
+
+after_free : (given : List Pair) (report : Report) (files : Files) (refusal : Refusal) (old new : HostState)
+    → old.files ≡ Some files
+    → IsRefused (report_steps given report) refusal old new → IsFree refusal old.faults new.faults
+after_free given report files refusal old new told (inl refuses) = step_free files _ refusal old new tt told refuses
+after_free given report files refusal old new told (inr (mid, does, inl refuses)) =
+    let still = still_told old.files mid.files files (does.files.0).told told in
+    free_later refusal old.faults mid.faults new.faults new.faults does.later (omega arith)
+    (step_free still.0 _ refusal mid new tt still.1 refuses)
+after_free given report files refusal old new told (inr (mid, does, inr (end, print, none))) = absurd none
+
+steps_free : (read : Read) (files : Files) (refusal : Refusal) (old new : HostState) → old.files ≡ Some files
+    → AreRight read files
+    → StepsEnd (steps_of read.command read.given) read.given (Err refusal) old new
+        → IsFree refusal old.faults new.faults
+steps_free read files refusal old new told right (inl refused) =
+    before_free files (steps_of read.command read.given) refusal old new
+        (steps_reading read.command read.given) right told refused
+steps_free read files refusal old new told right (inr (at, done, inl (e, same))) = inl e
+steps_free read files refusal old new told right (inr (at, done, inr (report, flat, refused))) =
+    let reading = steps_reading read.command read.given in
+    free_later refusal old.faults at.faults new.faults new.faults
+        (all_later (steps_of read.command read.given) old at done) (omega arith)
+    (after_free read.given report files refusal at new
+        (all_files (steps_of read.command read.given) old at reading done ∙ told) refused)
+
+pub completes : (read : Read) (files : Files) (status : ℕ) (end : Result Report Refusal) (old new : HostState)
+    → status ≡ status_of end → CommandEnds read end old new
+    → old.files ≡ Some files → AreRight read files → ¬ Rose old.faults new.faults → Completes read files status old new
+completes read files status (Ok report) old new is (at, before, flat, after) told right safe =
+    let reading = steps_reading read.command read.given in
+    let e : report ≡ flat_report read.given files = flat files
+        (all_files (steps_of read.command read.given) old at reading before ∙ told) in
+    inr (is ∙ ap (λ (r : Report). status_of_ending r.ending) e, subst
+        (λ (r : Report). CommandEnds read (Ok r) old new) e (at, before, flat, after))
+completes read files status (Err end) old new is (refusal, mid, steps, tells) told right safe = go tells.same
+    (steps_free read files refusal old mid told right steps)
+  where
+    go : (end ≡ refusal) ⊎ (IsSome (refusal_text refusal) × (end ≡ NoMemory)) → IsFree refusal old.faults mid.faults
+        → Completes read files status old new
+    go (inr (some, none)) free = inl (is ∙ ap status_of_refusal none)
+    go (inl same) (inl none) = inl (is ∙ ap status_of_refusal (same ∙ none))
+    go (inl same) (inr (host, rose)) = absurd (safe (omega (arith, rose, tells.later)))
+
+-- a refusal that isn't a failure of the host or want of memory is none that has its cause elsewhere
+of_files_not_free : {P : Type 0} (refusal : Refusal) → IsOfFiles refusal → HasNone refusal → P
+of_files_not_free refusal of (inl e) = absurd (subst IsOfFiles e of)
+of_files_not_free refusal of (inr e) = absurd (subst IsOfFiles e of)
+
+-- two refusals of one step whose causes are in the files have one status
+abbrev Agrees : Refusal → Refusal → Type 0
+Agrees a b = HasNone a ⊎ (status_of_refusal a ≡ status_of_refusal b)
+
+wrong_not_long : {P : Type 0} (files : Files) (source : Source) (name : List ℕ) (rule : Rule) (refusal : Refusal)
+    → IsWrong files source name rule refusal
+    → IsLonger files name (limit_of source) → P
+wrong_not_long files source name rule refusal wrong longer =
+    let e = ap length (one_file files name wrong.bytes (longer.0) wrong.is (longer.1)) in
+    absurd (let no : ⊥ = omega (arith, e, wrong.within, longer.2) in no)
+
+key_not_elf : {P : Type 0} (rule : Rule) (x y : List ℕ) (count : ℕ) (fault : ElfFault)
+    → Breaks rule x (KeyLength count) → Breaks rule y (Elf fault) → P
+key_not_elf Anything x y count fault h k = absurd h
+key_not_elf AKey x y count fault h k = absurd k
+key_not_elf (AnElf base size) x y count fault h k = absurd h
+
+read_agrees : (files : Files) (source : Source) (name : List ℕ) (rule : Rule) (a b : Refusal)
+    → IsReadCause files source name rule a
+    → IsReadCause files source name rule b → IsOfFiles b → Agrees a b
+read_agrees files source name rule Host b h k of = inl (inr refl)
+read_agrees files source name rule NoMemory b h k of = inl (inl refl)
+read_agrees files source name rule (Usage word) b h k of = absurd h
+read_agrees files source name rule (OutOfRange setting) b h k of = absurd h
+read_agrees files source name rule a Host h k of = absurd of
+read_agrees files source name rule a NoMemory h k of = absurd of
+read_agrees files source name rule a (Usage word) h k of = absurd k
+read_agrees files source name rule a (OutOfRange setting) h k of = absurd k
+read_agrees files source name rule (TooLong other) (TooLong another) h k of = inr refl
+read_agrees files source name rule (TooLong other) (KeyLength count) h k of = wrong_not_long files source name rule
+    (KeyLength count) k (h.1)
+read_agrees files source name rule (TooLong other) (Elf fault) h k of = wrong_not_long files source name rule
+    (Elf fault) k (h.1)
+read_agrees files source name rule (KeyLength count) (TooLong other) h k of = wrong_not_long files source name rule
+    (KeyLength count) h (k.1)
+read_agrees files source name rule (KeyLength count) (KeyLength other) h k of = inr refl
+read_agrees files source name rule (KeyLength count) (Elf fault) h k of = key_not_elf rule h.bytes k.bytes count fault
+    h.breaks k.breaks
+read_agrees files source name rule (Elf fault) (TooLong other) h k of = wrong_not_long files source name rule
+    (Elf fault) h (k.1)
+read_agrees files source name rule (Elf fault) (KeyLength count) h k of = key_not_elf rule k.bytes h.bytes count fault
+    k.breaks h.breaks
+read_agrees files source name rule (Elf fault) (Elf other) h k of = inr refl
+
+setting_agrees : (settings : Settings) (a b : Refusal) → IsSettingCause settings a → IsSettingCause settings b
+    → IsOfFiles b → Agrees a b
+setting_agrees settings NoMemory b h k of = inl (inl refl)
+setting_agrees settings (OutOfRange x) (OutOfRange y) h k of = inr refl
+setting_agrees settings (OutOfRange x) NoMemory h k of = absurd of
+setting_agrees settings (OutOfRange x) Host h k of = absurd of
+setting_agrees settings (OutOfRange x) (Usage word) h k of = absurd k
+setting_agrees settings (OutOfRange x) (Elf fault) h k of = absurd k
+setting_agrees settings (OutOfRange x) (KeyLength count) h k of = absurd k
+setting_agrees settings (OutOfRange x) (TooLong source) h k of = absurd k
+setting_agrees settings Host b h k of = absurd h
+setting_agrees settings (Usage word) b h k of = absurd h
+setting_agrees settings (Elf fault) b h k of = absurd h
+setting_agrees settings (KeyLength count) b h k of = absurd h
+setting_agrees settings (TooLong source) b h k of = absurd h
+
+cause_agrees : (files : Files) (step : Step) (a b : Refusal) → IsCause files step a → IsCause files step b
+    → IsOfFiles b → Agrees a b
+cause_agrees files (Judges settings) a b h k of = setting_agrees settings a b h k of
+cause_agrees files (Reads source name rule) a b h k of = read_agrees files source name rule a b h k of
+cause_agrees files (Writes name bytes) a b h k of = of_files_not_free b of (write_free b k)
+cause_agrees files (Prints text) a b h k of = of_files_not_free b of (write_free b k)
+
+-- where a refusal comes first over the files, the steps aren't all done, and are refused with its status or as is free
+module _ (files : Files) (refusal : Refusal) (of : IsOfFiles refusal) where
+  pub never_done : (steps : List Step) (old at : HostState) → AllByRecursion IsReading steps → old.files ≡ Some files
+      → AllDone steps old at
+      → IsFirstRefusal files steps refusal → ⊥
+  never_done [] old at are told done first = first
+  never_done (step ∷ steps) old at are told (mid, does, rest) (inl cause) =
+      of_files_not_free refusal of (cause_free files step refusal (does.done files told) cause)
+  never_done (step ∷ steps) old at are told (mid, does, rest) (inr (right, first)) =
+      never_done steps mid at are.1 (does_files step old mid are.0 does ∙ told) rest first
+
+  pub refused_first : (steps : List Step) (other : Refusal) (old new : HostState) → AllByRecursion IsReading steps
+      → old.files ≡ Some files → IsRefused steps other old new
+      → IsFirstRefusal files steps refusal → IsFree other old.faults new.faults
+          ⊎ (status_of_refusal other ≡ status_of_refusal refusal)
+  refused_first [] other old new are told refused first = absurd first
+  refused_first (step ∷ steps) other old new are told (inl refuses) (inl cause) =
+      go (cause_agrees files step other refusal (refuses.cause files told) cause of)
+    where
+      go : Agrees other refusal → IsFree other old.faults new.faults
+          ⊎ (status_of_refusal other ≡ status_of_refusal refusal)
+      go (inl (inl e)) = inl (inl e)
+      go (inl (inr e)) = inl (inr (e, refuses.fault e))
+      go (inr e) = inr e
+  refused_first (step ∷ steps) other old new are told (inl refuses) (inr (right, first)) = inl
+      (step_free files step other old new right told refuses)
+  refused_first (step ∷ steps) other old new are told (inr (mid, does, rest)) (inl cause) =
+      of_files_not_free refusal of (cause_free files step refusal (does.done files told) cause)
+  refused_first (step ∷ steps) other old new are told (inr (mid, does, rest)) (inr (right, first)) =
+      go (refused_first steps other mid new are.1 (does_files step old mid are.0 does ∙ told) rest first)
+    where
+      go : IsFree other mid.faults new.faults ⊎ (status_of_refusal other ≡ status_of_refusal refusal)
+          → IsFree other old.faults new.faults ⊎ (status_of_refusal other ≡ status_of_refusal refusal)
+      go (inl free) = inl (free_later other old.faults mid.faults new.faults new.faults does.later (omega arith) free)
+      go (inr e) = inr e
+
+-- where a refusal comes first over the files, and the host never fails, it gives the status
+pub refuses_first : (read : Read) (files : Files) (refusal : Refusal) (status : ℕ) (end : Result Report Refusal)
+    (old new : HostState) → status ≡ status_of end
+    → CommandEnds read end old new → old.files ≡ Some files → IsOfFiles refusal
+        → IsFirstRefusal files (steps_of read.command read.given) refusal
+    → ¬ Rose old.faults new.faults → (status ≡ 11) ⊎ (status ≡ status_of_refusal refusal)
+refuses_first read files refusal status (Ok report) old new is (at, before, flat, after) told of first safe =
+    absurd (never_done files refusal of (steps_of read.command read.given) old at
+        (steps_reading read.command read.given) told before first)
+refuses_first read files refusal status (Err end) old new is
+    (other, mid, steps, tells) told of first safe = go tells.same (ends steps)
+  where
+    ends : StepsEnd (steps_of read.command read.given) read.given (Err other) old mid
+        → IsFree other old.faults mid.faults ⊎ (status_of_refusal other ≡ status_of_refusal refusal)
+    ends (inl refused) = refused_first files refusal of (steps_of read.command read.given) other old mid
+        (steps_reading read.command read.given) told refused first
+    ends (inr (at, before, rest)) =
+        absurd (never_done files refusal of (steps_of read.command read.given) old at
+            (steps_reading read.command read.given) told before first)
+
+    go : (end ≡ other) ⊎ (IsSome (refusal_text other) × (end ≡ NoMemory))
+        → IsFree other old.faults mid.faults ⊎ (status_of_refusal other ≡ status_of_refusal refusal)
+        → (status ≡ 11) ⊎ (status ≡ status_of_refusal refusal)
+    go (inr (some, none)) free = inl (is ∙ ap status_of_refusal none)
+    go (inl same) (inl (inl none)) = inl (is ∙ ap status_of_refusal (same ∙ none))
+    go (inl same) (inl (inr (host, rose))) = absurd (safe (omega (arith, rose, tells.later)))
+    go (inl same) (inr e) = inr (is ∙ ap status_of_refusal same ∙ e)

@@ -2,4 +2,3 @@ pub mod EndLaws
 pub mod FlatLaws
 pub mod RunLaws
 pub mod StepLaws
-pub mod WordLaws

@@ -1,72 +1,50 @@
--- What is reported of a run is the flat run of its file.
-use Rattle.std.proofs.Common.{◌≡◌, ℕ, ◌≤◌, List, [], ◌∷◌, Option, Some, Ok, refl, sym, ap, subst, ◌∙◌, arith}
-use Rattle.asc_outside.specs.Host.{Writes, Prints, HostState, Files, OthersStay}
+-- What is reported of a program's run is the flat run of its files.
+use Rattle.std.proofs.Common.{◌≡◌, ℕ, List, ap, ◌∙◌}
+use Rattle.asc_outside.specs.Host.{Files}
 use Rattle.elf_loader.specs.Elf.{entry_of}
-use Rattle.elf_loader.specs.Layout.{first_break}
+use Rattle.elf_loader.specs.Layout.{image_bytes, first_break}
 use Rattle.elf_loader.specs.declared.image.Image.{Image}
-use Rattle.rv32_core.specs.FlatRun.{FlatRun}
-use Rattle.ascend_top.specs.Command.{IsElf, IsElfOutcome, StepsEnd, Reports, AsksMore, PrintsMore}
-use Rattle.ascend_top.specs.Flat.{IsImageOf, IsOutcome, memory_base, memory_size, budget, flat_run_over, run_of}
-use Rattle.ascend_top.specs.Texts.{report_text}
-use Rattle.ascend_top.specs.Words.{RunValues}
-use Rattle.ascend_top.specs.declared.flat.FlatOutcome.{FlatOutcome}
+use Rattle.rv32_core.specs.FlatRun.{FlatRun, FlatEnding}
+use Rattle.ascend_words.specs.Grammar.{Pair}
+use Rattle.ascend_words.specs.Settings.{settings_of}
+use Rattle.ascend_words.specs.declared.table.Name.TheVariants.{Elf}
+use Rattle.ascend_top.specs.FlatRun.{Report, bytes_in, ending_of, file_in, flat_of, flat_report, input_in}
+use Rattle.ascend_top.specs.FlatRun.{outcome_report, report_of, run_over}
+use Rattle.ascend_top.specs.Parts.{EndsAs, IsImageOf}
+use Rattle.ascend_top.specs.declared.commands.flat.Outcome.{Outcome}
 
--- the flat run of the image of a file is that of the file
-run_of-image : (file : List ℕ) (image : Image) → IsImageOf file image → flat_run_over budget image.entry image.heap image.bytes.items ≡ run_of file
-unfolding run_of
-run_of-image file image is =
-    ap (λ entry. flat_run_over budget entry image.heap image.bytes.items) is.entry
-    ∙ ap (λ heap. flat_run_over budget (entry_of file) heap image.bytes.items) is.heap
-    ∙ ap (λ bytes. flat_run_over budget (entry_of file) (first_break memory_base memory_size file) bytes) is.bytes
+-- a run that ended so is reported so
+pub reported : (run : FlatRun) (outcome : Outcome) → EndsAs run outcome.instructions outcome.ending
+    outcome.output.items → outcome_report outcome ≡ report_of run
+reported run outcome is =
+    let made : ℕ → FlatEnding → List ℕ → Report = λ instructions ending output. record
+        { instructions = instructions; ending = ending; output = output } in
+    ap (λ n. made n (ending_of outcome.ending) outcome.output.items) is.finished
+    ∙ ap (λ e. made run.instructions e outcome.output.items) is.ending
+    ∙ ap (λ o. made run.instructions run.ending o) is.written
 
--- where the files are told, this image is that of the ELF file
-abbrev pub IsLoaded : RunValues → Option Files → Image → Type 0
-IsLoaded given told image = (files : Files) → told ≡ Some files → (elf : List ℕ) × IsElf files given elf × IsImageOf elf image
+-- the report of a run from such a start
+abbrev report_over : (budget entry base size heap : ℕ) → (bytes input : List ℕ) → Report
+report_over budget entry base size heap bytes input = report_of (run_over budget entry base size heap bytes input)
 
-pub outcome_of : (file : List ℕ) (image : Image) (outcome : FlatOutcome) → IsImageOf file image
-    → IsOutcome (flat_run_over budget image.entry image.heap image.bytes.items) outcome → IsOutcome (run_of file) outcome
-outcome_of file image outcome is ran = subst (λ (run : FlatRun). IsOutcome run outcome) (run_of-image file image is) ran
-
--- so the outcome of its run is that of the ELF file's
-pub elf_outcome : (given : RunValues) (image : Image) (outcome : FlatOutcome) (told : Option Files)
-    → IsLoaded given told image → IsOutcome (flat_run_over budget image.entry image.heap image.bytes.items) outcome → IsElfOutcome given told outcome
-elf_outcome given image outcome told loaded ran files elf e is =
-    let found = loaded files e in
-    let one : found.0 ≡ elf = (let e : ◌≡◌ {A = Option (List ℕ)} (Some found.0) (Some elf) = sym ((found.1).0) ∙ is in cc) in
-    subst (λ f. IsOutcome (run_of f) outcome) one (outcome_of found.0 image outcome found.2 ran)
-
--- the output file was written, and the report printed
-pub takes_reported : (given : RunValues) (image : Image) (outcome : FlatOutcome) (before old new : HostState)
-    → IsLoaded given before.files image → old.files ≡ before.files → IsOutcome (flat_run_over budget image.entry image.heap image.bytes.items) outcome
-    → OthersStay given.output old.files new.files → old.faults ≤ new.faults → AsksMore old.asked (Writes given.output ∷ Prints ∷ []) new.asked
-    → ((run : FlatRun) → IsOutcome run outcome → Reports given run old new)
-    → StepsEnd 2 given (Ok outcome.ending) old new
-takes_reported given image outcome before old new loaded same ran others later asked reports = record {
-  cause = λ files told key.
-      let found = loaded files (sym same ∙ told) in
-      (found.0, record { key = key; elf = found.1; faultless = (found.2).faultless }, (outcome_of found.0 image outcome found.2 ran).ending);
-  fault = λ e. absurd (let no : ⊥ = cc in no);
-  quiet = tt;
-  others = others;
-  later = later;
-  calls = (
-    4,
-    refl,
-    omega arith,
-    λ three spared files elf told is. (reports (run_of elf) (elf_outcome given image outcome before.files loaded ran files elf (sym same ∙ told) is)).output,
-    asked,
-  );
-}
-
--- its report is that of the ELF file's run
-pub reports_of : (given : RunValues) (image : Image) (outcome : FlatOutcome) (start before old new : HostState)
-    → IsLoaded given before.files image → before.files ≡ start.files → old.printed ≡ start.printed
-    → IsOutcome (flat_run_over budget image.entry image.heap image.bytes.items) outcome
-    → ((run : FlatRun) → IsOutcome run outcome → Reports given run old new)
-    → (files : Files) (elf : List ℕ) → start.files ≡ Some files → files given.elf ≡ Some elf → Reports given (run_of elf) start new
-reports_of given image outcome start before old new loaded same printed ran reports files elf told is =
-    let r = reports (run_of elf) (elf_outcome given image outcome before.files loaded ran files elf (same ∙ told) is) in
-    record {
-      output = r.output;
-      report = subst (λ (p : Option (List ℕ)). PrintsMore p (report_text (run_of elf)) new.printed) printed r.report;
-    }
+module _ (given : List Pair) (files : Files) (base size budget : ℕ) (image : Image) (input : List ℕ) where
+  pub report_is : base ≡ (settings_of given).base → size ≡ (settings_of given).size
+      → budget ≡ (settings_of given).budget
+      → IsImageOf base size files (file_in given Elf) image → input ≡ input_in files given
+      → report_over budget image.entry base size image.heap image.bytes.items input ≡ flat_report given files
+  unfolding flat_report flat_of
+  report_is base_is size_is budget_is is input_is =
+      let elf = bytes_in files (file_in given Elf) in
+      let in_full = input_in files given in
+      ap (λ e. report_over budget e base size image.heap image.bytes.items input) is.entry
+      ∙ ap (λ h. report_over budget (entry_of elf) base size h image.bytes.items input) is.heap
+      ∙ ap (λ b. report_over budget (entry_of elf) base size (first_break base size elf) b input) is.bytes
+      ∙ ap (λ i. report_over budget (entry_of elf) base size (first_break base size elf) (image_bytes base size elf) i)
+          input_is
+      ∙ ap (λ b. report_over budget (entry_of elf) b size (first_break b size elf) (image_bytes b size elf) in_full)
+          base_is
+      ∙ ap (λ s. report_over budget (entry_of elf) (settings_of given).base s
+          (first_break (settings_of given).base s elf) (image_bytes (settings_of given).base s elf) in_full) size_is
+      ∙ ap (λ n. report_over n (entry_of elf) (settings_of given).base (settings_of given).size
+          (first_break (settings_of given).base (settings_of given).size elf)
+          (image_bytes (settings_of given).base (settings_of given).size elf) in_full) budget_is

@@ -1,5 +1,8 @@
 pub mod Command
-pub mod Endings
 pub mod Flat
+pub mod FlatRun
+pub mod Parts
+pub mod Run
+pub mod Status
+pub mod Steps
 pub mod Texts
-pub mod Words

@@ -1,14 +1,28 @@
 -- What a command prints. Each text is a line, or two, each ended by a line feed.
 use Rattle.std.specs.Prelude.{ℕ, List, [], ◌∷◌, ◌++◌, Option, Some, None, codes}
 use Rattle.std.specs.Fmt.{decimal}
+use Rattle.asc_base.specs.declared.settings.Setting.{Setting}
+use Rattle.asc_base.specs.declared.settings.Setting.TheVariants.{Size, Base, Sets, Ways, Plb, Roots, Ic, Stash}
+use Rattle.asc_base.specs.declared.settings.Setting.TheVariants.{Budget as BudgetSetting, Time, Leak, Rates, First}
+use Rattle.asc_base.specs.declared.settings.Setting.TheVariants.{Epoch}
 use Rattle.elf_loader.specs.declared.fault.ElfFault.{ElfFault}
-use Rattle.elf_loader.specs.declared.fault.ElfFault.TheVariants.{Short, Magic, Class, Order, Version, FileType, Machine, Compressed, HeaderSize, Table, Interp, Segment, Outside, Overlap, Entry, NoMemory as NoElfMemory}
+use Rattle.elf_loader.specs.declared.fault.ElfFault.TheVariants.{Short, Magic, Class, Order, Version, FileType, Machine}
+use Rattle.elf_loader.specs.declared.fault.ElfFault.TheVariants.{Compressed, HeaderSize, Table, Interp, Segment}
+use Rattle.elf_loader.specs.declared.fault.ElfFault.TheVariants.{Outside, Overlap, Entry, NoMemory as NoElfMemory}
 use Rattle.rv32_core.specs.declared.outcome.TrapKind.{TrapKind}
-use Rattle.rv32_core.specs.declared.outcome.TrapKind.TheVariants.{FetchFault, Illegal, FetchMisaligned, LoadMisaligned, StoreMisaligned, LoadFault, StoreFault, Breakpoint, OutputLimit}
-use Rattle.rv32_core.specs.FlatRun.{FlatRun, FlatEnding, Exited, Trapped, Budget}
-use Rattle.ascend_top.specs.Words.{name_text}
-use Rattle.ascend_top.specs.declared.ending.Refusal.{Refusal}
-use Rattle.ascend_top.specs.declared.ending.Refusal.TheVariants.{Usage, Elf, KeyLength, TooLong, Host, NoMemory}
+use Rattle.rv32_core.specs.declared.outcome.TrapKind.TheVariants.{FetchFault, Illegal, FetchMisaligned, LoadMisaligned}
+use Rattle.rv32_core.specs.declared.outcome.TrapKind.TheVariants.{StoreMisaligned, LoadFault, StoreFault, Breakpoint}
+use Rattle.rv32_core.specs.declared.outcome.TrapKind.TheVariants.{OutputLimit}
+use Rattle.rv32_core.specs.FlatRun.{FlatEnding, Exited, Trapped, Budget}
+use Rattle.ascend_words.specs.Tables.{name_text}
+use Rattle.ascend_words.specs.declared.table.Name.{Name}
+use Rattle.ascend_words.specs.declared.table.Name.TheVariants.{Key, Elf as ElfName, Input}
+use Rattle.ascend_top.specs.FlatRun.{Report}
+use Rattle.ascend_top.specs.declared.refusal.Refusal.{Refusal}
+use Rattle.ascend_top.specs.declared.refusal.Refusal.TheVariants.{Usage, OutOfRange, Elf, KeyLength, TooLong, Host}
+use Rattle.ascend_top.specs.declared.refusal.Refusal.TheVariants.{NoMemory}
+use Rattle.ascend_top.specs.declared.refusal.Source.{Source}
+use Rattle.ascend_top.specs.declared.refusal.Source.TheVariants.{Key as KeyFile, Elf as ElfFile, Input as InputFile}
 
 -- a line with this text
 abbrev pub line : List ℕ → List ℕ
@@ -32,13 +46,9 @@ ending_text (Exited status) = codes "end exit " ++ decimal status
 ending_text (Trapped kind pc) = codes "end trap " ++ kind_text kind ++ codes " " ++ decimal pc
 ending_text Budget = codes "end budget"
 
--- the report of an ending and the number of finished instructions
-abbrev pub report_of : FlatEnding → ℕ → List ℕ
-report_of ending instructions = line (ending_text ending) ++ line (codes "instructions " ++ decimal instructions)
-
--- the report of a run
-abbrev pub report_text : FlatRun → List ℕ
-report_text run = report_of run.ending run.instructions
+-- the report of a run: how it ended, and how many instructions finished
+abbrev pub report_text : Report → List ℕ
+report_text report = line (ending_text report.ending) ++ line (codes "instructions " ++ decimal report.instructions)
 
 -- the fault of an ELF file, as it is printed: its name, and the index of the program header where it has one
 abbrev pub fault_text : ElfFault → List ℕ
@@ -59,11 +69,35 @@ fault_text (Overlap index) = codes "Overlap " ++ decimal index
 fault_text Entry = codes "Entry"
 fault_text NoElfMemory = codes "NoMemory"
 
+-- a setting, as it is printed
+abbrev pub setting_text : Setting → List ℕ
+setting_text Size = codes "size"
+setting_text Base = codes "base"
+setting_text Sets = codes "sets"
+setting_text Ways = codes "ways"
+setting_text Plb = codes "plb"
+setting_text Roots = codes "roots"
+setting_text Ic = codes "ic"
+setting_text Stash = codes "stash"
+setting_text BudgetSetting = codes "budget"
+setting_text Time = codes "time"
+setting_text Leak = codes "leak"
+setting_text Rates = codes "rates"
+setting_text First = codes "first"
+setting_text Epoch = codes "epoch"
+
+-- the name that a file that is read is given by
+abbrev pub name_of : Source → Name
+name_of KeyFile = Key
+name_of ElfFile = ElfName
+name_of InputFile = Input
+
 -- what is printed of a refusal, if anything is
 abbrev pub refusal_text : Refusal → Option (List ℕ)
 refusal_text (Usage word) = Some (line (codes "usage word " ++ decimal word))
+refusal_text (OutOfRange setting) = Some (line (codes "setting " ++ setting_text setting))
 refusal_text (Elf fault) = Some (line (codes "elf " ++ fault_text fault))
 refusal_text (KeyLength length) = Some (line (codes "key length " ++ decimal length))
-refusal_text (TooLong name) = Some (line (codes "long " ++ name_text name))
+refusal_text (TooLong source) = Some (line (codes "long " ++ name_text (name_of source)))
 refusal_text Host = None
 refusal_text NoMemory = None

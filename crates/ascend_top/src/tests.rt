@@ -1,8 +1,7 @@
 use super::*;
-use crate::ending::Ending;
-use crate::flat;
 use asc_outside::{Host, HostFault, MemHost};
 use std::alloc::{AllocError, Global};
+use std::process::Abort;
 use std::test::Fail;
 
 /// `addi x17, x0, 93` and `ecall`.
@@ -44,12 +43,31 @@ fn elf(alloc: Global, words: &[u32], text: &str) -> Result<Vec<u8>, AllocError> 
     Ok(file)
 }
 
-/// A host with a key of so many bytes in `k` and a program in `a`.
-fn host(alloc: Global, failing: &[u64], key: usize, program: &[u8]) -> Result<MemHost, Fail> {
+/// Reads six bytes of the input, writes those that it got, and exits with their number.
+const COPY: [u32; 11] = [
+    0x0002_05b7, // lui x11, 0x20
+    0x0060_0613, // addi x12, x0, 6
+    0x03f0_0893, // addi x17, x0, 63
+    0x0000_0073, // ecall
+    0x0005_0613, // addi x12, x10, 0
+    0x0010_0513, // addi x10, x0, 1
+    0x0400_0893, // addi x17, x0, 64
+    0x0000_0073, // ecall
+    0x0006_0513, // addi x10, x12, 0
+    0x05d0_0893, // addi x17, x0, 93
+    0x0000_0073, // ecall
+];
+
+/// A host with a key of 32 bytes in `k`, one of 31 in `s` and one of 33 in `l`, a program in `a`, and the input `hello` in
+/// `i`.
+fn host(alloc: Global, failing: &[u64], program: &[u8]) -> Result<MemHost, Fail> {
     let mut host = MemHost::new(alloc, failing.to_vec(alloc)?);
-    let key = vec![in alloc; 7; key]?;
-    host.add("k", key.as_slice())?;
+    for (name, length) in [("k", 32), ("s", 31), ("l", 33)] {
+        let key = vec![in alloc; 7; length]?;
+        host.add(name, key.as_slice())?;
+    }
     host.add("a", program)?;
+    host.add("i", b"hello")?;
     Ok(host)
 }
 
@@ -59,314 +77,221 @@ fn words(alloc: Global, line: &str) -> Result<Vec<String>, AllocError> {
         .try_collect(alloc)
 }
 
+/// Takes a line's words to a host, and compares the status, what is printed and the file `o`.
+fn compare<R: Abort>(
+    rt: &R,
+    alloc: Global,
+    line: &str,
+    host: &mut MemHost,
+    status: u8,
+    printed: &str,
+    output: Option<&str>,
+) -> Result<(), Fail> {
+    let words = words(alloc, line)?;
+    let ended = ascend(alloc, words.as_slice(), host);
+    assert!(rt; ended == status, "{line}: {ended}");
+    assert!(rt; host.printed() == printed.as_bytes(), "{line}");
+    assert!(rt; host.file("o") == output.map(str::as_bytes), "{line}");
+    Ok(())
+}
+
+/// The words, the status, the printed text and the output of `EXIT`.
+const ROWS: [(&str, u8, &str, Option<&str>); 26] = [
+    (
+        "run elf=a key=k output=o",
+        0,
+        "end exit 0\ninstructions 2\n",
+        Some(""),
+    ),
+    (
+        "flat output=o elf=a",
+        0,
+        "end exit 0\ninstructions 2\n",
+        Some(""),
+    ),
+    (
+        "run elf=a key=k output=o input=i",
+        0,
+        "end exit 0\ninstructions 2\n",
+        Some(""),
+    ),
+    (
+        "flat elf=a output=o budget=2",
+        0,
+        "end exit 0\ninstructions 2\n",
+        Some(""),
+    ),
+    (
+        "flat elf=a output=o budget=1",
+        9,
+        "end budget\ninstructions 1\n",
+        Some(""),
+    ),
+    (
+        "run elf=a key=k output=o budget=0",
+        9,
+        "end budget\ninstructions 0\n",
+        Some(""),
+    ),
+    (
+        "flat elf=a output=o size=69632",
+        0,
+        "end exit 0\ninstructions 2\n",
+        Some(""),
+    ),
+    (
+        "flat elf=a output=o base=65536",
+        0,
+        "end exit 0\ninstructions 2\n",
+        Some(""),
+    ),
+    ("flat elf=a output=o size=65536", 3, "elf Outside 0\n", None),
+    ("flat elf=a output=o base=69632", 3, "elf Outside 0\n", None),
+    ("", 2, "usage word 1\n", None),
+    ("run", 2, "usage word 2\n", None),
+    ("run elf=a elf=b", 2, "usage word 3\n", None),
+    (
+        "run elf=a key=k output=o budget=01",
+        2,
+        "usage word 5\n",
+        None,
+    ),
+    (
+        "run elf=a key=k output=o size=4095",
+        4,
+        "setting size\n",
+        None,
+    ),
+    ("flat elf=a output=o size=4097", 4, "setting size\n", None),
+    ("flat elf=a output=o base=1", 4, "setting base\n", None),
+    (
+        "flat elf=a output=o base=4294963200",
+        4,
+        "setting base\n",
+        None,
+    ),
+    (
+        "run elf=b key=s output=o budget=1000000001",
+        4,
+        "setting budget\n",
+        None,
+    ),
+    (
+        "flat elf=a output=o budget=1000000001 base=1 size=1",
+        4,
+        "setting size\n",
+        None,
+    ),
+    ("run elf=b key=s output=o", 4, "key length 31\n", None),
+    ("run elf=b key=l output=o", 13, "long key\n", None),
+    ("run elf=b key=k output=o", 5, "", None),
+    ("run elf=a key=b output=o", 5, "", None),
+    ("flat elf=a output=o input=b", 5, "", None),
+    ("flat elf=k output=o input=b", 3, "elf Short\n", None),
+];
+
 #[test]
-fn runs_and_refuses(rt: HostRuntime) -> Result<(), Fail> {
+fn commands_end(rt: HostRuntime) -> Result<(), Fail> {
     let alloc = rt.alloc();
     let exit = elf(alloc, &EXIT, "")?;
-    let status = elf(alloc, &[0x0070_0513, 0x05d0_0893, 0x0000_0073], "")?;
-    let other = elf(alloc, &[0x0000_0013, 0xffff_ffff], "")?;
-    let call = elf(
-        alloc,
-        &[0x3e80_0893, 0x0000_0073, 0x05d0_0893, 0x0000_0073],
-        "",
-    )?;
-    // addi x5, x0, 2; jalr x0, 0(x5)
-    let odd = elf(alloc, &[0x0020_0293, 0x0002_8067], "")?;
-    // lui x5, 0x100; lw x6, 0(x5)
-    let far = elf(alloc, &[0x0010_02b7, 0x0002_a303], "")?;
-    let stop = elf(alloc, &[0x0010_0073], "")?;
-    // behind the program header stands a second one, of a segment inside the first
-    let mut overlapping = elf(alloc, &[1, 84, 65_540, 65_540, 4, 4, 7, 4], "")?;
-    if let Some(headers) = overlapping.get_mut(44) {
-        *headers = 2;
-    }
-    let mut short = elf(alloc, &EXIT, "")?;
-    short.truncate(51);
-    let long = vec![in alloc; 0; 16_777_217]?;
-    let line = "run elf=a key=k output=o";
-    let rows: [(&str, usize, &[u8], u8, &str, Option<&[u8]>); 21] = [
-        (
-            line,
-            32,
-            exit.as_slice(),
-            0,
-            "end exit 0\ninstructions 2\n",
-            Some(&[]),
-        ),
-        (
-            "run output=o key=k elf=a",
-            32,
-            exit.as_slice(),
-            0,
-            "end exit 0\ninstructions 2\n",
-            Some(&[]),
-        ),
-        (
-            line,
-            32,
-            status.as_slice(),
-            0,
-            "end exit 7\ninstructions 3\n",
-            Some(&[]),
-        ),
-        (
-            line,
-            32,
-            other.as_slice(),
-            1,
-            "end trap Illegal 65540\ninstructions 1\n",
-            Some(&[]),
-        ),
-        (
-            line,
-            32,
-            call.as_slice(),
-            0,
-            "end exit 218\ninstructions 4\n",
-            Some(&[]),
-        ),
-        (
-            line,
-            32,
-            odd.as_slice(),
-            1,
-            "end trap FetchMisaligned 65540\ninstructions 1\n",
-            Some(&[]),
-        ),
-        (
-            line,
-            32,
-            far.as_slice(),
-            1,
-            "end trap LoadFault 65540\ninstructions 1\n",
-            Some(&[]),
-        ),
-        (
-            line,
-            32,
-            stop.as_slice(),
-            1,
-            "end trap Breakpoint 65536\ninstructions 0\n",
-            Some(&[]),
-        ),
-        (line, 31, exit.as_slice(), 4, "key length 31\n", None),
-        (line, 0, exit.as_slice(), 4, "key length 0\n", None),
-        (line, 33, exit.as_slice(), 13, "long key\n", None),
-        (line, 32, short.as_slice(), 3, "elf Short\n", None),
-        (line, 32, overlapping.as_slice(), 3, "elf Overlap 1\n", None),
-        (line, 32, long.as_slice(), 13, "long elf\n", None),
-        ("run elf=b key=k output=o", 32, exit.as_slice(), 5, "", None),
-        ("run elf=a key=b output=o", 32, exit.as_slice(), 5, "", None),
-        ("", 32, exit.as_slice(), 2, "usage word 1\n", None),
-        ("run", 32, exit.as_slice(), 2, "usage word 2\n", None),
-        (
-            "run elf=a elf=b",
-            32,
-            exit.as_slice(),
-            2,
-            "usage word 3\n",
-            None,
-        ),
-        (
-            "run elf=a key=k output=o plb=01",
-            32,
-            exit.as_slice(),
-            2,
-            "usage word 5\n",
-            None,
-        ),
-        (
-            "run elf=a key=k",
-            31,
-            exit.as_slice(),
-            2,
-            "usage word 4\n",
-            None,
-        ),
-    ];
-    for (line, key, program, status, printed, output) in rows {
-        let mut host = host(alloc, &[], key, program)?;
-        assert_eq!(rt;
-            ascend(alloc, words(alloc, line)?.as_slice(), &mut host),
-            status,
-            "{line}"
-        );
-        assert!(rt; host.printed() == printed.as_bytes(), "{line}");
-        assert!(rt; host.file("o") == output, "{line}");
+    for (line, status, printed, output) in ROWS {
+        let mut host = host(alloc, &[], exit.as_slice())?;
+        compare(&rt, alloc, line, &mut host, status, printed, output)?;
     }
     Ok(())
+}
+
+/// Programs, and how their runs end.
+const PROGRAMS: [(&[u32], u8, &str); 5] = [
+    (
+        &[0x0070_0513, 0x05d0_0893, 0x0000_0073],
+        0,
+        "end exit 7\ninstructions 3\n",
+    ),
+    (
+        &[0x0000_0013, 0xffff_ffff],
+        1,
+        "end trap Illegal 65540\ninstructions 1\n",
+    ),
+    // addi x5, x0, 2; jalr x0, 0(x5)
+    (
+        &[0x0020_0293, 0x0002_8067],
+        1,
+        "end trap FetchMisaligned 65540\ninstructions 1\n",
+    ),
+    // lui x5, 0x100; lw x6, 0(x5)
+    (
+        &[0x0010_02b7, 0x0002_a303],
+        1,
+        "end trap LoadFault 65540\ninstructions 1\n",
+    ),
+    (
+        &[0x0010_0073],
+        1,
+        "end trap Breakpoint 65536\ninstructions 0\n",
+    ),
+];
+
+#[test]
+fn runs_end(rt: HostRuntime) -> Result<(), Fail> {
+    let alloc = rt.alloc();
+    for (program, status, printed) in PROGRAMS {
+        let file = elf(alloc, program, "")?;
+        let mut host = host(alloc, &[], file.as_slice())?;
+        let line = "flat elf=a output=o";
+        compare(&rt, alloc, line, &mut host, status, printed, Some(""))?;
+    }
+    Ok(())
+}
+
+#[test]
+fn the_input_is_read(rt: HostRuntime) -> Result<(), Fail> {
+    let alloc = rt.alloc();
+    let copy = elf(alloc, &COPY, "")?;
+    let mut given = host(alloc, &[], copy.as_slice())?;
+    let line = "flat elf=a output=o input=i";
+    let printed = "end exit 5\ninstructions 11\n";
+    compare(&rt, alloc, line, &mut given, 0, printed, Some("hello"))?;
+    let mut none = host(alloc, &[], copy.as_slice())?;
+    let line = "run elf=a key=k output=o";
+    let printed = "end exit 0\ninstructions 11\n";
+    compare(&rt, alloc, line, &mut none, 0, printed, Some(""))?;
+    let mut long = host(alloc, &[], copy.as_slice())?;
+    let input = vec![in alloc; 0; 1_048_577]?;
+    long.add("i", input.as_slice())?;
+    let line = "flat elf=a output=o input=i";
+    compare(&rt, alloc, line, &mut long, 13, "long input\n", None)?;
+    let mut program = host(alloc, &[], copy.as_slice())?;
+    let file = vec![in alloc; 0; 16_777_217]?;
+    program.add("a", file.as_slice())?;
+    compare(&rt, alloc, line, &mut program, 13, "long elf\n", None)
 }
 
 #[test]
 fn each_call_fails_in_turn(rt: HostRuntime) -> Result<(), Fail> {
     let alloc = rt.alloc();
     let hello = elf(alloc, &HELLO, "hello\n")?;
+    let line = "run elf=a key=k output=o input=i";
     for (number, status, printed, output) in [
         (0, 0, "end exit 0\ninstructions 9\n", Some("hello\n")),
         (1, 5, "", None),
         (2, 5, "", None),
         (3, 5, "", None),
-        (4, 5, "", Some("hello\n")),
+        (4, 5, "", None),
+        (5, 5, "", Some("hello\n")),
     ] {
-        let mut host = host(alloc, &[number], 32, hello.as_slice())?;
-        let words = words(alloc, "run elf=a key=k output=o")?;
-        assert_eq!(rt;
-            ascend(alloc, words.as_slice(), &mut host),
-            status,
-            "call {number}"
-        );
-        assert!(rt; host.printed() == printed.as_bytes(), "call {number}");
-        assert!(rt;
-            host.file("o") == output.map(str::as_bytes),
-            "call {number}"
-        );
+        let mut host = host(alloc, &[number], hello.as_slice())?;
+        compare(&rt, alloc, line, &mut host, status, printed, output)?;
     }
-    let mut host = host(alloc, &[2], 31, hello.as_slice())?;
-    let words = words(alloc, "run elf=a key=k output=o")?;
-    assert_eq!(rt; ascend(alloc, words.as_slice(), &mut host), 4);
-    assert!(rt; host.printed().is_empty());
-    Ok(())
-}
-
-#[test]
-fn host_calls_answer(rt: HostRuntime) -> Result<(), Fail> {
-    let alloc = rt.alloc();
-    let rows: [(&str, &[u32], u8, usize, &str); 7] = [
-        (
-            "a read at the input's end",
-            &[
-                0x0000_0513,
-                0x0001_05b7,
-                0x0040_0613,
-                0x03f0_0893,
-                0x0000_0073,
-                0x05d0_0893,
-                0x0000_0073,
-            ],
-            0,
-            0,
-            "end exit 0\ninstructions 7\n",
-        ),
-        (
-            "a read of no bytes",
-            &[
-                0xffff_f5b7,
-                0x03f0_0893,
-                0x0000_0073,
-                0x05d0_0893,
-                0x0000_0073,
-            ],
-            0,
-            0,
-            "end exit 0\ninstructions 5\n",
-        ),
-        (
-            "a read past the memory, -14",
-            &[
-                0x0010_05b7,
-                0xfff5_8593,
-                0x0020_0613,
-                0x03f0_0893,
-                0x0000_0073,
-                0x05d0_0893,
-                0x0000_0073,
-            ],
-            0,
-            0,
-            "end exit 242\ninstructions 7\n",
-        ),
-        (
-            "a read of file 7, -9",
-            &[
-                0x0070_0513,
-                0x03f0_0893,
-                0x0000_0073,
-                0x05d0_0893,
-                0x0000_0073,
-            ],
-            0,
-            0,
-            "end exit 247\ninstructions 5\n",
-        ),
-        (
-            "a write to file 3, -9",
-            &[
-                0x0030_0513,
-                0x0400_0893,
-                0x0000_0073,
-                0x05d0_0893,
-                0x0000_0073,
-            ],
-            0,
-            0,
-            "end exit 247\ninstructions 5\n",
-        ),
-        (
-            "a write from past the memory, -14",
-            &[
-                0x0010_0513,
-                0x0010_05b7,
-                0xfff5_8593,
-                0x0020_0613,
-                0x0400_0893,
-                0x0000_0073,
-                0x05d0_0893,
-                0x0000_0073,
-            ],
-            0,
-            0,
-            "end exit 242\ninstructions 8\n",
-        ),
-        (
-            "a write of the whole memory, and one of a byte more than the limit",
-            &[
-                0x0010_0513,
-                0x0010_0637,
-                0x0400_0893,
-                0x0000_0073,
-                0x0020_0513,
-                0x0010_0613,
-                0x0000_0073,
-            ],
-            1,
-            1_048_576,
-            "end trap OutputLimit 65560\ninstructions 6\n",
-        ),
-    ];
-    for (name, program, status, written, printed) in rows {
-        let file = elf(alloc, program, "")?;
-        let mut host = host(alloc, &[], 32, file.as_slice())?;
-        let words = words(alloc, "run elf=a key=k output=o")?;
-        assert_eq!(rt;
-            ascend(alloc, words.as_slice(), &mut host),
-            status,
-            "{name}"
-        );
-        assert!(rt; host.printed() == printed.as_bytes(), "{name}");
-        assert_eq!(rt;
-            host.file("o").map_or(0, |output| output.len()),
-            written,
-            "{name}"
-        );
-    }
-    Ok(())
-}
-
-#[test]
-fn a_run_ends_with_its_budget(rt: HostRuntime) -> Result<(), Fail> {
-    let alloc = rt.alloc();
-    let file = elf(alloc, &EXIT, "")?;
-    let image = elf_loader::parse(alloc, file.as_slice(), flat::BASE, flat::SIZE)?;
-    for (budget, instructions, ending) in [
-        (0, 0, Ending::Budget),
-        (1, 1, Ending::Budget),
-        (2, 2, Ending::Exit { status: 0 }),
-        (3, 2, Ending::Exit { status: 0 }),
-    ] {
-        let outcome = flat::run_flat(alloc, &image, budget)?;
-        assert_eq!(rt; outcome.instructions, instructions, "budget {budget}");
-        assert!(rt; outcome.ending == ending, "budget {budget}");
-        assert!(rt; outcome.output.is_empty(), "budget {budget}");
-    }
-    Ok(())
+    // the print of a refusal's text fails
+    let mut host = host(alloc, &[2], hello.as_slice())?;
+    compare(
+        &rt,
+        alloc,
+        "run elf=a key=s output=o",
+        &mut host,
+        4,
+        "",
+        None,
+    )
 }

@@ -1,0 +1,28 @@
+-- The status of a command, by how it ends.
+use Rattle.std.specs.Prelude.{ℕ, Result, Ok, Err}
+use Rattle.rv32_core.specs.FlatRun.{FlatEnding, Exited, Trapped, Budget}
+use Rattle.ascend_top.specs.FlatRun.{Report}
+use Rattle.ascend_top.specs.declared.refusal.Refusal.{Refusal}
+use Rattle.ascend_top.specs.declared.refusal.Refusal.TheVariants.{Usage, OutOfRange, Elf, KeyLength, TooLong, Host}
+use Rattle.ascend_top.specs.declared.refusal.Refusal.TheVariants.{NoMemory}
+
+-- the status of a command whose run ended so
+abbrev pub status_of_ending : FlatEnding → ℕ
+status_of_ending (Exited status) = 0
+status_of_ending (Trapped kind pc) = 1
+status_of_ending Budget = 9
+
+-- the status of a command that is refused so
+abbrev pub status_of_refusal : Refusal → ℕ
+status_of_refusal (Usage word) = 2
+status_of_refusal (Elf fault) = 3
+status_of_refusal (OutOfRange setting) = 4
+status_of_refusal (KeyLength length) = 4
+status_of_refusal Host = 5
+status_of_refusal NoMemory = 11
+status_of_refusal (TooLong source) = 13
+
+-- the status of a command that ends so
+abbrev pub status_of : Result Report Refusal → ℕ
+status_of (Ok report) = status_of_ending report.ending
+status_of (Err refusal) = status_of_refusal refusal

@@ -1,0 +1,176 @@
+-- The steps of commands. Each has the call that it asks of the host, what it takes to be done, and the refusals that it may
+-- end with, each with its cause.
+use Rattle.std.specs.Prelude.{◌≡◌, ◌⊎◌, ℕ, ◌≤◌, ◌<◌, List, [], ◌∷◌, ◌++◌, length, Option, Some, IfSome, option_map}
+use Rattle.asc_base.specs.Settings.{AreAllowed, IsFirstFault as IsFirstSetting}
+use Rattle.asc_base.specs.declared.settings.Settings.{Settings}
+use Rattle.asc_outside.specs.Host.{HostCall, Reads as ReadsFile, Writes as WritesFile, Prints as PrintsText, HostState}
+use Rattle.asc_outside.specs.Host.{Files, IsLonger, OthersStay}
+use Rattle.asc_outside.specs.Rose.{Rose}
+use Rattle.elf_loader.specs.Faults.{IsFaultless, IsFirstFault}
+use Rattle.ascend_top.specs.declared.refusal.Refusal.{Refusal}
+use Rattle.ascend_top.specs.declared.refusal.Refusal.TheVariants.{Usage, OutOfRange, Elf, KeyLength, TooLong, Host}
+use Rattle.ascend_top.specs.declared.refusal.Refusal.TheVariants.{NoMemory}
+use Rattle.ascend_top.specs.declared.refusal.Source.{Source}
+use Rattle.ascend_top.specs.declared.refusal.Source.TheVariants.{Key as KeyFile, Elf as ElfFile, Input as InputFile}
+
+-- the length of a key, in bytes
+abbrev pub key_length : ℕ
+key_length = 32
+
+-- the greatest length of a file that is read, in bytes
+abbrev pub limit_of : Source → ℕ
+limit_of KeyFile = key_length
+limit_of ElfFile = 16777216
+limit_of InputFile = 1048576
+
+-- what the bytes of a file that is read have to be: anything, a key, or an ELF file for a memory
+pub data Rule : Type 0 where
+  Anything : Rule
+  AKey : Rule
+  AnElf : (base size : ℕ) → Rule
+
+-- bytes keep a rule
+abbrev pub Keeps : Rule → List ℕ → Type 0
+Keeps Anything bytes = Unit {0}
+Keeps AKey bytes = length bytes ≡ key_length
+Keeps (AnElf base size) bytes = IsFaultless base size bytes
+
+-- bytes break a rule, and this refusal says how
+abbrev pub Breaks : Rule → List ℕ → Refusal → Type 0
+Breaks AKey bytes (KeyLength count) = (length bytes ≡ count) × (count < key_length)
+Breaks (AnElf base size) bytes (Elf fault) = IsFirstFault base size bytes fault
+Breaks rule bytes refusal = ⊥
+
+-- A step of a command: it judges the settings, reads the file of this name, writes these bytes to the file of this name, or
+-- prints this text.
+pub data Step : Type 0 where
+  Judges : Settings → Step
+  Reads : Source → (name : List ℕ) → Rule → Step
+  Writes : (name bytes : List ℕ) → Step
+  Prints : (text : List ℕ) → Step
+
+-- the call that a step asks of the host, if it asks one
+abbrev pub calls_of : Step → List HostCall
+calls_of (Judges settings) = []
+calls_of (Reads source name rule) = ReadsFile name ∷ []
+calls_of (Writes name bytes) = WritesFile name ∷ []
+calls_of (Prints text) = PrintsText ∷ []
+
+-- what a step prints
+abbrev pub print_of : Step → List ℕ
+print_of (Judges settings) = []
+print_of (Reads source name rule) = []
+print_of (Writes name bytes) = []
+print_of (Prints text) = text
+
+-- a file is there, within its limit, and its bytes keep the rule
+pub record IsRight (files : Files) (source : Source) (name : List ℕ) (rule : Rule) : Type 0 where
+  pub bytes : List ℕ
+  pub is : files name ≡ Some bytes
+  pub within : length bytes ≤ limit_of source
+  pub keeps : Keeps rule bytes
+
+-- a file is there, within its limit, and its bytes break the rule so
+pub record IsWrong (files : Files) (source : Source) (name : List ℕ) (rule : Rule) (refusal : Refusal) : Type 0 where
+  pub bytes : List ℕ
+  pub is : files name ≡ Some bytes
+  pub within : length bytes ≤ limit_of source
+  pub breaks : Breaks rule bytes refusal
+
+-- what it takes over these files that a step is done
+abbrev pub IsDone : Files → Step → Type 0
+IsDone files (Judges settings) = AreAllowed settings
+IsDone files (Reads source name rule) = IsRight files source name rule
+IsDone files (Writes name bytes) = Unit {0}
+IsDone files (Prints text) = Unit {0}
+
+-- the cause over these files of each refusal of a read: a file that is too long is named before what its bytes are
+abbrev pub IsReadCause : Files → Source → List ℕ → Rule → Refusal → Type 0
+IsReadCause files source name rule (TooLong other) = (other ≡ source) × IsLonger files name (limit_of source)
+IsReadCause files source name rule (KeyLength count) = IsWrong files source name rule (KeyLength count)
+IsReadCause files source name rule (Elf fault) = IsWrong files source name rule (Elf fault)
+IsReadCause files source name rule Host = Unit {0}
+IsReadCause files source name rule NoMemory = Unit {0}
+IsReadCause files source name rule (Usage word) = ⊥
+IsReadCause files source name rule (OutOfRange setting) = ⊥
+
+-- a setting that isn't in its range is named, the first of the settings' table
+abbrev pub IsSettingCause : Settings → Refusal → Type 0
+IsSettingCause settings (OutOfRange setting) = IsFirstSetting settings setting
+IsSettingCause settings NoMemory = Unit {0}
+IsSettingCause settings refusal = ⊥
+
+-- a write and a print are refused where the host fails or there is no memory
+abbrev pub IsWriteCause : Refusal → Type 0
+IsWriteCause Host = Unit {0}
+IsWriteCause NoMemory = Unit {0}
+IsWriteCause refusal = ⊥
+
+-- the cause over these files of a step's refusal
+abbrev pub IsCause : Files → Step → Refusal → Type 0
+IsCause files (Judges settings) refusal = IsSettingCause settings refusal
+IsCause files (Reads source name rule) refusal = IsReadCause files source name rule refusal
+IsCause files (Writes name bytes) refusal = IsWriteCause refusal
+IsCause files (Prints text) refusal = IsWriteCause refusal
+
+-- a list of calls that is told has these more
+abbrev pub AsksMore : Option (List HostCall) → List HostCall → Option (List HostCall) → Type 0
+AsksMore old calls new = new ≡ option_map (λ before. before ++ calls) old
+
+-- a text that is told has these bytes more
+abbrev pub PrintsMore : Option (List ℕ) → List ℕ → Option (List ℕ) → Type 0
+PrintsMore old text new = new ≡ option_map (λ before. before ++ text) old
+
+-- what a step that is done leaves of the files: a write puts its bytes there, every other leaves all as they were
+abbrev pub LeavesFiles : Step → Option Files → Option Files → Type 0
+LeavesFiles (Judges settings) old new = new ≡ old
+LeavesFiles (Reads source name rule) old new = new ≡ old
+LeavesFiles (Writes name bytes) old new = OthersStay name old new × IfSome new (λ files. files name ≡ Some bytes)
+LeavesFiles (Prints text) old new = new ≡ old
+
+-- A step was done: the files were right, and what it prints was printed. Its call was asked once, and no other.
+pub record Does (step : Step) (old new : HostState) : Type 0 where
+  pub done : (files : Files) → old.files ≡ Some files → IsDone files step
+  pub files : LeavesFiles step old.files new.files
+  pub printed : PrintsMore old.printed (print_of step) new.printed
+  pub later : old.faults ≤ new.faults
+  pub asked : AsksMore old.asked (calls_of step) new.asked
+
+-- what a step that is refused leaves of the files: after a refused write nothing is said of its one file
+abbrev pub SparesFiles : Step → Option Files → Option Files → Type 0
+SparesFiles (Judges settings) old new = new ≡ old
+SparesFiles (Reads source name rule) old new = new ≡ old
+SparesFiles (Writes name bytes) old new = OthersStay name old new
+SparesFiles (Prints text) old new = new ≡ old
+
+-- what a step that is refused leaves printed: after a refused print nothing is said of it
+abbrev pub SparesPrinted : Step → Option (List ℕ) → Option (List ℕ) → Type 0
+SparesPrinted (Judges settings) old new = new ≡ old
+SparesPrinted (Reads source name rule) old new = new ≡ old
+SparesPrinted (Writes name bytes) old new = new ≡ old
+SparesPrinted (Prints text) old new = Unit {0}
+
+-- the calls that a step asked that is refused so: its own, which is not among them where there was no memory for it
+abbrev pub AsksAtEnd : Step → Refusal → Option (List HostCall) → Option (List HostCall) → Type 0
+AsksAtEnd step NoMemory old new = (new ≡ old) ⊎ AsksMore old (calls_of step) new
+AsksAtEnd step refusal old new = AsksMore old (calls_of step) new
+
+-- A step was refused so. A failure of the host is one that it counts.
+pub record Refuses (step : Step) (refusal : Refusal) (old new : HostState) : Type 0 where
+  pub cause : (files : Files) → old.files ≡ Some files → IsCause files step refusal
+  pub fault : refusal ≡ Host → Rose old.faults new.faults
+  pub files : SparesFiles step old.files new.files
+  pub printed : SparesPrinted step old.printed new.printed
+  pub later : old.faults ≤ new.faults
+  pub asked : AsksAtEnd step refusal old.asked new.asked
+
+-- these steps were all done, in turn
+abbrev pub AllDone : List Step → HostState → HostState → Type 0
+AllDone [] old new = new ≡ old
+AllDone (step ∷ steps) old new = (mid : HostState) × Does step old mid × AllDone steps mid new
+
+-- these steps were done, in turn, up to one that was refused so
+abbrev pub IsRefused : List Step → Refusal → HostState → HostState → Type 0
+IsRefused [] refusal old new = ⊥
+IsRefused (step ∷ steps) refusal old new =
+    Refuses step refusal old new ⊎ ((mid : HostState) × Does step old mid × IsRefused steps refusal mid new)

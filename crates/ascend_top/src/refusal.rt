@@ -1,0 +1,82 @@
+ghost use Rattle.std.specs.Prelude.{◌≡◌};
+ghost use Rattle.ascend_top.specs.Status.{status_of_refusal};
+ghost use Rattle.ascend_top.specs.Steps.{limit_of};
+ghost use Rattle.ascend_top.specs.Texts.{name_of};
+
+use crate::status;
+use asc_base::Setting;
+use ascend_words::Name;
+use elf_loader::ElfFault;
+
+/// The length of a key, and the greatest length of its file, in bytes.
+pub(crate) const KEY_LENGTH: usize = 32;
+
+/// A file that a command reads.
+#[derive(Clone, Copy, Debug, PartialEq, Eq)]
+pub(crate) enum Source {
+    /// The file of the key.
+    Key,
+    /// The program, an ELF file.
+    Elf,
+    /// The file of the program's input.
+    Input,
+}
+
+impl Source {
+    /// The greatest length of the file, in bytes.
+    pub(crate) fn limit(self) -> usize
+        ensures { result ≡ limit_of self }
+    {
+        match self {
+            Source::Key => KEY_LENGTH,
+            Source::Elf => 16_777_216,
+            Source::Input => 1_048_576,
+        }
+    }
+
+    /// The name that the file is given by.
+    pub(crate) fn name(self) -> Name
+        ensures { result ≡ name_of self }
+    {
+        match self {
+            Source::Key => Name::Key,
+            Source::Elf => Name::Elf,
+            Source::Input => Name::Input,
+        }
+    }
+}
+
+/// Why a command ends before its report.
+#[derive(Debug, Drop)]
+pub(crate) enum Refusal {
+    /// The word with this number, counted from 1, breaks a rule.
+    Usage { word: u64 },
+    /// The setting isn't in its range, and is the first such.
+    OutOfRange(Setting),
+    /// The ELF file has this fault, which is named first of all that it has.
+    Elf(ElfFault),
+    /// The key file has this many bytes, fewer than a key.
+    KeyLength { length: usize },
+    /// The file has more bytes than its limit.
+    TooLong(Source),
+    /// A call of the host failed.
+    Host,
+    /// There is no memory.
+    NoMemory,
+}
+
+impl Refusal {
+    /// The status of a command that is refused so.
+    pub(crate) fn status(&self) -> u8
+        ensures { result ≡ status_of_refusal self.now }
+    {
+        match self {
+            Refusal::Usage { .. } => 2,
+            Refusal::Elf(_) => 3,
+            Refusal::OutOfRange(_) | Refusal::KeyLength { .. } => 4,
+            Refusal::Host => status::HOST_FAILED,
+            Refusal::NoMemory => status::NO_MEMORY,
+            Refusal::TooLong(_) => 13,
+        }
+    }
+}

@@ -1,0 +1,134 @@
+//! The steps of commands over a host.
+ghost use Rattle.std.specs.Prelude.{◌≡◌, ◌≢◌, ◌≤◌, ◌∷◌, ℕ, List, [], Some, IfErr, IfOk, OnOk, IfSome, length};
+ghost use Rattle.asc_base.specs.Memory.{IsMemory};
+ghost use Rattle.asc_outside.specs.Host.{Files, HostState};
+ghost use Rattle.asc_outside.specs.declared.host.HostFault.TheVariants.{Failed, TooLong as TooLongFile, NoMemory as OutOfMemory};
+ghost use Rattle.elf_loader.specs.Memory.{IsImage};
+ghost use Rattle.ascend_top.specs.Parts.{IsImageOf, WasRead, IsConfigOf, unread, unwritten};
+ghost use Rattle.ascend_top.specs.Steps.{AKey, AnElf, Anything, Judges, Reads, Writes, Prints, Rule, Does, Refuses};
+ghost use Rattle.ascend_top.specs.declared.refusal.Source.TheVariants.{Key as KeyFile, Elf as ElfFile};
+
+use crate::refusal::{KEY_LENGTH, Refusal, Source};
+use asc_base::{Config, Settings};
+use asc_outside::{Host, HostFault};
+use elf_loader::{ElfFault, Image};
+use std::alloc::Global;
+
+/// Judges the settings.
+pub(crate) fn judge(settings: &Settings) -> Result<Config, Refusal>
+    ensures config { IfOk result (λ config. IsConfigOf settings.now config) }
+    ensures judged { OnOk result ((state : HostState) → Does (Judges settings.now) state state) }
+    ensures refused { IfErr result (λ refusal. (state : HostState) → Refuses (Judges settings.now) refusal state state) }
+{
+    match Config::check(settings) {
+        Ok(config) => Ok(config),
+        Err(setting) => Err(Refusal::OutOfRange(setting)),
+    }
+}
+
+/// Why a command is refused whose host refuses to read the file.
+fn unread(source: Source, fault: HostFault) -> Refusal
+    ensures { result ≡ unread source fault }
+{
+    match fault {
+        HostFault::Failed => Refusal::Host,
+        HostFault::TooLong => Refusal::TooLong(source),
+        HostFault::NoMemory => Refusal::NoMemory,
+    }
+}
+
+/// Why a command is refused whose host refuses to write or print.
+fn unwritten(fault: HostFault) -> Refusal
+    requires { fault ≢ HostFault.TooLong }
+    ensures { result ≡ unwritten fault }
+{
+    match fault {
+        HostFault::Failed => Refusal::Host,
+        HostFault::NoMemory => Refusal::NoMemory,
+        HostFault::TooLong => unreachable!(),
+    }
+}
+
+/// Reads the file of a name.
+pub(crate) fn read_file<H: Host>(
+    alloc: Global,
+    source: Source,
+    name: &str,
+    host: &mut H,
+) -> Result<Vec<u8>, Refusal>
+    ensures read { IfOk result (λ bytes. WasRead source name.now bytes.items (H.state host.old) (H.state host.new)) }
+    ensures refused { IfErr result (λ refusal. (rule : Rule)
+        → Refuses (Reads source name.now rule) refusal (H.state host.old) (H.state host.new)) }
+{
+    match host.read_file(alloc, name, source.limit()) {
+        Ok(bytes) => Ok(bytes),
+        Err(fault) => Err(unread(source, fault)),
+    }
+}
+
+/// Reads the key file, which has a key's length.
+pub(crate) fn read_key<H: Host>(alloc: Global, name: &str, host: &mut H) -> Result<(), Refusal>
+    ensures read { OnOk result (Does (Reads KeyFile name.now AKey) (H.state host.old) (H.state host.new)) }
+    ensures refused { IfErr result (λ refusal.
+        Refuses (Reads KeyFile name.now AKey) refusal (H.state host.old) (H.state host.new)) }
+{
+    let key = match read_file(alloc, Source::Key, name, host) {
+        Ok(key) => key,
+        Err(refusal) => return Err(refusal),
+    };
+    if key.len() < KEY_LENGTH {
+        return Err(Refusal::KeyLength { length: key.len() });
+    }
+    Ok(())
+}
+
+/// Reads the ELF file, and lays out its memory.
+pub(crate) fn read_elf<H: Host>(
+    alloc: Global,
+    name: &str,
+    base: u32,
+    size: u32,
+    host: &mut H,
+) -> Result<Image, Refusal>
+    requires { IsMemory base size }
+    ensures memory { IfOk result (IsImage base size) }
+    ensures image { IfOk result (λ image. (files : Files) → (H.state host.new).files ≡ Some files
+        → IsImageOf base size files name.now image) }
+    ensures read { OnOk result (Does (Reads ElfFile name.now (AnElf base size)) (H.state host.old) (H.state host.new)) }
+    ensures refused { IfErr result (λ refusal.
+        Refuses (Reads ElfFile name.now (AnElf base size)) refusal (H.state host.old) (H.state host.new)) }
+{
+    let file = match read_file(alloc, Source::Elf, name, host) {
+        Ok(file) => file,
+        Err(refusal) => return Err(refusal),
+    };
+    match elf_loader::parse(alloc, file.as_slice(), base, size) {
+        Ok(image) => Ok(image),
+        Err(ElfFault::NoMemory) => Err(Refusal::NoMemory),
+        Err(fault) => Err(Refusal::Elf(fault)),
+    }
+}
+
+/// Makes these bytes the whole file of a name.
+pub(crate) fn write_file<H: Host>(name: &str, bytes: &[u8], host: &mut H) -> Result<(), Refusal>
+    ensures written { OnOk result (Does (Writes name.now bytes.now) (H.state host.old) (H.state host.new)) }
+    ensures refused { IfErr result (λ refusal.
+        Refuses (Writes name.now bytes.now) refusal (H.state host.old) (H.state host.new)) }
+{
+    match host.write_file(name, bytes) {
+        Ok(()) => Ok(()),
+        Err(fault) => Err(unwritten(fault)),
+    }
+}
+
+/// Prints a text.
+pub(crate) fn print<H: Host>(text: &str, host: &mut H) -> Result<(), Refusal>
+    ensures printed { OnOk result (Does (Prints text.now) (H.state host.old) (H.state host.new)) }
+    ensures refused { IfErr result (λ refusal.
+        Refuses (Prints text.now) refusal (H.state host.old) (H.state host.new)) }
+{
+    match host.print(text.as_bytes()) {
+        Ok(()) => Ok(()),
+        Err(fault) => Err(unwritten(fault)),
+    }
+}

@@ -1,0 +1,75 @@
+ghost use Rattle.std.specs.Prelude.{◌≡◌, ◌++◌, ◌∷◌, [], IfOk, OnErr, IsSome, codes, string_bytes, option_map};
+ghost use Rattle.ascend_top.specs.Texts.{fault_text, refusal_text, setting_text};
+
+use crate::refusal::Refusal;
+use asc_base::Setting;
+use elf_loader::ElfFault;
+use std::alloc::{AllocError, Global};
+
+fn setting_name(setting: Setting) -> &'static str
+    ensures { result.now ≡ setting_text setting }
+{
+    match setting {
+        Setting::Size => "size",
+        Setting::Base => "base",
+        Setting::Sets => "sets",
+        Setting::Ways => "ways",
+        Setting::Plb => "plb",
+        Setting::Roots => "roots",
+        Setting::Ic => "ic",
+        Setting::Stash => "stash",
+        Setting::Budget => "budget",
+        Setting::Time => "time",
+        Setting::Leak => "leak",
+        Setting::Rates => "rates",
+        Setting::First => "first",
+        Setting::Epoch => "epoch",
+    }
+}
+
+/// The line of a fault: its name, and the index of the program header where it has one.
+fn fault_line(alloc: Global, fault: &ElfFault) -> Result<String, AllocError>
+    ensures { IfOk result (λ text. string_bytes text ≡ codes "elf " ++ fault_text fault.now ++ 10 ∷ []) }
+{
+    let name = match fault {
+        ElfFault::Segment { index } => return format!(in alloc; "elf Segment {index}\n"),
+        ElfFault::Outside { index } => return format!(in alloc; "elf Outside {index}\n"),
+        ElfFault::Overlap { index } => return format!(in alloc; "elf Overlap {index}\n"),
+        ElfFault::Short => "Short",
+        ElfFault::Magic => "Magic",
+        ElfFault::Class => "Class",
+        ElfFault::Order => "Order",
+        ElfFault::Version => "Version",
+        ElfFault::FileType => "FileType",
+        ElfFault::Machine => "Machine",
+        ElfFault::Compressed => "Compressed",
+        ElfFault::HeaderSize => "HeaderSize",
+        ElfFault::Table => "Table",
+        ElfFault::Interp => "Interp",
+        ElfFault::Entry => "Entry",
+        ElfFault::NoMemory => "NoMemory",
+    };
+    format!(in alloc; "elf {name}\n")
+}
+
+/// The text of a refusal: None where none is printed.
+pub(crate) fn refusal_text(alloc: Global, refusal: &Refusal) -> Result<Option<String>, AllocError>
+    ensures text { IfOk result (λ text. option_map string_bytes text ≡ refusal_text refusal.now) }
+    ensures err { OnErr result (IsSome (refusal_text refusal.now)) }
+{
+    let text = match refusal {
+        Refusal::Usage { word } => format!(in alloc; "usage word {word}\n")?,
+        Refusal::OutOfRange(setting) => {
+            let name = setting_name(*setting);
+            format!(in alloc; "setting {name}\n")?
+        }
+        Refusal::Elf(fault) => fault_line(alloc, fault)?,
+        Refusal::KeyLength { length } => format!(in alloc; "key length {length}\n")?,
+        Refusal::TooLong(source) => {
+            let name = source.name().text();
+            format!(in alloc; "long {name}\n")?
+        }
+        Refusal::Host | Refusal::NoMemory => return Ok(None),
+    };
+    Ok(Some(text))
+}

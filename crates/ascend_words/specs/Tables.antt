@@ -1,0 +1,71 @@
+-- The tables of the command line: how each command and each name is written, the names that a command requires and those
+-- that it may have, and what the value of a name is. A further command or name is a further row.
+use Rattle.std.specs.Prelude.{ℕ, List, [], ◌∷◌, codes, Bool, ◌||◌, Option}
+use Rattle.std.specs.List.{find, list_any}
+use Rattle.std.specs.Str.{bytes_eq}
+use Rattle.ascend_words.specs.declared.table.Command.{Command}
+use Rattle.ascend_words.specs.declared.table.Command.TheVariants.{Run, Flat}
+use Rattle.ascend_words.specs.declared.table.Kind.{Kind}
+use Rattle.ascend_words.specs.declared.table.Kind.TheVariants.{File, Number}
+use Rattle.ascend_words.specs.declared.table.Name.{Name}
+use Rattle.ascend_words.specs.declared.table.Name.TheVariants.{Elf, Key, Output, Input, Size, Base, Budget}
+
+-- the commands
+abbrev pub commands : List Command
+commands = Run ∷ Flat ∷ []
+
+abbrev pub command_text : Command → List ℕ
+command_text Run = codes "run"
+command_text Flat = codes "flat"
+
+abbrev pub required : Command → List Name
+required Run = Elf ∷ Key ∷ Output ∷ []
+required Flat = Elf ∷ Output ∷ []
+
+abbrev pub optional : Command → List Name
+optional Run = Input ∷ Size ∷ Base ∷ Budget ∷ []
+optional Flat = Input ∷ Size ∷ Base ∷ Budget ∷ []
+
+-- the names
+abbrev pub names : List Name
+names = Elf ∷ Key ∷ Output ∷ Input ∷ Size ∷ Base ∷ Budget ∷ []
+
+abbrev pub name_text : Name → List ℕ
+name_text Elf = codes "elf"
+name_text Key = codes "key"
+name_text Output = codes "output"
+name_text Input = codes "input"
+name_text Size = codes "size"
+name_text Base = codes "base"
+name_text Budget = codes "budget"
+
+abbrev pub kind_of : Name → Kind
+kind_of Elf = File
+kind_of Key = File
+kind_of Output = File
+kind_of Input = File
+kind_of Size = Number
+kind_of Base = Number
+kind_of Budget = Number
+
+-- What follows from the tables.
+
+-- the command that is written so
+abbrev pub commanded : List ℕ → Option Command
+commanded text = find (λ command. bytes_eq (command_text command) text) commands
+
+-- the name that is written so
+abbrev pub named : List ℕ → Option Name
+named text = find (λ name. bytes_eq (name_text name) text) names
+
+-- two names are the same: they are written the same
+abbrev pub is_same : Name → Name → Bool
+is_same a b = bytes_eq (name_text a) (name_text b)
+
+-- the name is one of these
+abbrev pub is_among : Name → List Name → Bool
+is_among name list = list_any (λ other. is_same other name) list
+
+-- the name is one of the command's
+abbrev pub is_name_of : Command → Name → Bool
+is_name_of command name = is_among name (required command) || is_among name (optional command)
