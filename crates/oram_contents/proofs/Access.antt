@@ -33,15 +33,15 @@ use Rattle.oram_contents.specs.Counts.{Ghost, line_at, line_by, zero_line, IsAwa
 use Rattle.oram_contents.specs.Fold.{with_entry}
 use Rattle.oram_contents.specs.Verdict.{judged, line_found}
 use Rattle.oram_contents.specs.Forgery.{Forgery, LastDrawn}
-use Rattle.oram_contents.specs.Provenance.{FromOutside, Genuine, Known, message_in, Untagged, OffOpen, Sound, Always, AreApart}
+use Rattle.oram_contents.specs.Provenance.{FromOutside, Came, Genuine, Known, message_in, Untagged, OffOpen, Sound, Always, AreApart}
 use Rattle.oram_contents.specs.Steps.{Adds, next_dummy, opened_at, raised, taken, accepted, stored, landed, closed, inserted}
 use Rattle.oram_contents.specs.Slots.{drawn_events, MayDraw, IsRead, IsFound, MayRise, IsPut, HasSeeds}
-use Rattle.oram_contents.proofs.Among.{has_left, has_right, has_split, all_has, cases_tagged}
+use Rattle.oram_contents.proofs.Among.{has_left, has_right, has_split, has_last, has_new, all_has, cases_tagged}
 use Rattle.oram_contents.proofs.Lines.{put_same, put_other}
 use Rattle.oram_contents.proofs.Joined.{joined_from, buckets-apart, apart_append}
 use Rattle.oram_contents.proofs.Found.{held_has, without_has, without_apart, nothing_wrong, valid_tag}
 use Rattle.oram_contents.proofs.Placing.{written_from, where_placed_has, where_placed_apart}
-use Rattle.oram_contents.proofs.Steps.{AreUntagged, IsPast, sound_log, sound_read, sound_fewer, sound_raised, counter_raised, sound_put, sound_write}
+use Rattle.oram_contents.proofs.Steps.{came_more, AreUntagged, IsPast, sound_log, sound_read, sound_fewer, sound_raised, counter_raised, sound_put, sound_write}
 
 some_is : {a b : ℕ} → Some a ≡ Some b → a ≡ b
 some_is e = cc
@@ -147,6 +147,14 @@ module _ (keys : Keys) where
       placed = s.placed;
       apart = buckets-apart keys.shape.levels (keys.leaf_of p) 0 (map (opened keys.pads keys.shape) (replies keys.shape.levels start (keys.leaf_of p) now.mirror r.altered)) now.hand joined r.read s.apart;
       of_shape = r.of_shape;
+      hand_came = λ e h. elim (joined_from keys start (keys.leaf_of p) r.altered now joined e r.read h) [
+        | inl l ↦ came_more keys old new (drawn_events keys start r.asked p) r.altered e r.adds (s.hand_came e l)
+        | inr c ↦ elim c [
+          | inl o ↦ inl (o.0, subst (λ (l : List Altered). Has o.0 l) (sym r.adds.altered_are) (has_right o.0 old.altered r.altered o.1), (e, o.2, refl, refl, refl))
+          | inr b ↦ came_more keys old new (drawn_events keys start r.asked p) r.altered e r.adds (s.tree_came b.0 e b.1)
+        ]
+      ];
+      tree_came = λ b e h. came_more keys old new (drawn_events keys start r.asked p) r.altered e r.adds (s.tree_came b e h);
       past = λ reply h. elim (has_split reply old.altered r.altered (subst (λ (l : List Altered). Has reply l) r.adds.altered_are h)) [
         | inl o ↦ omega (arith, s.past reply o, ap length r.adds.events_are, length-append old.events (drawn_events keys start r.asked p))
         | inr n ↦ (let at : reply.before ≡ length old.events + 2 = all_has (λ (x : Altered). x.before ≡ length old.events + 2) reply r.altered r.noted n in omega (arith, at, ap length r.adds.events_are, length-append old.events (drawn_events keys start r.asked p)))
@@ -223,11 +231,14 @@ module _ (keys : Keys) where
             })
 
   -- what holds always, when entries leave or one joins
-  pub always_adds : (old new : LogLists) (events : List Event) (now : Contents) (hand : List Entry) → Adds old new events [] → AreApart hand → AreOfShape keys.shape hand → Always keys old now → Always keys new (record now { hand = hand })
-  always_adds old new events now hand adds apart of_shape s = record {
+  pub always_adds : (old new : LogLists) (events : List Event) (now : Contents) (hand : List Entry) → Adds old new events [] → AreApart hand → AreOfShape keys.shape hand
+      → ((e : Entry) → Has e hand → Came keys new e) → Always keys old now → Always keys new (record now { hand = hand })
+  always_adds old new events now hand adds apart of_shape came s = record {
     placed = s.placed;
     apart = apart;
     of_shape = of_shape;
+    hand_came = came;
+    tree_came = λ b e h. came_more keys old new events [] e adds (s.tree_came b e h);
     past = λ reply h. omega (arith, s.past reply (subst (λ (l : List Altered). Has reply l) (adds.altered_are ∙ append-nil old.altered) h), ap length adds.events_are, length-append old.events events);
     mirrored = s.mirrored;
     seeds = s.seeds;
@@ -236,7 +247,8 @@ module _ (keys : Keys) where
   pub take_always : (old new : LogLists) (now : Contents) (a : ℕ) (c : Counter) (found : Option Entry) → IsFound keys old new now.hand a c found → Always keys old now
       → Always keys new (record now { hand = without now.hand (record { 0 = a }) })
   take_always old new now a c found f s =
-      always_adds old new (accepted a c found) now (without now.hand (record { 0 = a })) f.adds (without_apart now.hand (record { 0 = a }) s.apart) (without_of_shape keys.shape now.hand (record { 0 = a }) s.of_shape) s
+      always_adds old new (accepted a c found) now (without now.hand (record { 0 = a })) f.adds (without_apart now.hand (record { 0 = a }) s.apart) (without_of_shape keys.shape now.hand (record { 0 = a }) s.of_shape)
+      (λ e h. came_more keys old new (accepted a c found) [] e f.adds (s.hand_came e (without_has now.hand (record { 0 = a }) e s.apart h).0)) s
 
   pub put_always : (lawful : AreKeys keys) (old new : LogLists) (now after : Contents) (a : ℕ) (c : Counter) (l : List ℕ) → a < keys.shape.total → length l ≡ 64
       → ((e : Entry) → Has e now.hand → e.address.0 ≡ a → ⊥) → IsPut keys old new now after a c l → Always keys old now → Always keys new after
@@ -244,8 +256,15 @@ module _ (keys : Keys) where
       subst (λ x. Always keys new x) (sym put.after_is)
       (always_adds old new (Tagged (message_of a c l) ∷ []) now (now.hand ++ entry_of keys a c l ∷ []) put.adds
       (apart_append now.hand (entry_of keys a c l) s.apart other)
-      (put_of_shape keys.shape now.hand (now.hand ++ entry_of keys a c l ∷ []) (entry_of keys a c l) refl is_entry (inside, lawful.leaves (real a c)) s.of_shape) s)
+      (put_of_shape keys.shape now.hand (now.hand ++ entry_of keys a c l ∷ []) (entry_of keys a c l) refl is_entry (inside, lawful.leaves (real a c)) s.of_shape)
+      came s)
     where
+      came : (e : Entry) → Has e (now.hand ++ entry_of keys a c l ∷ []) → Came keys new e
+      came e h = elim (has_last e (entry_of keys a c l) now.hand h) [
+        | inl old_one ↦ came_more keys old new (Tagged (message_of a c l) ∷ []) [] e put.adds (s.hand_came e old_one)
+        | inr is ↦ subst (λ x. Came keys new x) (sym is) (inr (message_of a c l, subst (λ (x : List Event). Has (Tagged (message_of a c l)) x) (sym put.adds.events_are) (has_new (Tagged (message_of a c l)) old.events), refl, refl, refl))
+      ]
+
       is_entry : IsEntry (entry_of keys a c l)
       is_entry =
           let layered : IsLayered keys.shape = shape_layered keys.shape lawful.shape in
@@ -297,6 +316,8 @@ module _ (keys : Keys) where
       placed = λ b e h. elim (written_from keys lawful leaf now b e within w.of_shape w.mirrored w.seeds room h) [ inl kept ↦ w.placed b e kept.0 | inr from ↦ from.1 ];
       apart = where_placed_apart _ (places_of keys.shape.levels leaf now.hand) now.hand w.apart;
       of_shape = All-where_placed (λ (e : Entry). IsEntry e × IsInRange keys.shape (Some e)) _ (places_of keys.shape.levels leaf now.hand) now.hand w.of_shape;
+      hand_came = λ e h. w.hand_came e (where_placed_has _ (places_of keys.shape.levels leaf now.hand) now.hand e h);
+      tree_came = λ b e h. elim (written_from keys lawful leaf now b e within w.of_shape w.mirrored w.seeds room h) [ inl kept ↦ w.tree_came b e kept.0 | inr from ↦ w.hand_came e from.0 ];
       past = w.past;
       mirrored = sealed-length keys.pads keys.shape.levels leaf now.seed now.hand now.mirror (keys.shape.levels + 1) ∙ w.mirrored;
       seeds = omega (arith, w.seeds);

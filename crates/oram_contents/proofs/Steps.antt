@@ -19,7 +19,7 @@ use Rattle.posmap_counters.proofs.CounterLaws.{before_trans, not_after_trans, be
 use Rattle.oram_contents.specs.Contents.{Contents}
 use Rattle.oram_contents.specs.Entries.{Has, Keys, AreKeys, real, message_of, entry_of, entries_at, OnPath}
 use Rattle.oram_contents.specs.Counts.{Ghost, line_at, line_by, zero_line, IsAway, put_at}
-use Rattle.oram_contents.specs.Provenance.{FromOutside, Genuine, Known, message_in, Untagged, AtMostOnce, OffOpen, Sound}
+use Rattle.oram_contents.specs.Provenance.{FromOutside, Came, Genuine, Known, message_in, Untagged, AtMostOnce, OffOpen, Sound}
 use Rattle.oram_contents.specs.Steps.{Adds, raised, landed}
 use Rattle.oram_contents.proofs.Among.{has_left, has_right, has_split, has_last, has_new, tagged_same, once_append, once_none}
 use Rattle.oram_contents.proofs.Lines.{put_same, put_other, line_same}
@@ -34,6 +34,11 @@ IsPast g a c = IsBefore c (g.count a) ⊎ ((g.pend ≡ Some a) × (c ≡ g.count
 module _ (keys : Keys) where
   outside_more : (old new : LogLists) (events : List Event) (altered : List Altered) (e : Entry) → Adds old new events altered → FromOutside keys old e → FromOutside keys new e
   outside_more old new events altered e adds o = (o.0, subst (λ (l : List Altered). Has o.0 l) (sym adds.altered_are) (has_left o.0 old.altered altered o.1), o.2)
+
+  pub came_more : (old new : LogLists) (events : List Event) (altered : List Altered) (e : Entry) → Adds old new events altered → Came keys old e → Came keys new e
+  came_more old new events altered e adds (inl o) = inl (outside_more old new events altered e adds o)
+  came_more old new events altered e adds (inr t) =
+      inr (t.0, subst (λ (l : List Event). Has (Tagged t.0) l) (sym adds.events_are) (has_left _ old.events events t.1), t.2, t.3, t.4)
 
   genuine_more : (old new : LogLists) (events : List Event) (altered : List Altered) (count : ℕ → Counter) (e : Entry) → Adds old new events altered → Genuine keys old count e → Genuine keys new count e
   genuine_more old new events altered count e adds k = record {

@@ -21,6 +21,11 @@ use Rattle.oram_contents.specs.Forgery.{Stood}
 abbrev pub FromOutside : Keys → LogLists → Entry → Type 0
 FromOutside keys log e = (reply : Altered) × Has reply log.altered × Stood keys reply e.address.0 e.line.0 e.tag
 
+-- It stood in an altered reply, or a message with its address, line and tag was noted as tagged.
+abbrev pub Came : Keys → LogLists → Entry → Type 0
+Came keys log e = FromOutside keys log e
+    ⊎ ((m : Message) × Has (Tagged m) log.events × (m.address.0 ≡ e.address.0) × (m.line.0 ≡ e.line.0) × (tag keys.tags m ≡ e.tag))
+
 -- the message that an entry is of, under a counter
 abbrev pub message_in : Entry → Counter → Message
 message_in e c = message_of e.address.0 c e.line.0
@@ -86,6 +91,9 @@ pub record Always (keys : Keys) (log : LogLists) (now : Contents) : Type 0 where
   -- A2
   pub apart : AreApart now.hand
   pub of_shape : AreOfShape keys.shape now.hand
+  -- A3: what stands at hand or in the tree was tagged, or stood in an altered reply
+  pub hand_came : (e : Entry) → Has e now.hand → Came keys log e
+  pub tree_came : (bucket : ℕ) (e : Entry) → Has e (entries_at keys now.mirror bucket) → Came keys log e
   -- A4: an altered reply was noted when it was
   pub past : (reply : Altered) → Has reply log.altered → reply.before ≤ length log.events
   -- there are the shape's buckets, and seeds from 1 on
