@@ -71,12 +71,17 @@ module _ (keys : Keys) (lawful : AreKeys keys) (old new : LogLists) (g : Ghost) 
     λ p y h. h,
   )
 
-  pub final_always : (a < keys.shape.total) → length l ≡ 64 → HasSeeds now → Always keys old now → Always keys new after
-  final_always inside whole room w =
+  -- what holds always just before the path is written
+  pub put_hand_always : (a < keys.shape.total) → length l ≡ 64 → Always keys old now → Always keys new put
+  put_hand_always inside whole w =
       let read = read_always keys old log1 g now start (real a (g.count a)) x.joined is_read w in
       let take = take_always keys log1 log2 at_hand a (g.count a) found is_found read in
-      let joins = put_always keys lawful log2 new left put a c l inside whole (λ e h. (without_has x.joined (record { 0 = a }) e read.apart h).1) (is_put c refl) take in
-      subst (λ y. Always keys new y) (sym x.after_is) (write_always keys lawful new put (keys.leaf_of (real a (g.count a))) (lawful.leaves (real a (g.count a))) room joins)
+      put_always keys lawful log2 new left put a c l inside whole (λ e h. (without_has x.joined (record { 0 = a }) e read.apart h).1) (is_put c refl) take
+
+  pub final_always : (a < keys.shape.total) → length l ≡ 64 → HasSeeds now → Always keys old now → Always keys new after
+  final_always inside whole room w =
+      subst (λ y. Always keys new y) (sym x.after_is)
+      (write_always keys lawful new put (keys.leaf_of (real a (g.count a))) (lawful.leaves (real a (g.count a))) room (put_hand_always inside whole w))
 
   pub final_sound : IsBetween g → g.pend ≡ Some a → MayRise keys g a c → (Has a g.held → ⊥) → l ≡ line_at keys.shape (done g a c l) a → length l ≡ 64 → HasSeeds now
       → Always keys old now → Sound keys old g now → Forgery keys new ⊎ (Sound keys new (done g a c l) after × (line_found found ≡ line_at keys.shape g a))

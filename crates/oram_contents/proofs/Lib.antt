@@ -12,6 +12,7 @@ pub mod Placing
 pub mod Access
 pub mod Final
 pub mod Folding
+pub mod Ends
 pub mod Passes
 pub mod GroupLaws
 pub mod HomeLaws
@@ -19,4 +20,5 @@ pub mod HomeSteps
 pub mod StartLaws
 pub mod Cuts
 pub mod Honest
+pub mod HomeSlots
 pub mod Twice

@@ -1,6 +1,6 @@
 -- Slots that put nothing back, and what happens between slots: a block is held, a displaced one is put at hand, a held one
 -- renumbered.
-use Rattle.std.proofs.Common.{◌≡◌, ◌<◌, ◌≤◌, ◌+◌, ◌^◌, ◌⊎◌, inl, inr, ℕ, zero, suc, List, [], ◌∷◌, ◌++◌, length, take, slice_get, Option, None, Some, refl, sym, ◌∙◌, ap, subst, append_assoc, append-nil}
+use Rattle.std.proofs.Common.{arith, ◌≡◌, ◌<◌, ◌≤◌, ◌+◌, ◌^◌, ◌⊎◌, inl, inr, ℕ, zero, suc, List, [], ◌∷◌, ◌++◌, length, take, slice_get, Option, None, Some, refl, sym, ◌∙◌, ap, subst, append_assoc, append-nil}
 use Rattle.asc_base.specs.TreeShape.{parent_of}
 use Rattle.asc_base.specs.declared.block.Address.{Address}
 use Rattle.asc_base.specs.declared.block.Counter.{Counter}
@@ -23,11 +23,14 @@ use Rattle.oram_contents.specs.Provenance.{Genuine, OffOpen, Untagged, Sound, Al
 use Rattle.oram_contents.specs.Steps.{Adds, opened_at, raised, taken, accepted, inserted}
 use Rattle.oram_contents.specs.Slots.{drawn_events, IsRead, IsFound, MayRise, IsPut, HasSeeds, IsPass, IsRefill, IsBetween, passed, refilled, ArePasses, passed_by}
 use Rattle.oram_contents.proofs.Access.{forgery_more, read_sound, read_always, take_sound, take_line, take_always, write_sound, write_always}
+use Rattle.oram_contents.specs.Fold.{Fold, whole}
+use Rattle.oram_contents.proofs.Ends.{always_ends, sound_ends, whole_ends}
+use Rattle.oram_contents.proofs.Folding.{whole_pass}
 use Rattle.oram_contents.proofs.Steps.{sound_raised}
 
 module _ (keys : Keys) (lawful : AreKeys keys) where
   module _ (old new : LogLists) (g : Ghost) (now after : Contents) (start n : ℕ) (x : IsPass keys old new now after start n) where
-    pass_read : IsRead keys old new now start (Dummy n) x.joined
+    pub pass_read : IsRead keys old new now start (Dummy n) x.joined
     pass_read = record { asked = x.asked; altered = x.altered; adds = record { events_are = x.events_are; altered_are = x.altered_are }; noted = x.noted; read = x.read; of_shape = x.of_shape }
 
     pub pass_always : HasSeeds now → Always keys old now → Always keys new after
@@ -44,23 +47,48 @@ module _ (keys : Keys) (lawful : AreKeys keys) where
             subst (λ (m : ℕ). Sound keys new (record g { path = None; dummies = m + 1 }) (after_write keys.pads keys.shape.levels (keys.leaf_of (Dummy n)) (record now { hand = x.joined }))) next s2 in
         subst (λ y. Sound keys new (passed g) y) (sym x.after_is) numbered
 
+  passed_number : (k : ℕ) (g : Ghost) → (passed_by k g).dummies ≡ g.dummies + k
+  passed_number zero g = omega arith
+  passed_number (suc k) g = let before = passed_number k g in omega arith
+
+  pub passed_path : (k : ℕ) (g : Ghost) → g.path ≡ None → (passed_by k g).path ≡ None
+  passed_path zero g shut = shut
+  passed_path (suc k) g shut = refl
+
   pub passes_keep : (k : ℕ) (old new : LogLists) (g : Ghost) (now after : Contents) (n : ℕ) → ArePasses keys k old new now after n → g.path ≡ None → n ≡ g.dummies
       → Always keys old now → Sound keys old g now → Always keys new after × Sound keys new (passed_by k g) after
   passes_keep zero old new g now after n are shut next w s = (subst (λ l. Always keys l after) (sym are.0) (subst (λ y. Always keys old y) (sym are.1) w), subst (λ l. Sound keys l g after) (sym are.0) (subst (λ y. Sound keys old g y) (sym are.1) s))
   passes_keep (suc k) old new g now after n are shut next w s =
-      let x = are.3 in
-      passes_keep k are.0 new (passed g) are.1 after (n + 1) are.5 refl (ap (λ m. m + 1) next)
-      (pass_always old are.0 g now are.1 are.2 n x are.4 w) (pass_sound old are.0 g now are.1 are.2 n x shut next are.4 w s)
+      let before = passes_keep k old are.0 g now are.1 n are.3 shut next w s in
+      let x = are.5 in
+      let number : n + k ≡ (passed_by k g).dummies = (let at = passed_number k g in omega (arith, next)) in
+      (always_ends keys x.mid new after x.ends (pass_always are.0 x.mid (passed_by k g) are.1 after are.2 (n + k) x.pass are.4 before.0),
+      sound_ends keys x.mid new (passed (passed_by k g)) after x.ends (pass_sound are.0 x.mid (passed_by k g) are.1 after are.2 (n + k) x.pass (passed_path k g shut) number are.4 before.0 before.1))
+
+  -- the contents of a log that dummies lengthen
+  pub passes_whole : (k : ℕ) (first : Fold) (old new : LogLists) (g : Ghost) (now after : Contents) (n : ℕ) → ArePasses keys k old new now after n
+      → Always keys old now → whole keys first old ≡ now → Always keys new after × (whole keys first new ≡ after)
+  passes_whole zero first old new g now after n are w is =
+      (subst (λ l. Always keys l after) (sym are.0) (subst (λ y. Always keys old y) (sym are.1) w), ap (whole keys first) are.0 ∙ is ∙ sym are.1)
+  passes_whole (suc k) first old new g now after n are w is =
+      let x = are.5 in
+      let before = passes_whole k first old are.0 g now are.1 n are.3 w is in
+      (always_ends keys x.mid new after x.ends (pass_always are.0 x.mid g are.1 after are.2 (n + k) x.pass are.4 before.0),
+      whole_ends keys first x.mid new x.ends ∙ whole_pass keys first are.0 x.mid are.1 after are.2 (n + k) before.0.past before.1 x.pass)
+
+  -- the log of a refill after its path is read
+  abbrev pub refill_log : LogLists → LogLists → ℕ → ℕ → Counter → Option ℕ → LogLists
+  refill_log old new start a c asked = record { moves = new.moves; events = old.events ++ drawn_events keys start asked (real a c); altered = new.altered }
 
   -- a refill: the block is in flight from then on
   module _ (old new : LogLists) (g : Ghost) (now after : Contents) (start a : ℕ) (c : Counter) (found : Option Entry) (x : IsRefill keys old new now after start a (g.count a) found) where
     abbrev log1 : LogLists
-    log1 = record { moves = new.moves; events = old.events ++ drawn_events keys start x.asked (real a (g.count a)); altered = new.altered }
+    log1 = refill_log old new start a (g.count a) x.asked
 
-    refill_read : IsRead keys old log1 now start (real a (g.count a)) x.joined
+    pub refill_read : IsRead keys old log1 now start (real a (g.count a)) x.joined
     refill_read = record { asked = x.asked; altered = x.altered; adds = record { events_are = refl; altered_are = x.altered_are }; noted = x.noted; read = x.read; of_shape = x.of_shape }
 
-    refill_found : IsFound keys log1 new x.joined a (g.count a) found
+    pub refill_found : IsFound keys log1 new x.joined a (g.count a) found
     refill_found = record {
       found_is = x.found_is;
       right = x.right;

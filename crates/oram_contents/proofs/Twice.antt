@@ -20,32 +20,29 @@ use Rattle.oram_contents.specs.Slots.{drawn_events, HasSeeds, MayRise, IsAccess,
 use Rattle.oram_contents.proofs.Lines.{put_same}
 use Rattle.oram_contents.proofs.Access.{forgery_more}
 use Rattle.oram_contents.proofs.Final.{final_sound, final_always}
-use Rattle.oram_contents.proofs.Passes.{passes_keep, pend_sound}
+use Rattle.oram_contents.proofs.Ends.{forgery_ends}
+use Rattle.oram_contents.proofs.Passes.{passes_keep, passed_path, pend_sound}
 
 -- dummies change nothing but their number and the open path
 passed_count : (k : ℕ) (g : Ghost) → (passed_by k g).count ≡ g.count
 passed_count zero g = refl
-passed_count (suc k) g = passed_count k (passed g)
+passed_count (suc k) g = passed_count k g
 
 passed_data : (k : ℕ) (g : Ghost) → (passed_by k g).data_lines ≡ g.data_lines
 passed_data zero g = refl
-passed_data (suc k) g = passed_data k (passed g)
+passed_data (suc k) g = passed_data k g
 
 passed_held : (k : ℕ) (g : Ghost) → (passed_by k g).held ≡ g.held
 passed_held zero g = refl
-passed_held (suc k) g = passed_held k (passed g)
+passed_held (suc k) g = passed_held k g
 
 passed_flight : (k : ℕ) (g : Ghost) → (passed_by k g).flight ≡ g.flight
 passed_flight zero g = refl
-passed_flight (suc k) g = passed_flight k (passed g)
+passed_flight (suc k) g = passed_flight k g
 
 passed_pend : (k : ℕ) (g : Ghost) → (passed_by k g).pend ≡ g.pend
 passed_pend zero g = refl
-passed_pend (suc k) g = passed_pend k (passed g)
-
-passed_path : (k : ℕ) (g : Ghost) → g.path ≡ None → (passed_by k g).path ≡ None
-passed_path zero g shut = shut
-passed_path (suc k) g shut = passed_path k (passed g) refl
+passed_pend (suc k) g = passed_pend k g
 
 -- the block's slot comes next again
 abbrev waiting : Ghost → ℕ → Counter → List ℕ → Ghost
@@ -59,8 +56,9 @@ module _ (keys : Keys) where
   passes_more : (k : ℕ) (old new : LogLists) (now after : Contents) (n : ℕ) → ArePasses keys k old new now after n → Forgery keys old → Forgery keys new
   passes_more zero old new now after n are f = subst (λ l. Forgery keys l) (sym are.0) f
   passes_more (suc k) old new now after n are f =
-      let x = are.3 in
-      passes_more k are.0 new are.1 after (n + 1) are.5 (forgery_more keys old are.0 (drawn_events keys are.2 x.asked (Dummy n)) x.altered (record { events_are = x.events_are; altered_are = x.altered_are }) f)
+      let x = are.5 in
+      forgery_ends keys x.mid new x.ends (forgery_more keys are.0 x.mid (drawn_events keys are.2 x.pass.asked (Dummy (n + k))) x.pass.altered (record { events_are = x.pass.events_are; altered_are = x.pass.altered_are })
+      (passes_more k old are.0 now are.1 n are.3 f))
 
   stored_line : (g : Ghost) (a : ℕ) (c : Counter) (l : List ℕ) → children_of keys.shape.lines keys.shape.layers a ≡ None → l ≡ line_at keys.shape (done g a c l) a
   stored_line g a c l none = sym (ap (line_by (put_at g.count a c) (put_at g.data_lines a l a)) none ∙ put_same g.data_lines a l)
@@ -88,7 +86,7 @@ module _ (keys : Keys) where
           let kept_line : g2.data_lines a ≡ v1 = ap (λ f. f a) (passed_data k (waiting g a c1 v1)) ∙ put_same g.data_lines a v1 in
           let x2_at : IsAccess keys l2 l3 n2 n3 s2 a (g2.count a) c2 found2 v2 = subst (λ c. IsAccess keys l2 l3 n2 n3 s2 a c c2 found2 v2) (sym counted) x2 in
           elim (final_sound keys lawful l2 l3 g2 n2 n3 s2 a c2 found2 v2 x2_at
-          (record { path = passed_path k (waiting g a c1 v1) refl; flight = passed_flight k (waiting g a c1 v1) }) (passed_pend k (waiting g a c1 v1))
+          (record { path = passed_path keys lawful k (waiting g a c1 v1) refl; flight = passed_flight k (waiting g a c1 v1) }) (passed_pend k (waiting g a c1 v1))
           (record { inside = inside; up = subst (λ c. IsBefore c c2) (sym counted) up2; parent = no_parent g2 })
           (λ h. unheld (subst (λ l. Has a l) (passed_held k (waiting g a c1 v1)) h)) (stored_line g2 a c2 v2 leafy) whole2 room2 kept.0 kept.1) [
             | inl f ↦ inl f

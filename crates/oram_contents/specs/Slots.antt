@@ -1,5 +1,5 @@
 -- The parts of a slot, each by what it leaves in the log and in the contents.
-use Rattle.std.specs.Prelude.{◌≡◌, ◌≤◌, ◌<◌, ◌+◌, ◌^◌, ℕ, zero, suc, List, [], ◌∷◌, ◌++◌, length, All, Option, None, Some}
+use Rattle.std.specs.Prelude.{◌≡◌, ◌≤◌, ◌<◌, ◌+◌, ◌^◌, ◌⊎◌, ℕ, zero, suc, List, [], ◌∷◌, ◌++◌, length, All, Option, None, Some}
 use Rattle.asc_base.specs.TreeShape.{parent_of}
 use Rattle.asc_base.specs.declared.block.Counter.{Counter}
 use Rattle.asc_base.specs.declared.block.Entry.{Entry}
@@ -9,7 +9,7 @@ use Rattle.asc_base.specs.declared.block.Point.TheVariants.{Real, Dummy}
 use Rattle.bus_watch.specs.Log.{LogLists}
 use Rattle.bus_watch.specs.declared.log.Altered.{Altered}
 use Rattle.bus_watch.specs.declared.log.Event.{Event}
-use Rattle.bus_watch.specs.declared.log.Event.TheVariants.{Access, Drawn, Tagged}
+use Rattle.bus_watch.specs.declared.log.Event.TheVariants.{Access, Drawn, Tagged, Chosen}
 use Rattle.oram_stash.specs.Entries.{held, without}
 use Rattle.posmap_counters.specs.Counters.{IsBefore}
 use Rattle.oram_contents.specs.Contents.{Contents, IsReadTo, after_write}
@@ -129,13 +129,26 @@ refilled g a c = record g {
   path = None;
 }
 
--- so many dummies one after the other
+-- At the end of a slot nothing is noted but a choice, where one falls.
+pub record IsEnd (old new : LogLists) : Type 0 where
+  pub altered : new.altered ≡ old.altered
+  pub events : (new.events ≡ old.events) ⊎ ((index : ℕ) × (new.events ≡ old.events ++ Chosen index ∷ []))
+
+-- A dummy that nobody asked for, and its end.
+pub record IsDummy (keys : Keys) (old new : LogLists) (now after : Contents) (start n : ℕ) : Type 0 where
+  pub mid : LogLists
+  pub pass : IsPass keys old mid now after start n
+  pub unasked : pass.asked ≡ None
+  pub ends : IsEnd mid new
+
+-- so many dummies one after the other, numbered from n on
 abbrev pub ArePasses : Keys → ℕ → LogLists → LogLists → Contents → Contents → ℕ → Type 0
 ArePasses keys zero old new now after n = (new ≡ old) × (after ≡ now)
 ArePasses keys (suc k) old new now after n =
-    (mid : LogLists) × (between : Contents) × (start : ℕ) × IsPass keys old mid now between start n × HasSeeds now
-    × ArePasses keys k mid new between after (n + 1)
+    (mid : LogLists) × (between : Contents) × (start : ℕ) × ArePasses keys k old mid now between n × HasSeeds between
+    × IsDummy keys mid new between after start (n + k)
 
+-- the ghost record after so many dummies
 abbrev pub passed_by : ℕ → Ghost → Ghost
 passed_by zero g = g
-passed_by (suc k) g = passed_by k (passed g)
+passed_by (suc k) g = passed (passed_by k g)

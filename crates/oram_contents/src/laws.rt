@@ -33,7 +33,7 @@ ghost use Rattle.oram_contents.specs.Steps.{Adds, opened_at, raised, taken, stor
 ghost use Rattle.oram_contents.specs.Starts.{empty_log, first_ghost, first_contents, forged_log, unforged_log};
 ghost use Rattle.bucket_codec.specs.Slot.{IsEntry, IsInRange};
 ghost use Rattle.oram_contents.specs.Slots.{MayDraw, IsRead, IsFound, MayRise, IsPut, HasSeeds, IsAccess, IsRefill};
-ghost use Rattle.oram_contents.specs.Slots.{IsPass, ArePasses, IsBetween, done, refilled, passed_by};
+ghost use Rattle.oram_contents.specs.Slots.{IsPass, IsEnd, ArePasses, IsBetween, done, refilled, passed_by};
 
 /// The contents of a log that a slot lengthens are the slot's step on the contents before.
 pub fn slots_step_contents()
@@ -102,12 +102,30 @@ pub fn refills_keep()
         → HasSeeds now → Always keys old now → Always keys new after }
 {}
 
-/// Dummies keep the invariant, however many, whichever block waits for its slot or is in flight.
+/// A slot's end, with a choice or without, changes neither contents nor what is known of them.
+pub fn ends_keep()
+    ensures contents { (keys : Keys) (first : Fold) (old new : LogLists) → IsEnd old new
+        → whole keys first new ≡ whole keys first old }
+    ensures sound { (keys : Keys) (old new : LogLists) (g : Ghost) (now : Contents) → IsEnd old new
+        → Sound keys old g now → Sound keys new g now }
+    ensures always { (keys : Keys) (old new : LogLists) (now : Contents) → IsEnd old new
+        → Always keys old now → Always keys new now }
+    ensures forgery { (keys : Keys) (old new : LogLists) → IsEnd old new → Forgery keys old → Forgery keys new }
+{}
+
+/// Dummies, however many, each with the choice at its end where one falls, keep what is known, whichever block waits for its
+/// slot or is in flight.
 pub fn dummies_keep()
-    ensures { (keys : Keys) → AreKeys keys → (k : ℕ) (old new : LogLists) (g : Ghost) (now after : Contents) (n : ℕ)
+    ensures contents { (keys : Keys) → AreKeys keys → (k : ℕ) (first : Fold) (old new : LogLists) (g : Ghost)
+        (now after : Contents) (n : ℕ) → ArePasses keys k old new now after n
+        → Always keys old now → whole keys first old ≡ now → Always keys new after × (whole keys first new ≡ after) }
+    ensures sound { (keys : Keys) → AreKeys keys → (k : ℕ) (old new : LogLists) (g : Ghost) (now after : Contents) (n : ℕ)
         → ArePasses keys k old new now after n → g.path ≡ None → n ≡ g.dummies
         → Always keys old now → Sound keys old g now
         → Always keys new after × Sound keys new (passed_by k g) after }
+    ensures home { (keys : Keys) → AreKeys keys → (k : ℕ) (old new : LogLists) (g : Ghost) (now after : Contents) (n : ℕ)
+        → ArePasses keys k old new now after n → new.altered ≡ [] → g.path ≡ None
+        → Always keys old now → Home keys g now → Always keys new after × Home keys (passed_by k g) after }
 {}
 
 /// Between slots: the block in flight is held, or put at hand; a held one is renumbered.
@@ -127,10 +145,14 @@ pub fn changes_between_keep()
 pub fn blocks_are_home()
     ensures access { (keys : Keys) → AreKeys keys → (old new : LogLists) (g : Ghost) (now after : Contents)
         (start a : ℕ) (c : Counter) (found : Option Entry) (l : List ℕ)
-        (x : IsAccess keys old new now after start a (g.count a) c found l) → x.altered ≡ []
+        → IsAccess keys old new now after start a (g.count a) c found l → new.altered ≡ []
+        → g.path ≡ None → g.flight ≡ None → a < keys.shape.total → length l ≡ 64 → IsBefore (g.count a) c → HasSeeds now
+        → Always keys old now → Home keys g now → Home keys (done g a c l) after }
+    ensures refill { (keys : Keys) → AreKeys keys → (old new : LogLists) (g : Ghost) (now after : Contents)
+        (start a : ℕ) (c : Counter) (found : Option Entry)
+        → IsRefill keys old new now after start a (g.count a) found → new.altered ≡ []
         → g.path ≡ None → g.flight ≡ None → IsBefore (g.count a) c → HasSeeds now
-        → Always keys new (with_entry (record now { hand = without x.joined (record { 0 = a }) }) (entry_of keys a c l))
-        → Home keys g now → Home keys (done g a c l) after }
+        → Always keys old now → Home keys g now → Home keys (refilled g a c) after }
     ensures inserted { (keys : Keys) (g : Ghost) (now : Contents) (plb a : ℕ) → g.flight ≡ Some a
         → length g.held ≤ plb → Home keys g now → Home keys (inserted g plb a) now }
     ensures appended { (keys : Keys) (g : Ghost) (now : Contents) (a : ℕ) (e : Entry) → e.address.0 ≡ a
