@@ -42,6 +42,11 @@ noted_all k (x ∷ xs) all = elim (eqb_tells x.before k) [
   | inr other ↦ absurd (other.1 (all x (inl refl)))
 ]
 
+-- replies that were noted elsewhere aren't among those of an event
+pub noted_same : (k : ℕ) (xs extra : List Altered) → ((reply : Altered) → Has reply extra → k < reply.before) → noted_at k (xs ++ extra) ≡ noted_at k xs
+noted_same k xs extra later =
+    noted_append k xs extra ∙ ap (λ l. noted_at k xs ++ l) (noted_none k extra (λ reply h is. omega (arith, later reply h))) ∙ append-nil (noted_at k xs)
+
 module _ (keys : Keys) where
   pub fold_append : (altered : List Altered) (n : ℕ) (xs ys : List Event) (f : Fold) → fold_events keys altered n (xs ++ ys) f ≡ fold_events keys altered (n + length xs) ys (fold_events keys altered n xs f)
   fold_append altered n [] ys f = ap (λ k. fold_events keys altered k ys f) (omega arith)
@@ -49,10 +54,10 @@ module _ (keys : Keys) where
       fold_append altered (n + 1) xs ys (after_event keys altered n x f)
       ∙ ap (λ k. fold_events keys altered k ys (fold_events keys altered (n + 1) xs (after_event keys altered n x f))) (omega arith)
 
-  event_more : (altered extra : List Altered) (n : ℕ) (e : Event) (f : Fold) → ((reply : Altered) → Has reply extra → n + 1 < reply.before) → after_event keys (altered ++ extra) n e f ≡ after_event keys altered n e f
+  pub event_more : (altered extra : List Altered) (n : ℕ) (e : Event) (f : Fold) → ((reply : Altered) → Has reply extra → n + 1 < reply.before) → after_event keys (altered ++ extra) n e f ≡ after_event keys altered n e f
   event_more altered extra n (Access start asked) f later = refl
   event_more altered extra n (Drawn p x) f later =
-      ap (λ l. read_by keys l p x.0 (settle keys f)) (noted_append (n + 1) altered extra ∙ ap (λ l. noted_at (n + 1) altered ++ l) (noted_none (n + 1) extra (λ reply h is. omega (arith, later reply h))) ∙ append-nil (noted_at (n + 1) altered))
+      ap (λ l. read_by keys l p x.0 (settle keys f)) (noted_same (n + 1) altered extra (λ reply h. later reply h))
   event_more altered extra n (Accepted m t) f later = refl
   event_more altered extra n (Tagged m) f later = refl
   event_more altered extra n (Chosen index) f later = refl
@@ -69,13 +74,20 @@ module _ (keys : Keys) where
   abbrev pub read_fold : Contents → ℕ → Point → List Entry → Fold
   read_fold now start p joined = record { now = record now { hand = leave p joined }; start = start; path = Some (p, keys.leaf_of p) }
 
+  -- a path was read for a point, with evidence or without
+  abbrev pub any_fold : Contents → ℕ → Point → Result (List Entry) Evidence → Fold
+  any_fold now start p read = record { now = record now { hand = hand_after p now.hand read }; start = start; path = Some (p, keys.leaf_of p) }
+
+  -- what the reads of a slot's path give
+  abbrev pub read_of : Contents → ℕ → Point → List Altered → Result (List Entry) Evidence
+  read_of now start p extra = path_read keys.pads keys.shape (keys.leaf_of p) (replies keys.shape.levels start (keys.leaf_of p) now.mirror extra) now.hand
+
   -- the fold up to a slot's end is its events on what the path read gave
-  module _ (first : Fold) (old new : LogLists) (start : ℕ) (asked : Option ℕ) (p : Point) (rest : List Event) (extra : List Altered) (joined : List Entry)
+  module _ (first : Fold) (old new : LogLists) (start : ℕ) (asked : Option ℕ) (p : Point) (rest : List Event) (extra : List Altered)
       (past : (reply : Altered) → Has reply old.altered → reply.before ≤ length old.events)
       (events : new.events ≡ old.events ++ (drawn_events keys start asked p ++ rest)) (altered : new.altered ≡ old.altered ++ extra)
-      (noted : All (λ (reply : Altered). reply.before ≡ length old.events + 2) extra)
-      (read : IsReadTo keys.pads keys.shape start (keys.leaf_of p) extra (whole keys first old) joined) where
-    before_at : (reply : Altered) → Has reply extra → reply.before ≡ length old.events + 2
+      (noted : All (λ (reply : Altered). reply.before ≡ length old.events + 2) extra) where
+    pub before_at : (reply : Altered) → Has reply extra → reply.before ≡ length old.events + 2
     before_at reply h = all_has (λ (x : Altered). x.before ≡ length old.events + 2) reply extra noted h
 
     mine : noted_at (0 + length old.events + 1 + 1) (old.altered ++ extra) ≡ extra
@@ -84,16 +96,24 @@ module _ (keys : Keys) where
         let all : noted_at (0 + length old.events + 1 + 1) extra ≡ extra = noted_all _ extra (λ reply h. omega (arith, before_at reply h)) in
         noted_append (0 + length old.events + 1 + 1) old.altered extra ∙ ap₂ (λ x y. x ++ y) none all
 
-    pub slot_fold : fold_events keys new.altered 0 new.events first ≡ fold_events keys new.altered (0 + length old.events + 1 + 1) rest (read_fold (whole keys first old) start p joined)
-    slot_fold =
-        let f : Fold = fold_events keys old.altered 0 old.events first in
-        let so_far : fold_events keys new.altered 0 old.events first ≡ f =
-            ap (λ l. fold_events keys l 0 old.events first) altered ∙ fold_more old.altered extra 0 old.events first (λ reply h. omega (arith, before_at reply h)) in
-        let here : noted_at (0 + length old.events + 1 + 1) new.altered ≡ extra = ap (noted_at (0 + length old.events + 1 + 1)) altered ∙ mine in
+    pub noted_here : noted_at (0 + length old.events + 1 + 1) new.altered ≡ extra
+    noted_here = ap (noted_at (0 + length old.events + 1 + 1)) altered ∙ mine
+
+    pub so_far : fold_events keys new.altered 0 old.events first ≡ fold_events keys old.altered 0 old.events first
+    so_far = ap (λ l. fold_events keys l 0 old.events first) altered ∙ fold_more old.altered extra 0 old.events first (λ reply h. omega (arith, before_at reply h))
+
+    pub slot_fold_any : fold_events keys new.altered 0 new.events first
+        ≡ fold_events keys new.altered (0 + length old.events + 1 + 1) rest (any_fold (whole keys first old) start p (read_of (whole keys first old) start p extra))
+    slot_fold_any =
         ap (λ l. fold_events keys new.altered 0 l first) events
         ∙ fold_append new.altered 0 old.events (drawn_events keys start asked p ++ rest) first
         ∙ ap (fold_events keys new.altered (0 + length old.events) (drawn_events keys start asked p ++ rest)) so_far
-        ∙ ap (λ l. fold_events keys new.altered (0 + length old.events + 1 + 1) rest (read_by keys l p (keys.leaf_of p) (record { now = whole keys first old; start = start; path = None }))) here
+        ∙ ap (λ l. fold_events keys new.altered (0 + length old.events + 1 + 1) rest (read_by keys l p (keys.leaf_of p) (record { now = whole keys first old; start = start; path = None }))) noted_here
+
+    pub slot_fold : (joined : List Entry) → IsReadTo keys.pads keys.shape start (keys.leaf_of p) extra (whole keys first old) joined
+        → fold_events keys new.altered 0 new.events first ≡ fold_events keys new.altered (0 + length old.events + 1 + 1) rest (read_fold (whole keys first old) start p joined)
+    slot_fold joined read =
+        slot_fold_any
         ∙ ap (λ r. fold_events keys new.altered (0 + length old.events + 1 + 1) rest (record { now = record (whole keys first old) { hand = hand_after p (whole keys first old).hand r }; start = start; path = Some (p, keys.leaf_of p) })) read
 
   accepted_fold : (altered : List Altered) (n a : ℕ) (c : Counter) (found : Option Entry) (f : Fold) → fold_events keys altered n (accepted a c found) f ≡ f
@@ -105,7 +125,7 @@ module _ (keys : Keys) where
       → whole keys first old ≡ now → IsPass keys old new now after start n → whole keys first new ≡ after
   whole_pass first old new now after start n past is x =
       let read : IsReadTo keys.pads keys.shape start (keys.leaf_of (Dummy n)) x.altered (whole keys first old) x.joined = subst (λ w. IsReadTo keys.pads keys.shape start (keys.leaf_of (Dummy n)) x.altered w x.joined) (sym is) x.read in
-      ap (λ f. (settle keys f).now) (slot_fold first old new start x.asked (Dummy n) [] x.altered x.joined past (x.events_are ∙ ap (λ l. old.events ++ l) (sym (append-nil (drawn_events keys start x.asked (Dummy n))))) x.altered_are x.noted read)
+      ap (λ f. (settle keys f).now) (slot_fold first old new start x.asked (Dummy n) [] x.altered past (x.events_are ∙ ap (λ l. old.events ++ l) (sym (append-nil (drawn_events keys start x.asked (Dummy n))))) x.altered_are x.noted x.joined read)
       ∙ ap (λ (w : Contents). after_write keys.pads keys.shape.levels (keys.leaf_of (Dummy n)) (record w { hand = x.joined })) is ∙ sym x.after_is
 
   pub whole_refill : (first : Fold) (old new : LogLists) (now after : Contents) (start a : ℕ) (c : Counter) (found : Option Entry) → ((reply : Altered) → Has reply old.altered → reply.before ≤ length old.events)
@@ -114,7 +134,7 @@ module _ (keys : Keys) where
   whole_refill first old new now after start a c found past is x =
       let read : IsReadTo keys.pads keys.shape start (keys.leaf_of (real a c)) x.altered (whole keys first old) x.joined = subst (λ w. IsReadTo keys.pads keys.shape start (keys.leaf_of (real a c)) x.altered w x.joined) (sym is) x.read in
       let all : fold_events keys new.altered 0 new.events first ≡ read_fold (whole keys first old) start (real a c) x.joined =
-          slot_fold first old new start x.asked (real a c) (accepted a c found) x.altered x.joined past x.events_are x.altered_are x.noted read
+          slot_fold first old new start x.asked (real a c) (accepted a c found) x.altered past x.events_are x.altered_are x.noted x.joined read
           ∙ accepted_fold new.altered (0 + length old.events + 1 + 1) a c found (read_fold (whole keys first old) start (real a c) x.joined) in (
         ap (λ f. (settle keys f).now) all
         ∙ ap (λ (w : Contents). after_write keys.pads keys.shape.levels (keys.leaf_of (real a c)) (record w { hand = without x.joined (record { 0 = a }) })) is ∙ sym x.after_is,
@@ -131,7 +151,7 @@ module _ (keys : Keys) where
       let n : ℕ = 0 + length old.events + 1 + 1 in
       let r : Fold = read_fold (whole keys first old) start (real a c) x.joined in
       let joins : fold_events keys new.altered 0 new.events first ≡ joined_by keys (message_of a c' l) (if is_open_for (message_of a c' l) (Some (real a c, keys.leaf_of (real a c))) then r else settle keys r) =
-          slot_fold first old new start x.asked (real a c) (accepted a c found ++ Tagged (message_of a c' l) ∷ []) x.altered x.joined past x.events_are x.altered_are x.noted read
+          slot_fold first old new start x.asked (real a c) (accepted a c found ++ Tagged (message_of a c' l) ∷ []) x.altered past x.events_are x.altered_are x.noted x.joined read
           ∙ fold_append new.altered (0 + length old.events + 1 + 1) (accepted a c found) (Tagged (message_of a c' l) ∷ []) (read_fold (whole keys first old) start (real a c) x.joined)
           ∙ ap (fold_events keys new.altered (0 + length old.events + 1 + 1 + length (accepted a c found)) (Tagged (message_of a c' l) ∷ [])) (accepted_fold new.altered (0 + length old.events + 1 + 1) a c found (read_fold (whole keys first old) start (real a c) x.joined)) in
       let opens : fold_events keys new.altered 0 new.events first ≡ joined_by keys (message_of a c' l) r =

@@ -12,6 +12,7 @@ pub mod Placing
 pub mod Access
 pub mod Final
 pub mod Folding
+pub mod VerdictLaws
 pub mod Ends
 pub mod Passes
 pub mod GroupLaws

@@ -1,6 +1,6 @@
 //! Laws of contents and of the invariant. The functions do nothing: each states a law in its contract.
 
-ghost use Rattle.std.specs.Prelude.{true, count_by, ◌==◌, ◌*◌, ◌≡◌, ◌<◌, ◌≤◌, ◌+◌, ◌%◌, ◌^◌, ◌⊎◌, ℕ, false, List, [], ◌∷◌, ◌++◌, length, replicate, slice_index, slice_set, Option, None, Some};
+ghost use Rattle.std.specs.Prelude.{true, count_by, ◌==◌, ◌*◌, ◌≡◌, ◌<◌, ◌≤◌, ◌+◌, ◌%◌, ◌^◌, ◌⊎◌, ℕ, false, List, [], ◌∷◌, ◌++◌, length, All, replicate, slice_index, slice_set, Option, None, Some};
 ghost use Rattle.asc_base.specs.Shape.{IsShape};
 ghost use Rattle.asc_base.specs.TreeShape.{parent_of, children_of};
 ghost use Rattle.asc_base.specs.declared.block.Counter.{Counter};
@@ -10,7 +10,7 @@ ghost use Rattle.asc_base.specs.declared.block.Point.{Point};
 ghost use Rattle.bus_watch.specs.Log.{LogLists};
 ghost use Rattle.bus_watch.specs.declared.log.Altered.{Altered};
 ghost use Rattle.bus_watch.specs.declared.log.Event.{Event};
-ghost use Rattle.bus_watch.specs.declared.log.Event.TheVariants.{Tagged};
+ghost use Rattle.bus_watch.specs.declared.log.Event.TheVariants.{Tagged, Answered};
 ghost use Rattle.oram_stash.specs.Entries.{without};
 ghost use Rattle.asc_base.specs.declared.shape.Shape.{Shape};
 ghost use Rattle.posmap_counters.specs.Counters.{IsBefore, first_counter, next_group, next_own};
@@ -26,13 +26,16 @@ ghost use Rattle.oram_contents.specs.PathWritten.{sealed};
 ghost use Rattle.oram_stash.specs.Entries.{held};
 ghost use Rattle.oram_contents.specs.Shapes.{AreOfShape};
 ghost use Rattle.asc_base.specs.TreeShape.{layer_first};
-ghost use Rattle.oram_contents.specs.Verdict.{judged, line_found};
+ghost use Rattle.asc_base.specs.declared.block.Line.{Line};
+ghost use Rattle.oram_contents.specs.PathRead.{path_read, replies};
+ghost use Rattle.oram_contents.specs.Verdict.{judged, line_found, first_of, append_verdict, log_verdict, note_events};
+ghost use Rattle.oram_contents.specs.Verdict.{put_events, IsOfPoint, slot_verdict};
 ghost use Rattle.oram_contents.specs.Forgery.{Forgery, LastDrawn};
 ghost use Rattle.oram_contents.specs.Provenance.{Sound, Always};
 ghost use Rattle.oram_contents.specs.Steps.{Adds, opened_at, raised, taken, stored, landed, closed, inserted};
 ghost use Rattle.oram_contents.specs.Starts.{empty_log, first_ghost, first_contents, forged_log, unforged_log};
 ghost use Rattle.bucket_codec.specs.Slot.{IsEntry, IsInRange};
-ghost use Rattle.oram_contents.specs.Slots.{MayDraw, IsRead, IsFound, MayRise, IsPut, HasSeeds, IsAccess, IsRefill};
+ghost use Rattle.oram_contents.specs.Slots.{drawn_events, MayDraw, IsRead, IsFound, MayRise, IsPut, HasSeeds, IsAccess, IsRefill};
 ghost use Rattle.oram_contents.specs.Slots.{IsPass, IsEnd, ArePasses, IsBetween, done, refilled, passed_by};
 
 /// The contents of a log that a slot lengthens are the slot's step on the contents before.
@@ -56,6 +59,30 @@ pub fn slots_step_contents()
         → is_open_for m (fold_events keys old.altered 0 old.events first).path ≡ false
         → new.events ≡ old.events ++ Tagged m ∷ [] → new.altered ≡ old.altered
         → whole keys first new ≡ with_entry now (entry_of keys m.address.0 m.counter m.line.0) }
+{}
+
+/// The verdict on a log that a slot, an append, a slot's end or an answer lengthens: that before, and else that of the slot
+/// or the append.
+pub fn verdicts_are_the_first()
+    ensures slot { (keys : Keys) (stash : ℕ) (first : Fold) (old new : LogLists) (start : ℕ) (asked : Option ℕ) (p : Point)
+        (note : Option (Message × List ℕ)) (put : Option Message) (extra : List Altered)
+        → ((reply : Altered) → Has reply old.altered → reply.before ≤ length old.events)
+        → new.events ≡ old.events ++ (drawn_events keys start asked p ++ (note_events note ++ put_events put))
+        → new.altered ≡ old.altered ++ extra
+        → All (λ (reply : Altered). reply.before ≡ length old.events + 2) extra → IsOfPoint put p
+        → log_verdict keys stash first new ≡ first_of (log_verdict keys stash first old)
+        (slot_verdict keys stash p (keys.leaf_of p) (path_read keys.pads keys.shape (keys.leaf_of p)
+        (replies keys.shape.levels start (keys.leaf_of p) (whole keys first old).mirror extra) (whole keys first old).hand) put) }
+    ensures append { (keys : Keys) (stash : ℕ) (first : Fold) (old new : LogLists) (m : Message)
+        → is_open_for m (fold_events keys old.altered 0 old.events first).path ≡ false
+        → new.events ≡ old.events ++ Tagged m ∷ [] → new.altered ≡ old.altered
+        → log_verdict keys stash first new
+        ≡ first_of (log_verdict keys stash first old) (append_verdict stash m.address (whole keys first old).hand) }
+    ensures ended { (keys : Keys) (stash : ℕ) (first : Fold) (old new : LogLists) → IsEnd old new
+        → log_verdict keys stash first new ≡ log_verdict keys stash first old }
+    ensures answered { (keys : Keys) (stash : ℕ) (first : Fold) (old new : LogLists) (line : ℕ) (value : Line)
+        → new.events ≡ old.events ++ Answered line value ∷ [] → new.altered ≡ old.altered
+        → log_verdict keys stash first new ≡ log_verdict keys stash first old }
 {}
 
 /// A forgery stays one however the log goes on.
