@@ -24,6 +24,12 @@ pub data LogEnd : Type 0 where
   LastFailed : LogEnd
   RanOut : LogEnd
 
+-- the last move failed, or memory ran out in it
+abbrev pub IsCut : LogEnd → Type 0
+IsCut Whole = ⊥
+IsCut LastFailed = Unit {0}
+IsCut RanOut = Unit {0}
+
 -- the contents, the start of the last slot, and the point and the leaf of the path that is open
 pub record Fold : Type 0 where
   pub now : Contents

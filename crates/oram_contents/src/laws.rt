@@ -1,6 +1,6 @@
 //! Laws of contents and of the invariant. The functions do nothing: each states a law in its contract.
 
-ghost use Rattle.std.specs.Prelude.{true, count_by, ◌==◌, ◌*◌, ◌≡◌, ◌<◌, ◌≤◌, ◌+◌, ◌%◌, ◌^◌, ◌⊎◌, ℕ, false, List, [], ◌∷◌, ◌++◌, length, All, replicate, slice_index, slice_set, Option, None, Some};
+ghost use Rattle.std.specs.Prelude.{true, count_by, ◌==◌, ◌*◌, ◌≡◌, ◌<◌, ◌≤◌, ◌+◌, ◌%◌, ◌^◌, ◌⊎◌, ℕ, suc, false, List, [], ◌∷◌, ◌++◌, length, All, replicate, slice_index, slice_set, Option, None, Some};
 ghost use Rattle.asc_base.specs.Shape.{IsShape};
 ghost use Rattle.asc_base.specs.TreeShape.{parent_of, children_of};
 ghost use Rattle.asc_base.specs.declared.block.Counter.{Counter};
@@ -10,6 +10,7 @@ ghost use Rattle.asc_base.specs.declared.block.Point.{Point};
 ghost use Rattle.bus_watch.specs.Log.{LogLists};
 ghost use Rattle.bus_watch.specs.declared.log.Altered.{Altered};
 ghost use Rattle.bus_watch.specs.declared.log.Event.{Event};
+ghost use Rattle.bus_watch.specs.declared.log.Move.{Move};
 ghost use Rattle.bus_watch.specs.declared.log.Event.TheVariants.{Tagged, Answered};
 ghost use Rattle.oram_stash.specs.Entries.{without};
 ghost use Rattle.asc_base.specs.declared.shape.Shape.{Shape};
@@ -20,8 +21,8 @@ ghost use Rattle.oram_contents.specs.Entries.{Has, Keys, AreKeys, real, entry_of
 ghost use Rattle.oram_contents.specs.Counts.{Ghost, IsAway, line_at, put_at};
 ghost use Rattle.oram_contents.specs.Groups.{IsGroupOf, AreCounters, moved_of};
 ghost use Rattle.oram_contents.specs.Home.{Home, AreInForm, flying};
-ghost use Rattle.oram_contents.specs.Fold.{Fold, LastFailed, with_entry, is_open_for, fold_events, whole, contents_of_log};
-ghost use Rattle.bus_schedule.specs.Schedule.{along, reads, reads_end};
+ghost use Rattle.oram_contents.specs.Fold.{Fold, IsCut, LogEnd, Whole, with_entry, is_open_for, fold_events, whole, contents_of_log};
+ghost use Rattle.bus_schedule.specs.Schedule.{along, reads, reads_end, slot_moves};
 ghost use Rattle.oram_contents.specs.PathWritten.{sealed};
 ghost use Rattle.oram_stash.specs.Entries.{held};
 ghost use Rattle.oram_contents.specs.Shapes.{AreOfShape};
@@ -246,17 +247,24 @@ pub fn honest_slots_pass()
         → AreInForm keys now.mirror → AreInForm keys (after_write keys.pads keys.shape.levels leaf now).mirror }
 {}
 
-/// The contents of a log whose last slot failed in one of its writes have the buckets above as they were written.
-pub fn cut_writes_show()
-    ensures { (keys : Keys) (first : Fold) (old new : LogLists) (start level : ℕ) (p : Point) (leaf : ℕ)
-        → level ≤ keys.shape.levels
-        → new.moves ≡ old.moves ++ (reads keys.shape.levels start leaf
+/// The contents of a log by how it ended. Where the last move was a write that failed, or in which memory ran out, the
+/// buckets above are written; where it was a read, none is; and after a finished slot all are.
+pub fn ends_show_contents()
+    ensures write { (keys : Keys) (first : Fold) (log : LogLists) (before : List Move) (end : LogEnd)
+        (start level : ℕ) (p : Point) (leaf : ℕ) → IsCut end → level ≤ keys.shape.levels
+        → log.moves ≡ before ++ (reads keys.shape.levels start leaf
         ++ along keys.shape.levels true (reads_end keys.shape.levels start + 16) leaf (level + 1))
-        → (fold_events keys new.altered 0 new.events first).path ≡ Some (p, leaf)
-        → (contents_of_log keys first new LastFailed).mirror
-        ≡ sealed keys.pads keys.shape.levels leaf (fold_events keys new.altered 0 new.events first).now.seed
-        (fold_events keys new.altered 0 new.events first).now.hand
-        (fold_events keys new.altered 0 new.events first).now.mirror level }
+        → (fold_events keys log.altered 0 log.events first).path ≡ Some (p, leaf)
+        → (contents_of_log keys first log end).mirror
+        ≡ sealed keys.pads keys.shape.levels leaf (fold_events keys log.altered 0 log.events first).now.seed
+        (fold_events keys log.altered 0 log.events first).now.hand
+        (fold_events keys log.altered 0 log.events first).now.mirror level }
+    ensures read { (keys : Keys) (first : Fold) (log : LogLists) (before : List Move) (end : LogEnd) (start n leaf : ℕ)
+        → log.moves ≡ before ++ along keys.shape.levels false start leaf (suc n)
+        → (contents_of_log keys first log end).mirror ≡ (fold_events keys log.altered 0 log.events first).now.mirror }
+    ensures finished { (keys : Keys) (first : Fold) (log : LogLists) (before : List Move) (start leaf : ℕ)
+        → log.moves ≡ before ++ slot_moves keys.shape.levels start leaf
+        → contents_of_log keys first log Whole ≡ whole keys first log }
 {}
 
 /// Counters keep their room, and siblings their common group.
