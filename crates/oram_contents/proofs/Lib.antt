@@ -10,6 +10,7 @@ pub mod Joined
 pub mod Found
 pub mod Placing
 pub mod Access
+pub mod Deciding
 pub mod Final
 pub mod Folding
 pub mod VerdictLaws

@@ -8,6 +8,7 @@ pub mod Counts
 pub mod Fold
 pub mod Verdict
 pub mod Forgery
+pub mod Decided
 pub mod Provenance
 pub mod Groups
 pub mod Home

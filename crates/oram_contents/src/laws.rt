@@ -1,6 +1,6 @@
 //! Laws of contents and of the invariant. The functions do nothing: each states a law in its contract.
 
-ghost use Rattle.std.specs.Prelude.{true, count_by, ◌==◌, ◌*◌, ◌≡◌, ◌<◌, ◌≤◌, ◌+◌, ◌%◌, ◌^◌, ◌⊎◌, ℕ, suc, false, List, [], ◌∷◌, ◌++◌, length, All, replicate, slice_index, slice_set, Option, None, Some};
+ghost use Rattle.std.specs.Prelude.{IsTrue, ◌↔◌, true, count_by, ◌==◌, ◌*◌, ◌≡◌, ◌<◌, ◌≤◌, ◌+◌, ◌%◌, ◌^◌, ◌⊎◌, ℕ, suc, false, List, [], ◌∷◌, ◌++◌, length, All, replicate, slice_index, slice_set, Option, None, Some};
 ghost use Rattle.asc_base.specs.Shape.{IsShape};
 ghost use Rattle.asc_base.specs.TreeShape.{parent_of, children_of};
 ghost use Rattle.asc_base.specs.declared.block.Counter.{Counter};
@@ -31,6 +31,7 @@ ghost use Rattle.asc_base.specs.declared.block.Line.{Line};
 ghost use Rattle.oram_contents.specs.PathRead.{path_read, replies};
 ghost use Rattle.oram_contents.specs.Verdict.{judged, line_found, first_of, append_verdict, log_verdict, note_events};
 ghost use Rattle.oram_contents.specs.Verdict.{put_events, IsOfPoint, slot_verdict};
+ghost use Rattle.oram_contents.specs.Decided.{shows_forgery};
 ghost use Rattle.oram_contents.specs.Forgery.{Forgery, LastDrawn};
 ghost use Rattle.oram_contents.specs.Provenance.{Sound, Always};
 ghost use Rattle.oram_contents.specs.Steps.{Adds, opened_at, raised, taken, stored, landed, closed, inserted};
@@ -90,6 +91,11 @@ pub fn verdicts_are_the_first()
 pub fn forgeries_stay()
     ensures { (keys : Keys) (old new : LogLists) (events : List Event) (altered : List Altered)
         → Adds old new events altered → Forgery keys old → Forgery keys new }
+{}
+
+/// Whether a log shows a forgery is a test of its lists.
+pub fn forgeries_are_decided()
+    ensures { (keys : Keys) (log : LogLists) → IsTrue (shows_forgery keys log) ↔ Forgery keys log }
 {}
 
 /// A path read keeps the invariant.
