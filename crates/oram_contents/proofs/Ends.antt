@@ -1,5 +1,6 @@
 -- The end of a slot, with a choice or without, changes no contents.
-use Rattle.std.proofs.Common.{◌≡◌, ◌≤◌, ◌+◌, ℕ, List, [], ◌∷◌, ◌++◌, length, refl, sym, subst, ◌∙◌, ap, arith, append-nil, length-append, inl, inr}
+use Rattle.std.proofs.Common.{◌≡◌, ◌≤◌, ◌+◌, ℕ, List, [], ◌∷◌, ◌++◌, length, refl, sym, subst, ◌∙◌, ap, arith}
+use Rattle.std.proofs.Common.{append-nil, length-append, inl, inr}
 use Rattle.asc_base.specs.declared.block.Counter.{Counter}
 use Rattle.asc_base.specs.declared.block.Entry.{Entry}
 use Rattle.asc_base.specs.declared.block.Message.{Message}
@@ -20,7 +21,8 @@ use Rattle.oram_contents.proofs.Access.{forgery_more}
 use Rattle.oram_contents.proofs.Folding.{fold_append}
 use Rattle.oram_contents.specs.Slots.{IsEnd}
 
-pub whole_ends : (keys : Keys) (first : Fold) (old new : LogLists) → IsEnd old new → whole keys first new ≡ whole keys first old
+pub whole_ends : (keys : Keys) (first : Fold) (old new : LogLists) → IsEnd old new
+    → whole keys first new ≡ whole keys first old
 whole_ends keys first old new e =
     ap (λ l. (settle keys (fold_events keys l 0 new.events first)).now) e.altered
     ∙ elim e.events [
@@ -35,29 +37,38 @@ not_tagged m index is = cc
 not_drawn : (p : Point) (x : Leaf) (index : ℕ) → Drawn p x ≡ Chosen index → ⊥
 not_drawn p x index is = cc
 
-tagged_before : (old new : LogLists) (m : Message) → IsEnd old new → Has (Tagged m) new.events → Has (Tagged m) old.events
+tagged_before : (old new : LogLists) (m : Message) → IsEnd old new → Has (Tagged m) new.events
+    → Has (Tagged m) old.events
 tagged_before old new m e h = elim e.events [
   | inl same ↦ subst (Has (Tagged m)) same h
-  | inr x ↦ elim (has_last (Tagged m) (Chosen x.0) old.events (subst (Has (Tagged m)) x.1 h)) [ inl l ↦ l | inr is ↦ absurd (not_tagged m x.0 is) ]
+  | inr x ↦ elim (has_last (Tagged m) (Chosen x.0) old.events (subst (Has (Tagged m)) x.1 h))
+      [ inl l ↦ l | inr is ↦ absurd (not_tagged m x.0 is) ]
 ]
 
-drawn_before : (old new : LogLists) (p : Point) (y : Leaf) → IsEnd old new → Has (Drawn p y) new.events → Has (Drawn p y) old.events
+drawn_before : (old new : LogLists) (p : Point) (y : Leaf) → IsEnd old new → Has (Drawn p y) new.events
+    → Has (Drawn p y) old.events
 drawn_before old new p y e h = elim e.events [
   | inl same ↦ subst (Has (Drawn p y)) same h
-  | inr x ↦ elim (has_last (Drawn p y) (Chosen x.0) old.events (subst (Has (Drawn p y)) x.1 h)) [ inl l ↦ l | inr is ↦ absurd (not_drawn p y x.0 is) ]
+  | inr x ↦ elim (has_last (Drawn p y) (Chosen x.0) old.events (subst (Has (Drawn p y)) x.1 h))
+      [ inl l ↦ l | inr is ↦ absurd (not_drawn p y x.0 is) ]
 ]
 
-tagged_after : (old new : LogLists) (m : Message) → IsEnd old new → Has (Tagged m) old.events → Has (Tagged m) new.events
+tagged_after : (old new : LogLists) (m : Message) → IsEnd old new → Has (Tagged m) old.events
+    → Has (Tagged m) new.events
 tagged_after old new m e h = elim e.events [
   | inl same ↦ subst (Has (Tagged m)) (sym same) h
   | inr x ↦ subst (Has (Tagged m)) (sym x.1) (has_left (Tagged m) old.events (Chosen x.0 ∷ []) h)
 ]
 
-known_after : (keys : Keys) (old new : LogLists) (count : ℕ → Counter) (entry : Entry) → IsEnd old new → Known keys old count entry → Known keys new count entry
-known_after keys old new count entry e (inl outside) = inl (outside.0, subst (Has outside.0) (sym e.altered) outside.1, outside.2)
-known_after keys old new count entry e (inr k) = inr (record { tagged = tagged_after old new _ e k.tagged; tag_is = k.tag_is; leaf = k.leaf })
+known_after : (keys : Keys) (old new : LogLists) (count : ℕ → Counter) (entry : Entry) → IsEnd old new
+    → Known keys old count entry → Known keys new count entry
+known_after keys old new count entry e (inl outside) = inl
+    (outside.0, subst (Has outside.0) (sym e.altered) outside.1, outside.2)
+known_after keys old new count entry e (inr k) = inr (record
+    { tagged = tagged_after old new _ e k.tagged; tag_is = k.tag_is; leaf = k.leaf })
 
-pub sound_ends : (keys : Keys) (old new : LogLists) (g : Ghost) (now : Contents) → IsEnd old new → Sound keys old g now → Sound keys new g now
+pub sound_ends : (keys : Keys) (old new : LogLists) (g : Ghost) (now : Contents) → IsEnd old new → Sound keys old g now
+    → Sound keys new g now
 sound_ends keys old new g now e s = record {
   fresh = λ m h. s.fresh m (tagged_before old new m e h);
   last = λ m h is. s.last m (tagged_before old new m e h) is;
@@ -75,8 +86,10 @@ sound_ends keys old new g now e s = record {
   in_tree = λ bucket entry off h. known_after keys old new g.count entry e (s.in_tree bucket entry off h);
 }
 
-came_after : (keys : Keys) (old new : LogLists) (entry : Entry) → IsEnd old new → Came keys old entry → Came keys new entry
-came_after keys old new entry e (inl outside) = inl (outside.0, subst (Has outside.0) (sym e.altered) outside.1, outside.2)
+came_after : (keys : Keys) (old new : LogLists) (entry : Entry) → IsEnd old new → Came keys old entry
+    → Came keys new entry
+came_after keys old new entry e (inl outside) = inl (outside.0, subst (Has outside.0)
+    (sym e.altered) outside.1, outside.2)
 came_after keys old new entry e (inr t) = inr (t.0, tagged_after old new t.0 e t.1, t.2, t.3, t.4)
 
 longer : (old new : LogLists) → IsEnd old new → length old.events ≤ length new.events
@@ -85,7 +98,8 @@ longer old new e = elim e.events [
   | inr x ↦ omega (arith, ap length x.1, length-append old.events (Chosen x.0 ∷ []))
 ]
 
-pub always_ends : (keys : Keys) (old new : LogLists) (now : Contents) → IsEnd old new → Always keys old now → Always keys new now
+pub always_ends : (keys : Keys) (old new : LogLists) (now : Contents) → IsEnd old new → Always keys old now
+    → Always keys new now
 always_ends keys old new now e s = record {
   placed = s.placed;
   apart = s.apart;
@@ -99,6 +113,8 @@ always_ends keys old new now e s = record {
 
 pub forgery_ends : (keys : Keys) (old new : LogLists) → IsEnd old new → Forgery keys old → Forgery keys new
 forgery_ends keys old new e f = elim e.events [
-  | inl same ↦ forgery_more keys old new [] [] (record { events_are = same ∙ sym (append-nil old.events); altered_are = e.altered ∙ sym (append-nil old.altered) }) f
-  | inr x ↦ forgery_more keys old new (Chosen x.0 ∷ []) [] (record { events_are = x.1; altered_are = e.altered ∙ sym (append-nil old.altered) }) f
+  | inl same ↦ forgery_more keys old new [] [] (record
+      { events_are = same ∙ sym (append-nil old.events); altered_are = e.altered ∙ sym (append-nil old.altered) }) f
+  | inr x ↦ forgery_more keys old new (Chosen x.0 ∷ []) []
+      (record { events_are = x.1; altered_are = e.altered ∙ sym (append-nil old.altered) }) f
 ]

@@ -1,5 +1,7 @@
 -- Home is kept where blocks are taken, put, held and renumbered.
-use Rattle.std.proofs.Common.{◌≡◌, ◌<◌, ◌≤◌, ◌+◌, ◌^◌, ◌⊎◌, inl, inr, ℕ, zero, suc, Bool, true, false, if◌then◌else◌, ◌==◌, List, [], ◌∷◌, ◌++◌, length, take, slice_get, count_by, Option, None, Some, refl, sym, ◌∙◌, ap, ap₂, subst, arith}
+use Rattle.std.proofs.Common.{◌≡◌, ◌<◌, ◌≤◌, ◌+◌, ◌^◌, ◌⊎◌, inl, inr, ℕ, zero, suc, Bool, true, false, if◌then◌else◌}
+use Rattle.std.proofs.Common.{◌==◌, List, [], ◌∷◌, ◌++◌, length, take, slice_get, count_by, Option, None, Some, refl}
+use Rattle.std.proofs.Common.{sym, ◌∙◌, ap, ap₂, subst, arith}
 use Rattle.std.specs.Prelude.{bytes_eq}
 use Rattle.std.proofs.lemmas.Bool.{cases_eq}
 use Rattle.std.proofs.lemmas.Bool.Decides.{eqb_tells}
@@ -32,9 +34,11 @@ later_not_first : (x c : Counter) → IsBefore x c → is_first c ≡ false
 later_not_first x c up = by_own up
   where
     by_own : IsBefore x c → is_first c ≡ false
-    by_own (inl more) = elim (eqb_tells c.group 0) [ inl none ↦ absurd (omega (arith, none.1)) | inr some ↦ rw some.0 refl ]
+    by_own (inl more) = elim (eqb_tells c.group 0) [ inl none ↦ absurd
+        (omega (arith, none.1)) | inr some ↦ rw some.0 refl ]
     by_own (inr more) = elim (eqb_tells c.group 0) [
-      | inl none ↦ elim (eqb_tells c.own 0) [ inl own ↦ absurd (omega (arith, own.1, more.1)) | inr some ↦ rw (none.0, some.0) refl ]
+      | inl none ↦ elim (eqb_tells c.own 0) [ inl own ↦ absurd (omega (arith, own.1, more.1)) | inr some ↦ rw
+          (none.0, some.0) refl ]
       | inr some ↦ rw some.0 refl
     ]
 
@@ -42,7 +46,9 @@ found_not_first : (keys : Keys) (a : ℕ) (c : Counter) (e : Entry) → judged k
 found_not_first keys a c e is = by_test (is_first c) refl is
   where
     by_test : (b : Bool) → is_first c ≡ b
-        → (if b then Some (Unexpected (record { 0 = a })) else (if bytes_eq e.tag (tag keys.tags (message_of a c e.line.0)) then None else Some (BadTag (message_of a c e.line.0) e.tag (tag keys.tags (message_of a c e.line.0))))) ≡ None
+        → (if b then Some (Unexpected (record { 0 = a })) else
+            (if bytes_eq e.tag (tag keys.tags (message_of a c e.line.0)) then None else Some
+            (BadTag (message_of a c e.line.0) e.tag (tag keys.tags (message_of a c e.line.0))))) ≡ None
         → is_first c ≡ false
     by_test true at bad = let wrong : Some (Unexpected (record { 0 = a })) ≡ None = bad in cc
     by_test false at ok = at
@@ -64,59 +70,81 @@ one_other : (a b : ℕ) → (b ≡ a → ⊥) → one_of a b ≡ 0
 one_other a b no_is = elim (eqb_tells a b) [ inl same ↦ absurd (no_is (sym same.1)) | inr other ↦ rw other.0 refl ]
 
 -- what is taken out of a hand
-taken_copies : (hand : List Entry) (address : Address) (b : ℕ) → copies b (without hand address) + (elim (held hand address) as (λ o. ℕ) [ None ↦ 0 | Some e ↦ one_of address.0 b ]) ≡ copies b hand
+taken_copies : (hand : List Entry) (address : Address) (b : ℕ)
+    → copies b (without hand address) + (elim (held hand address) as
+    (λ o. ℕ) [ None ↦ 0 | Some e ↦ one_of address.0 b ]) ≡ copies b hand
 unfolding without held
 taken_copies [] address b = refl
 taken_copies (x ∷ hand) address b = elim (eqb_tells x.address.0 address.0) [
-  | inl same ↦ (let whole = copies_cons b x hand in let one : one_of x.address.0 b ≡ one_of address.0 b = ap (λ n. one_of n b) same.1 in rw same.0 (omega arith))
-  | inr other ↦ (let next = taken_copies hand address b in let whole = copies_cons b x hand in let part = copies_cons b x (without hand address) in rw other.0 (omega arith))
+  | inl same ↦ (let whole = copies_cons b x hand in let one : one_of x.address.0 b ≡ one_of address.0 b = ap
+      (λ n. one_of n b) same.1 in rw same.0 (omega arith))
+  | inr other ↦ (let next = taken_copies hand address b in let whole = copies_cons b x hand in let part = copies_cons b
+      x (without hand address) in rw other.0 (omega arith))
 ]
 
 module _ (keys : Keys) where
   -- a block is taken
-  pub home_take : (g : Ghost) (now : Contents) (a : ℕ) (c : Counter) (found : Option Entry) → g.flight ≡ None → IsBefore (g.count a) c
-      → held now.hand (record { 0 = a }) ≡ found → judged keys a (g.count a) found ≡ None → Home keys g now → Home keys (taken g a c) (record now { hand = without now.hand (record { 0 = a }) })
+  pub home_take : (g : Ghost) (now : Contents) (a : ℕ) (c : Counter) (found : Option Entry) → g.flight ≡ None
+      → IsBefore (g.count a) c
+      → held now.hand (record { 0 = a }) ≡ found → judged keys a (g.count a) found ≡ None → Home keys g now
+          → Home keys (taken g a c) (record now { hand = without now.hand (record { 0 = a }) })
   home_take g now a c found grounded up found_is right home b inside = by_block (cases_eq b a)
     where
-      old : copies b now.hand + (tree_copies keys g.path now.mirror b + (count_by (λ x. x == b) g.held + flying b None)) ≡ seat (g.count b)
-      old = subst (λ f. copies b now.hand + (tree_copies keys g.path now.mirror b + (count_by (λ x. x == b) g.held + flying b f)) ≡ seat (g.count b)) grounded (home b inside)
+      old : copies b now.hand + (tree_copies keys g.path now.mirror b +
+          (count_by (λ x. x == b) g.held + flying b None)) ≡ seat (g.count b)
+      old = subst (λ f. copies b now.hand + (tree_copies keys g.path now.mirror b +
+          (count_by (λ x. x == b) g.held + flying b f)) ≡ seat (g.count b)) grounded (home b inside)
 
-      out : (o : Option Entry) → held now.hand (record { 0 = a }) ≡ o → copies b (without now.hand (record { 0 = a })) + (elim o as (λ p. ℕ) [ None ↦ 0 | Some e ↦ one_of a b ]) ≡ copies b now.hand
-      out o is = ap (λ o. copies b (without now.hand (record { 0 = a })) + (elim o as (λ p. ℕ) [ None ↦ 0 | Some e ↦ one_of a b ])) (sym is) ∙ taken_copies now.hand (record { 0 = a }) b
+      out : (o : Option Entry) → held now.hand (record { 0 = a }) ≡ o
+          → copies b (without now.hand (record { 0 = a })) +
+          (elim o as (λ p. ℕ) [ None ↦ 0 | Some e ↦ one_of a b ]) ≡ copies b now.hand
+      out o is = ap (λ o. copies b (without now.hand (record { 0 = a })) +
+          (elim o as (λ p. ℕ) [ None ↦ 0 | Some e ↦ one_of a b ])) (sym is) ∙ taken_copies now.hand (record { 0 = a }) b
 
       by_found : (o : Option Entry) → b ≡ a → held now.hand (record { 0 = a }) ≡ o → judged keys a (g.count a) o ≡ None
-          → copies b (without now.hand (record { 0 = a })) + (tree_copies keys g.path now.mirror b + (count_by (λ x. x == b) g.held + one_of a b)) ≡ 1
+          → copies b (without now.hand (record { 0 = a })) +
+              (tree_copies keys g.path now.mirror b + (count_by (λ x. x == b) g.held + one_of a b)) ≡ 1
       by_found None is found_is right =
-          let none : seat (g.count b) ≡ 0 = ap (λ x. seat (g.count x)) is ∙ ap (λ x. seat x) (nothing_wrong keys a (g.count a) right) in
+          let none : seat (g.count b) ≡ 0 = ap (λ x. seat (g.count x)) is
+              ∙ ap (λ x. seat x) (nothing_wrong keys a (g.count a) right) in
           let left = out None found_is in
           let one = one_same a b is in
           omega (arith, old)
       by_found (Some e) is found_is right =
-          let some : seat (g.count b) ≡ 1 = ap (λ x. seat (g.count x)) is ∙ ap (λ t. of_first t) (found_not_first keys a (g.count a) e right) in
+          let some : seat (g.count b) ≡ 1 = ap (λ x. seat (g.count x)) is
+              ∙ ap (λ t. of_first t) (found_not_first keys a (g.count a) e right) in
           let left = out (Some e) found_is in
           let one = one_same a b is in
           omega (arith, old)
 
-      by_other : (o : Option Entry) → (b ≡ a → ⊥) → held now.hand (record { 0 = a }) ≡ o → copies b (without now.hand (record { 0 = a })) ≡ copies b now.hand
+      by_other : (o : Option Entry) → (b ≡ a → ⊥) → held now.hand (record { 0 = a }) ≡ o
+          → copies b (without now.hand (record { 0 = a })) ≡ copies b now.hand
       by_other None other is = let left = out None is in omega arith
       by_other (Some e) other is = let left = out (Some e) is in let none = one_other a b other in omega arith
 
       by_block : (b ≡ a) ⊎ (b ≡ a → ⊥)
-          → copies b (without now.hand (record { 0 = a })) + (tree_copies keys g.path now.mirror b + (count_by (λ x. x == b) g.held + one_of a b)) ≡ seat (put_at g.count a c b)
+          → copies b (without now.hand (record { 0 = a })) +
+              (tree_copies keys g.path now.mirror b + (count_by (λ x. x == b) g.held + one_of a b)) ≡ seat
+              (put_at g.count a c b)
       by_block (inl is) =
           by_found found is found_is right
-          ∙ sym (ap (λ x. seat x) (ap (put_at g.count a c) is ∙ put_same g.count a c) ∙ ap (λ t. of_first t) (later_not_first (g.count a) c up))
+          ∙ sym (ap (λ x. seat x) (ap (put_at g.count a c) is ∙ put_same g.count a c)
+              ∙ ap (λ t. of_first t) (later_not_first (g.count a) c up))
       by_block (inr other) =
           let same = by_other found other found_is in
           let none = one_other a b other in
-          let counted : seat (put_at g.count a c b) ≡ seat (g.count b) = ap (λ x. seat x) (put_other g.count a c b other) in
+          let counted : seat (put_at g.count a c b) ≡ seat (g.count b) = ap (λ x. seat x)
+              (put_other g.count a c b other) in
           omega (arith, old)
 
   -- the block in flight is put at hand
-  pub home_put : (g : Ghost) (now : Contents) (a : ℕ) (e : Entry) → e.address.0 ≡ a → g.flight ≡ Some a → Home keys g now → Home keys (landed g) (with_entry now e)
+  pub home_put : (g : Ghost) (now : Contents) (a : ℕ) (e : Entry) → e.address.0 ≡ a → g.flight ≡ Some a
+      → Home keys g now → Home keys (landed g) (with_entry now e)
   home_put g now a e is flying_it home b inside =
-      let old : copies b now.hand + (tree_copies keys g.path now.mirror b + (count_by (λ x. x == b) g.held + one_of a b)) ≡ seat (g.count b) =
-          subst (λ f. copies b now.hand + (tree_copies keys g.path now.mirror b + (count_by (λ x. x == b) g.held + flying b f)) ≡ seat (g.count b)) flying_it (home b inside) in
+      let old : copies b now.hand + (tree_copies keys g.path now.mirror b +
+          (count_by (λ x. x == b) g.held + one_of a b)) ≡ seat (g.count b) =
+          subst (λ f. copies b now.hand + (tree_copies keys g.path now.mirror b +
+              (count_by (λ x. x == b) g.held + flying b f)) ≡ seat (g.count b)) flying_it (home b inside) in
       let grown = copies_append b now.hand (e ∷ []) in
       let one = copies_cons b e [] in
       let mine : one_of e.address.0 b ≡ one_of a b = ap (λ n. one_of n b) is in
@@ -125,11 +153,13 @@ module _ (keys : Keys) where
   count_cons : (b x : ℕ) (xs : List ℕ) → count_by (λ y. y == b) (x ∷ xs) ≡ one_of x b + count_by (λ y. y == b) xs
   count_cons b x xs = both (x == b) refl
     where
-      both : (t : Bool) → (x == b) ≡ t → count_by (λ y. y == b) (x ∷ xs) ≡ (if t then 1 else 0) + count_by (λ y. y == b) xs
+      both : (t : Bool) → (x == b) ≡ t → count_by (λ y. y == b) (x ∷ xs) ≡ (if t then 1 else 0) + count_by
+          (λ y. y == b) xs
       both true is = count_by-yes (λ y. y == b) x xs is
       both false is = count_by-no (λ y. y == b) x xs is
 
-  taken_or_last : (b n : ℕ) (xs : List ℕ) → length xs ≤ n + 1 → count_by (λ y. y == b) (take n xs) + flying b (slice_get xs n) ≡ count_by (λ y. y == b) xs
+  taken_or_last : (b n : ℕ) (xs : List ℕ) → length xs ≤ n + 1
+      → count_by (λ y. y == b) (take n xs) + flying b (slice_get xs n) ≡ count_by (λ y. y == b) xs
   taken_or_last b zero [] few = refl
   taken_or_last b zero (x ∷ []) few = let one = count_cons b x [] in omega arith
   taken_or_last b zero (x ∷ y ∷ xs) few = absurd (omega arith)
@@ -141,27 +171,35 @@ module _ (keys : Keys) where
       omega arith
 
   -- the block in flight is held
-  pub home_insert : (g : Ghost) (now : Contents) (plb a : ℕ) → g.flight ≡ Some a → length g.held ≤ plb → Home keys g now → Home keys (inserted g plb a) now
+  pub home_insert : (g : Ghost) (now : Contents) (plb a : ℕ) → g.flight ≡ Some a → length g.held ≤ plb
+      → Home keys g now → Home keys (inserted g plb a) now
   home_insert g now plb a flying_it few home b inside =
-      let old : copies b now.hand + (tree_copies keys g.path now.mirror b + (count_by (λ x. x == b) g.held + one_of a b)) ≡ seat (g.count b) =
-          subst (λ f. copies b now.hand + (tree_copies keys g.path now.mirror b + (count_by (λ x. x == b) g.held + flying b f)) ≡ seat (g.count b)) flying_it (home b inside) in
+      let old : copies b now.hand + (tree_copies keys g.path now.mirror b +
+          (count_by (λ x. x == b) g.held + one_of a b)) ≡ seat (g.count b) =
+          subst (λ f. copies b now.hand + (tree_copies keys g.path now.mirror b +
+              (count_by (λ x. x == b) g.held + flying b f)) ≡ seat (g.count b)) flying_it (home b inside) in
       let all = taken_or_last b plb (a ∷ g.held) (omega (arith, few)) in
       let whole = count_cons b a g.held in
       omega arith
 
   -- a block that was accessed comes to another counter that isn't the first
-  pub home_raised : (g : Ghost) (now : Contents) (a : ℕ) (c : Counter) (pend : Option ℕ) → IsBefore first_counter (g.count a) → IsBefore (g.count a) c → Home keys g now → Home keys (raised g a c pend) now
+  pub home_raised : (g : Ghost) (now : Contents) (a : ℕ) (c : Counter) (pend : Option ℕ)
+      → IsBefore first_counter (g.count a) → IsBefore (g.count a) c → Home keys g now
+      → Home keys (raised g a c pend) now
   home_raised g now a c pend some up home b inside = home b inside ∙ sym (counted (cases_eq b a))
     where
       counted : (b ≡ a) ⊎ (b ≡ a → ⊥) → seat (put_at g.count a c b) ≡ seat (g.count b)
       counted (inl is) =
-          ap (λ x. seat x) (ap (put_at g.count a c) is ∙ put_same g.count a c) ∙ ap (λ t. of_first t) (later_not_first (g.count a) c up)
+          ap (λ x. seat x) (ap (put_at g.count a c) is ∙ put_same g.count a c)
+              ∙ ap (λ t. of_first t) (later_not_first (g.count a) c up)
           ∙ sym (ap (λ x. seat (g.count x)) is ∙ ap (λ t. of_first t) (later_not_first first_counter (g.count a) some))
       counted (inr other) = ap (λ x. seat x) (put_other g.count a c b other)
 
   -- a whole access in which no reply is altered
-  pub home_access : (lawful : AreKeys keys) (old new : LogLists) (g : Ghost) (now after : Contents) (start a : ℕ) (c : Counter) (found : Option Entry) (l : List ℕ)
-      (x : IsAccess keys old new now after start a (g.count a) c found l) → x.altered ≡ [] → g.path ≡ None → g.flight ≡ None → IsBefore (g.count a) c → HasSeeds now
+  pub home_access : (lawful : AreKeys keys) (old new : LogLists) (g : Ghost) (now after : Contents) (start a : ℕ)
+      (c : Counter) (found : Option Entry) (l : List ℕ)
+      (x : IsAccess keys old new now after start a (g.count a) c found l) → x.altered ≡ [] → g.path ≡ None
+          → g.flight ≡ None → IsBefore (g.count a) c → HasSeeds now
       → Always keys new (with_entry (record now { hand = without x.joined (record { 0 = a }) }) (entry_of keys a c l))
       → Home keys g now → Home keys (done g a c l) after
   home_access lawful old new g now after start a c found l x none shut grounded up room w home =
@@ -170,7 +208,11 @@ module _ (keys : Keys) where
       let left : Contents = record now { hand = without x.joined (record { 0 = a }) } in
       let put : Contents = with_entry left (entry_of keys a c l) in
       let g1 = opened_at g (real a (g.count a)) (keys.leaf_of (real a (g.count a))) in
-      let h1 = home_read keys lawful g now start (keys.leaf_of (real a (g.count a))) x.joined g.dummies within shut (subst (λ r. IsReadTo keys.pads keys.shape start (keys.leaf_of (real a (g.count a))) r now x.joined) none x.read) home in
+      let h1 = home_read keys lawful g now start (keys.leaf_of (real a (g.count a))) x.joined g.dummies within shut
+          (subst (λ r. IsReadTo keys.pads keys.shape start (keys.leaf_of (real a (g.count a))) r now x.joined) none
+          x.read) home in
       let h2 = home_take g1 at_hand a c found grounded up x.found_is x.right h1 in
       let h3 = home_put (stored (taken g1 a c) a l) left a (entry_of keys a c l) refl refl h2 in
-      subst (λ y. Home keys (done g a c l) y) (sym x.after_is) (home_write keys lawful (landed (stored (taken g1 a c) a l)) put (keys.leaf_of (real a (g.count a))) within refl w.of_shape w.mirrored w.seeds room h3)
+      subst (λ y. Home keys (done g a c l) y) (sym x.after_is)
+          (home_write keys lawful (landed (stored (taken g1 a c) a l)) put
+          (keys.leaf_of (real a (g.count a))) within refl w.of_shape w.mirrored w.seeds room h3)

@@ -1,5 +1,6 @@
 -- What is at hand stays of the shape.
-use Rattle.std.proofs.Common.{◌≡◌, Bool, true, false, if◌then◌else◌, List, [], ◌∷◌, ◌++◌, Option, Some, sym, subst, arith}
+use Rattle.std.proofs.Common.{◌≡◌, Bool, true, false, if◌then◌else◌, List, [], ◌∷◌, ◌++◌, Option, Some, sym, subst}
+use Rattle.std.proofs.Common.{arith}
 use Rattle.std.proofs.lemmas.List.Elements.{All-cons, All-append, All-head, All-tail}
 use Rattle.asc_base.specs.declared.block.Address.{Address}
 use Rattle.asc_base.specs.declared.block.Entry.{Entry}
@@ -11,21 +12,30 @@ use Rattle.oram_contents.specs.Shapes.{AreOfShape}
 abbrev IsOf : Shape → Entry → Type 0
 IsOf shape entry = IsEntry entry × IsInRange shape (Some entry)
 
-pub put_of_shape : (shape : Shape) (old new : List Entry) (entry : Entry) → new ≡ old ++ entry ∷ [] → IsEntry entry → IsInRange shape (Some entry) → AreOfShape shape old → AreOfShape shape new
+pub put_of_shape : (shape : Shape) (old new : List Entry) (entry : Entry) → new ≡ old ++ entry ∷ [] → IsEntry entry
+    → IsInRange shape (Some entry) → AreOfShape shape old → AreOfShape shape new
 put_of_shape shape old new entry is entry_is range all =
-    subst (λ (entries : List Entry). AreOfShape shape entries) (sym is) (All-append (IsOf shape) old (entry ∷ []) all (All-cons (IsOf shape) entry [] (entry_is, range) (λ k d less. absurd (omega arith))))
+    subst (λ (entries : List Entry). AreOfShape shape entries) (sym is)
+        (All-append (IsOf shape) old (entry ∷ []) all (All-cons (IsOf shape) entry [] (entry_is, range)
+        (λ k d less. absurd (omega arith))))
 
 -- the same for the entry of a slot
-pub slot_of_shape : (shape : Shape) (found : Option Entry) (old new : List Entry) (entry : Entry) → found ≡ Some entry → new ≡ old ++ entry ∷ [] → IsSlot found × IsInRange shape found → AreOfShape shape old → AreOfShape shape new
+pub slot_of_shape : (shape : Shape) (found : Option Entry) (old new : List Entry) (entry : Entry) → found ≡ Some entry
+    → new ≡ old ++ entry ∷ [] → IsSlot found × IsInRange shape found → AreOfShape shape old → AreOfShape shape new
 slot_of_shape shape found old new entry is pushed fact all =
-    let at : IsSlot (Some entry) × IsInRange shape (Some entry) = subst (λ (o : Option Entry). IsSlot o × IsInRange shape o) is fact in
+    let at : IsSlot (Some entry) × IsInRange shape (Some entry) = subst
+        (λ (o : Option Entry). IsSlot o × IsInRange shape o) is fact in
     put_of_shape shape old new entry pushed at.0 at.1 all
 
-pub without_of_shape : (shape : Shape) (entries : List Entry) (address : Address) → AreOfShape shape entries → AreOfShape shape (without entries address)
+pub without_of_shape : (shape : Shape) (entries : List Entry) (address : Address) → AreOfShape shape entries
+    → AreOfShape shape (without entries address)
 unfolding without
 without_of_shape shape [] address all = all
-without_of_shape shape (entry ∷ entries) address all = both (is_of address entry) (without_of_shape shape entries address (All-tail (IsOf shape) entry entries all))
+without_of_shape shape (entry ∷ entries) address all = both (is_of address entry)
+    (without_of_shape shape entries address (All-tail (IsOf shape) entry entries all))
   where
-    both : (b : Bool) → AreOfShape shape (without entries address) → AreOfShape shape (if b then entries else (entry ∷ without entries address))
+    both : (b : Bool) → AreOfShape shape (without entries address)
+        → AreOfShape shape (if b then entries else (entry ∷ without entries address))
     both true next = All-tail (IsOf shape) entry entries all
-    both false next = All-cons (IsOf shape) entry (without entries address) (All-head (IsOf shape) entry entries all) next
+    both false next = All-cons (IsOf shape) entry (without entries address)
+        (All-head (IsOf shape) entry entries all) next

@@ -1,5 +1,7 @@
 -- The start is sound and at home; a log that shows a forgery, and one that doesn't.
-use Rattle.std.proofs.Common.{◌≡◌, ◌<◌, ◌≤◌, ◌+◌, ◌^◌, ◌⊎◌, inl, inr, ℕ, zero, suc, Bool, true, false, if◌then◌else◌, ◌==◌, List, [], ◌∷◌, ◌++◌, length, map, get_or, replicate, All, Option, None, Some, Ok, refl, sym, ◌∙◌, ap, subst, arith, nat_lt}
+use Rattle.std.proofs.Common.{◌≡◌, ◌<◌, ◌≤◌, ◌+◌, ◌^◌, ◌⊎◌, inl, inr, ℕ, zero, suc, Bool, true, false, if◌then◌else◌}
+use Rattle.std.proofs.Common.{◌==◌, List, [], ◌∷◌, ◌++◌, length, map, get_or, replicate, All, Option, None, Some, Ok}
+use Rattle.std.proofs.Common.{refl, sym, ◌∙◌, ap, subst, arith, nat_lt}
 use Rattle.std.specs.List.{range_with_len}
 use Rattle.asc_base.specs.TreeShape.{children_of}
 use Rattle.asc_base.specs.declared.block.Counter.{Counter}
@@ -26,7 +28,8 @@ use Rattle.oram_contents.specs.Starts.{empty_log, first_ghost, first_contents, f
 use Rattle.oram_contents.specs.Verdict.{is_first}
 use Rattle.oram_contents.proofs.Among.{has_right}
 
-zeros_same : (f : ℕ → ℕ) (n from : ℕ) → ((k : ℕ) → f k ≡ 0) → map f (range_with_len from n) ≡ map (λ k. 0) (range_with_len from n)
+zeros_same : (f : ℕ → ℕ) (n from : ℕ) → ((k : ℕ) → f k ≡ 0)
+    → map f (range_with_len from n) ≡ map (λ k. 0) (range_with_len from n)
 zeros_same f zero from none = refl
 zeros_same f (suc n) from none = let rest = zeros_same f n (from + 1) none in let first = none from in cc
 
@@ -39,9 +42,12 @@ unfolding line_of digits zero_line
 zero_group = refl
 
 first_line : (first number : ℕ) → line_of 0 (own_counts (λ a. first_counter) first number) ≡ zero_line
-first_line first number = ap (line_of 0) (zeros_same (λ k. (if nat_lt k number then (let c : Counter = first_counter in c).own else 0)) 32 0 (λ k. no_own (nat_lt k number))) ∙ zero_group
+first_line first number = ap (line_of 0) (zeros_same (λ k.
+    (if nat_lt k number then (let c : Counter = first_counter in c).own else 0)) 32 0 (λ k. no_own (nat_lt k number)))
+    ∙ zero_group
 
-blank_line : (bytes : List ℕ) (o : Option (ℕ × ℕ)) → bytes ≡ zero_line → line_by (λ a. first_counter) bytes o ≡ zero_line
+blank_line : (bytes : List ℕ) (o : Option (ℕ × ℕ)) → bytes ≡ zero_line
+    → line_by (λ a. first_counter) bytes o ≡ zero_line
 blank_line bytes None is = is
 blank_line bytes (Some (first, number)) is = first_line first number
 
@@ -58,7 +64,8 @@ unsown : (keys : Keys) (bytes : List ℕ) → seed_in bytes ≡ 0 → entries_in
 unfolding opened
 unsown keys bytes is = rw is refl
 
-zero_at : (n b : ℕ) → (get_or (replicate n (zero_bucket)) b [] ≡ zero_bucket) ⊎ (get_or (replicate n (zero_bucket)) b [] ≡ [])
+zero_at : (n b : ℕ) → (get_or (replicate n (zero_bucket)) b [] ≡ zero_bucket)
+    ⊎ (get_or (replicate n (zero_bucket)) b [] ≡ [])
 zero_at zero b = inr refl
 zero_at (suc n) zero = inl refl
 zero_at (suc n) (suc b) = zero_at n b
@@ -107,13 +114,17 @@ start_always keys = record {
 
 pub start_home : (keys : Keys) → Home keys first_ghost (first_contents keys)
 start_home keys a inside =
-    let none : tree_copies keys None (zero_buckets keys.shape.buckets) a ≡ 0 = no_total (λ b. copies a (entries_at keys (zero_buckets keys.shape.buckets) b)) keys.shape.buckets (λ b. ap (copies a) (none_at keys b)) in
+    let none : tree_copies keys None (zero_buckets keys.shape.buckets) a ≡ 0 = no_total
+        (λ b. copies a (entries_at keys (zero_buckets keys.shape.buckets) b)) keys.shape.buckets
+        (λ b. ap (copies a) (none_at keys b)) in
     ap (λ n. 0 + (n + (0 + 0))) none
 
 -- an entry of the shape in a sealed bucket's first slot is in it
-stands_in : (keys : Keys) (e : Entry) → IsEntry e → IsInRange keys.shape (Some e) → Has e (entries_in keys (bucket_text keys.pads 1 (Some e ∷ None ∷ None ∷ None ∷ [])))
+stands_in : (keys : Keys) (e : Entry) → IsEntry e → IsInRange keys.shape (Some e)
+    → Has e (entries_in keys (bucket_text keys.pads 1 (Some e ∷ None ∷ None ∷ None ∷ [])))
 stands_in keys e is range =
-    let opens = opened_bucket keys.pads keys.shape 1 (Some e ∷ None ∷ None ∷ None ∷ []) (omega arith) (omega arith) (record { four = refl; each = each_slot }) each_range in
+    let opens = opened_bucket keys.pads keys.shape 1 (Some e ∷ None ∷ None ∷ None ∷ []) (omega arith) (omega arith)
+        (record { four = refl; each = each_slot }) each_range in
     subst (λ r. Has e (entries_of r)) (sym opens) (inl refl)
   where
     each_slot : All IsSlot (Some e ∷ None ∷ None ∷ None ∷ [])
@@ -130,7 +141,8 @@ stands_in keys e is range =
     each_range (suc (suc (suc zero))) d less = tt
     each_range (suc (suc (suc (suc k)))) d less = absurd (omega arith)
 
-pub forged : (keys : Keys) (a : ℕ) (c : Counter) (l : List ℕ) → IsEntry (entry_of keys a c l) → IsInRange keys.shape (Some (entry_of keys a c l)) → Forgery keys (forged_log keys a c l)
+pub forged : (keys : Keys) (a : ℕ) (c : Counter) (l : List ℕ) → IsEntry (entry_of keys a c l)
+    → IsInRange keys.shape (Some (entry_of keys a c l)) → Forgery keys (forged_log keys a c l)
 forged keys a c l is range = record {
   earlier = drawn_events keys 0 None (real a c);
   later = [];
@@ -140,14 +152,16 @@ forged keys a c l is range = record {
   never = λ h. elim h [ inl e ↦ cc | inr r ↦ elim r [ inl e ↦ cc | inr none ↦ none ] ];
   point = (Access 0 None ∷ [], [], record { 0 = keys.leaf_of (real a c) }, refl, λ p x h. h);
   valid = refl;
-  reply = record { time = 0; bucket = 0; bytes = bucket_text keys.pads 1 (Some (entry_of keys a c l) ∷ None ∷ None ∷ None ∷ []); before = 2 };
+  reply = record { time = 0; bucket = 0; bytes = bucket_text keys.pads 1
+      (Some (entry_of keys a c l) ∷ None ∷ None ∷ None ∷ []); before = 2 };
   altered = inl refl;
   before = omega arith;
   stood = (entry_of keys a c l, stands_in keys (entry_of keys a c l) is range, refl, refl, refl);
 }
 
 pub unforged : (keys : Keys) (a : ℕ) (c : Counter) (l : List ℕ) → Forgery keys (unforged_log keys a c l) → ⊥
-unforged keys a c l f = none_accepted (subst (λ x. Has (Accepted f.message f.found) x) (sym f.accepted) (has_right (Accepted f.message f.found) f.earlier (Accepted f.message f.found ∷ f.later) (inl refl)))
+unforged keys a c l f = none_accepted (subst (λ x. Has (Accepted f.message f.found) x) (sym f.accepted)
+    (has_right (Accepted f.message f.found) f.earlier (Accepted f.message f.found ∷ f.later) (inl refl)))
   where
     none_accepted : {m : Message} {t : List ℕ} → Has (Accepted m t) (drawn_events keys 0 None (real a c)) → ⊥
     none_accepted (inl e) = cc

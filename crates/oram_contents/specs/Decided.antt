@@ -1,5 +1,6 @@
 -- Whether a log shows a forgery, as a test of its lists.
-use Rattle.std.specs.Prelude.{◌==◌, ◌&&◌, ◌||◌, not, ℕ, nat_le, Bool, true, false, List, [], ◌∷◌, ◌++◌, length, if◌then◌else◌, bytes_eq}
+use Rattle.std.specs.Prelude.{◌==◌, ◌&&◌, ◌||◌, not, ℕ, nat_le, Bool, true, false, List, [], ◌∷◌, ◌++◌, length}
+use Rattle.std.specs.Prelude.{if◌then◌else◌, bytes_eq}
 use Rattle.asc_base.specs.declared.block.Entry.{Entry}
 use Rattle.asc_base.specs.declared.block.Message.{Message}
 use Rattle.asc_base.specs.declared.block.Point.{Point}
@@ -60,7 +61,8 @@ last_draws_it m (e ∷ later) = (if among draws later then last_draws_it m later
 -- a slot of a reply, opened, has this message's address and line, and this tag
 abbrev pub reply_has : Keys → Message → List ℕ → Altered → Bool
 reply_has keys m t reply = among
-    (λ (e : Entry). (e.address.0 == m.address.0) && (bytes_eq e.line.0 m.line.0 && bytes_eq e.tag t)) (entries_in keys reply.bytes)
+    (λ (e : Entry). (e.address.0 == m.address.0) && (bytes_eq e.line.0 m.line.0 && bytes_eq e.tag t))
+        (entries_in keys reply.bytes)
 
 -- the event accepts, after these, a message that was never tagged
 abbrev pub forged_at : Keys → List Altered → List Event → Event → Bool

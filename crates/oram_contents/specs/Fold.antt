@@ -111,7 +111,8 @@ written_ok RanOut moves = writes_run 0 moves - 1
 abbrev pub partly : Keys → ℕ → Fold → Contents
 partly keys w f = elim f.path [
   | None ↦ f.now
-  | Some open_at ↦ record f.now { mirror = sealed keys.pads keys.shape.levels open_at.1 f.now.seed f.now.hand f.now.mirror w }
+  | Some open_at ↦ record f.now { mirror = sealed keys.pads keys.shape.levels open_at.1 f.now.seed f.now.hand
+      f.now.mirror w }
 ]
 
 -- What a log says, from a start on. `whole` is that of a log that ended between slots.
@@ -121,4 +122,5 @@ whole keys first log = (settle keys (fold_events keys log.altered 0 log.events f
 abbrev pub contents_of_log : Keys → Fold → LogLists → LogEnd → Contents
 contents_of_log keys first log end =
     let f = fold_events keys log.altered 0 log.events first in
-    (if written_ok end log.moves == keys.shape.levels + 1 then (settle keys f).now else partly keys (written_ok end log.moves) f)
+    (if written_ok end log.moves == keys.shape.levels + 1 then (settle keys f).now else partly keys
+        (written_ok end log.moves) f)

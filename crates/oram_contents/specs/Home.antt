@@ -1,5 +1,6 @@
 -- Where each block stands while no reply was altered.
-use Rattle.std.specs.Prelude.{◌≡◌, ◌<◌, ◌+◌, ◌==◌, ℕ, zero, suc, Bool, true, false, List, count_by, Option, None, Some, Ok, [], slice_index_or, if◌then◌else◌}
+use Rattle.std.specs.Prelude.{◌≡◌, ◌<◌, ◌+◌, ◌==◌, ℕ, zero, suc, Bool, true, false, List, count_by, Option, None, Some}
+use Rattle.std.specs.Prelude.{Ok, [], slice_index_or, if◌then◌else◌}
 use Rattle.asc_base.specs.TreeShape.{bucket_of}
 use Rattle.asc_base.specs.declared.block.Entry.{Entry}
 use Rattle.bucket_codec.specs.Bucket.{opened}
@@ -32,7 +33,8 @@ copies a entries = count_by (is_copy a) entries
 -- the copies of a block in the tree, but for the path that is open
 abbrev pub tree_copies : Keys → Option ℕ → List (List ℕ) → ℕ → ℕ
 tree_copies keys path mirror a =
-    total (λ b. (if is_open keys.shape.levels path b then 0 else copies a (entries_at keys mirror b))) keys.shape.buckets
+    total (λ b. (if is_open keys.shape.levels path b then 0 else copies a (entries_at keys mirror b)))
+        keys.shape.buckets
 
 -- 1 for a block that is in flight, else 0
 abbrev pub flying : ℕ → Option ℕ → ℕ

@@ -1,5 +1,6 @@
 -- The parts of a slot, each by what it leaves in the log and in the contents.
-use Rattle.std.specs.Prelude.{◌≡◌, ◌≤◌, ◌<◌, ◌+◌, ◌^◌, ◌⊎◌, ℕ, zero, suc, List, [], ◌∷◌, ◌++◌, length, All, Option, None, Some}
+use Rattle.std.specs.Prelude.{◌≡◌, ◌≤◌, ◌<◌, ◌+◌, ◌^◌, ◌⊎◌, ℕ, zero, suc, List, [], ◌∷◌, ◌++◌, length, All, Option}
+use Rattle.std.specs.Prelude.{None, Some}
 use Rattle.asc_base.specs.TreeShape.{parent_of}
 use Rattle.asc_base.specs.declared.block.Counter.{Counter}
 use Rattle.asc_base.specs.declared.block.Entry.{Entry}
@@ -30,7 +31,8 @@ MayDraw g (Real a c) = (g.pend ≡ Some a.0) × (c ≡ g.count a.0)
 MayDraw g (Dummy n) = n ≡ g.dummies
 
 -- A slot starts at this time, its point is drawn and its path is read without evidence.
-pub record IsRead (keys : Keys) (old new : LogLists) (now : Contents) (start : ℕ) (p : Point) (joined : List Entry) : Type 0 where
+pub record IsRead (keys : Keys) (old new : LogLists) (now : Contents) (start : ℕ) (p : Point)
+    (joined : List Entry) : Type 0 where
   pub asked : Option ℕ
   pub altered : List Altered
   pub adds : Adds old new (drawn_events keys start asked p) altered
@@ -39,7 +41,8 @@ pub record IsRead (keys : Keys) (old new : LogLists) (now : Contents) (start : �
   pub of_shape : AreOfShape keys.shape joined
 
 -- A block is looked for at hand under its counter, and nothing is wrong with what is found.
-pub record IsFound (keys : Keys) (old new : LogLists) (hand : List Entry) (a : ℕ) (c : Counter) (found : Option Entry) : Type 0 where
+pub record IsFound (keys : Keys) (old new : LogLists) (hand : List Entry) (a : ℕ) (c : Counter)
+    (found : Option Entry) : Type 0 where
   pub found_is : held hand (record { 0 = a }) ≡ found
   pub right : judged keys a c found ≡ None
   pub adds : Adds old new (accepted a c found) []
@@ -51,7 +54,8 @@ pub record MayRise (keys : Keys) (g : Ghost) (a : ℕ) (c : Counter) : Type 0 wh
   pub parent : (p : ℕ) → parent_of keys.shape.lines keys.shape.layers a ≡ Some p → IsAway g p
 
 -- A line of a block is tagged under a counter, and joins the hand last.
-pub record IsPut (keys : Keys) (old new : LogLists) (now after : Contents) (a : ℕ) (c : Counter) (l : List ℕ) : Type 0 where
+pub record IsPut (keys : Keys) (old new : LogLists) (now after : Contents) (a : ℕ) (c : Counter)
+    (l : List ℕ) : Type 0 where
   pub adds : Adds old new (Tagged (message_of a c l) ∷ []) []
   pub after_is : after ≡ with_entry now (entry_of keys a c l)
 
@@ -72,11 +76,13 @@ done g a c l = record g {
 
 -- A whole slot of a block, in which it is found under its counter and put back under another one: its path is read, the
 -- block taken out, a line of it put at hand, and the path written.
-pub record IsAccess (keys : Keys) (old new : LogLists) (now after : Contents) (start a : ℕ) (c c' : Counter) (found : Option Entry) (l : List ℕ) : Type 0 where
+pub record IsAccess (keys : Keys) (old new : LogLists) (now after : Contents) (start a : ℕ) (c c' : Counter)
+    (found : Option Entry) (l : List ℕ) : Type 0 where
   pub asked : Option ℕ
   pub altered : List Altered
   pub joined : List Entry
-  pub events_are : new.events ≡ old.events ++ (drawn_events keys start asked (real a c) ++ (accepted a c found ++ Tagged (message_of a c' l) ∷ []))
+  pub events_are : new.events ≡ old.events ++ (drawn_events keys start asked (real a c) ++
+      (accepted a c found ++ Tagged (message_of a c' l) ∷ []))
   pub altered_are : new.altered ≡ old.altered ++ altered
   pub noted : All (λ (reply : Altered). reply.before ≡ length old.events + 2) altered
   pub read : IsReadTo keys.pads keys.shape start (keys.leaf_of (real a c)) altered now joined
@@ -103,7 +109,8 @@ pub record IsPass (keys : Keys) (old new : LogLists) (now after : Contents) (sta
   pub of_shape : AreOfShape keys.shape joined
   pub after_is : after ≡ after_write keys.pads keys.shape.levels (keys.leaf_of (Dummy n)) (record now { hand = joined })
 
-pub record IsRefill (keys : Keys) (old new : LogLists) (now after : Contents) (start a : ℕ) (c : Counter) (found : Option Entry) : Type 0 where
+pub record IsRefill (keys : Keys) (old new : LogLists) (now after : Contents) (start a : ℕ) (c : Counter)
+    (found : Option Entry) : Type 0 where
   pub asked : Option ℕ
   pub altered : List Altered
   pub joined : List Entry
@@ -114,7 +121,8 @@ pub record IsRefill (keys : Keys) (old new : LogLists) (now after : Contents) (s
   pub of_shape : AreOfShape keys.shape joined
   pub found_is : held joined (record { 0 = a }) ≡ found
   pub right : judged keys a c found ≡ None
-  pub after_is : after ≡ after_write keys.pads keys.shape.levels (keys.leaf_of (real a c)) (record now { hand = without joined (record { 0 = a }) })
+  pub after_is : after ≡ after_write keys.pads keys.shape.levels (keys.leaf_of (real a c))
+      (record now { hand = without joined (record { 0 = a }) })
 
 -- the ghost record after a dummy, and after a refill's slot
 abbrev pub passed : Ghost → Ghost

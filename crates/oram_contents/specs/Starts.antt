@@ -41,7 +41,8 @@ abbrev pub forged_log : Keys → ℕ → Counter → List ℕ → LogLists
 forged_log keys a c l = record {
   moves = [];
   events = drawn_events keys 0 None (real a c) ++ Accepted (message_of a c l) (entry_of keys a c l).tag ∷ [];
-  altered = record { time = 0; bucket = 0; bytes = bucket_text keys.pads 1 (Some (entry_of keys a c l) ∷ None ∷ None ∷ None ∷ []); before = 2 } ∷ [];
+  altered = record { time = 0; bucket = 0; bytes = bucket_text keys.pads 1
+      (Some (entry_of keys a c l) ∷ None ∷ None ∷ None ∷ []); before = 2 } ∷ [];
 }
 
 -- A log with the same altered reply in which nothing is accepted.
