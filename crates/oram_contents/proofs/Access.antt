@@ -1,9 +1,9 @@
 -- The parts of a slot keep the invariant, or the log shows a forgery.
-use Rattle.std.proofs.Common.{◌≡◌, ◌<◌, ◌≤◌, ◌+◌, ◌^◌, ◌⊎◌, inl, inr, ℕ, zero, suc, List, [], ◌∷◌, ◌++◌, length, map}
-use Rattle.std.proofs.Common.{All, Option, None, Some, refl, sym, ◌∙◌, ap, ap₂, subst, subst₂, arith, length-append}
+use Rattle.std.proofs.Common.{◌≡◌, ◌<◌, ◌≤◌, ◌+◌, ◌^◌, ◌⊎◌, inl, inr, ℕ, List, [], ◌∷◌, ◌++◌, length, map}
+use Rattle.std.proofs.Common.{Option, None, Some, refl, sym, ◌∙◌, ap, subst, arith, length-append}
 use Rattle.std.proofs.Common.{append_assoc, append-nil}
 use Rattle.std.proofs.lemmas.Bool.{cases_eq}
-use Rattle.asc_base.specs.TreeShape.{parent_of, children_of}
+use Rattle.asc_base.specs.TreeShape.{children_of}
 use Rattle.asc_base.specs.declared.block.Address.{Address}
 use Rattle.asc_base.specs.declared.block.Counter.{Counter}
 use Rattle.asc_base.specs.declared.block.Entry.{Entry}
@@ -18,27 +18,24 @@ use Rattle.bucket_codec.specs.Slot.{IsEntry, IsInRange}
 use Rattle.bus_watch.specs.Log.{LogLists}
 use Rattle.bus_watch.specs.declared.log.Altered.{Altered}
 use Rattle.bus_watch.specs.declared.log.Event.{Event}
-use Rattle.bus_watch.specs.declared.log.Event.TheVariants.{Access, Drawn, Tagged, Accepted}
+use Rattle.bus_watch.specs.declared.log.Event.TheVariants.{Drawn, Tagged, Accepted}
 use Rattle.oram_stash.specs.Entries.{held, without}
-use Rattle.pmmac_tags.specs.Tag.{tag}
 use Rattle.pmmac_tags.proofs.Tags.{length-tag}
-use Rattle.posmap_counters.specs.Counters.{IsBefore, IsNotAfter, first_counter}
+use Rattle.posmap_counters.specs.Counters.{IsBefore, first_counter}
 use Rattle.posmap_counters.proofs.CounterLaws.{before_irreflexive}
 use Rattle.oram_contents.specs.Contents.{Contents, after_write}
 use Rattle.oram_contents.specs.PathRead.{replies}
-use Rattle.oram_contents.specs.PathWritten.{places_of, stays}
+use Rattle.oram_contents.specs.PathWritten.{places_of}
 use Rattle.oram_contents.specs.Shapes.{AreOfShape}
 use Rattle.oram_contents.proofs.ContentsLaws.{sealed-length, All-where_placed}
 use Rattle.oram_contents.proofs.OfShape.{without_of_shape, put_of_shape}
-use Rattle.oram_contents.specs.Entries.{Has, Keys, AreKeys, real, message_of, entry_of, entries_in, entries_at, OnPath}
+use Rattle.oram_contents.specs.Entries.{Has, Keys, AreKeys, real, message_of, entry_of, entries_at, OnPath}
 use Rattle.oram_contents.specs.Counts.{Ghost, line_at, line_by, zero_line, IsAway, put_at}
-use Rattle.oram_contents.specs.Fold.{with_entry}
 use Rattle.oram_contents.specs.Verdict.{judged, line_found}
 use Rattle.oram_contents.specs.Forgery.{Forgery, LastDrawn}
-use Rattle.oram_contents.specs.Provenance.{FromOutside, Came, Genuine, Known, message_in, Untagged, OffOpen, Sound}
+use Rattle.oram_contents.specs.Provenance.{FromOutside, Came, Genuine, Known, Untagged, OffOpen, Sound}
 use Rattle.oram_contents.specs.Provenance.{Always, AreApart}
 use Rattle.oram_contents.specs.Steps.{Adds, next_dummy, opened_at, raised, taken, accepted, stored, landed, closed}
-use Rattle.oram_contents.specs.Steps.{inserted}
 use Rattle.oram_contents.specs.Slots.{drawn_events, MayDraw, IsRead, IsFound, MayRise, IsPut, HasSeeds}
 use Rattle.oram_contents.proofs.Among.{has_left, has_right, has_split, has_last, has_new, all_has, cases_tagged}
 use Rattle.oram_contents.proofs.Lines.{put_same, put_other}
@@ -99,9 +96,12 @@ module _ (keys : Keys) where
     blank = s.blank;
     drawn = s.drawn;
     dummies = s.dummies;
-    away = λ b is. elim is [ inl h ↦ s.away b (inl h) | inr same ↦ subst
-        (λ x. (x < keys.shape.total) × IsBefore first_counter (g.count x) × Untagged log.events x (g.count x))
-        (some_is same) (inside, some, none) ];
+    away = λ b is. elim is [
+      | inl h ↦ s.away b (inl h)
+      | inr same ↦ subst
+          (λ x. (x < keys.shape.total) × IsBefore first_counter (g.count x) × Untagged log.events x (g.count x))
+          (some_is same) (inside, some, none)
+    ];
     at_hand = s.at_hand;
     in_tree = s.in_tree;
   }
@@ -124,7 +124,7 @@ module _ (keys : Keys) where
     read_sound shut may s =
         sound_read keys new (record g { dummies = next_dummy g.dummies p }) now joined (keys.leaf_of p) shut from
         (sound_log keys old new (drawn_events keys start r.asked p) r.altered
-            (record g { dummies = next_dummy g.dummies p }) now r.adds none_tagged past fewer
+        (record g { dummies = next_dummy g.dummies p }) now r.adds none_tagged past fewer
         (sound_dummies old g now (next_dummy g.dummies p) (more p may) s))
       where
         more : (q : Point) → MayDraw g q → g.dummies ≤ next_dummy g.dummies q
@@ -155,8 +155,12 @@ module _ (keys : Keys) where
         from e h = elim (joined_from keys start (keys.leaf_of p) r.altered now joined e r.read h) [
           | inl l ↦ inl l
           | inr c ↦ elim c [
-            | inl o ↦ inr (inl (o.0, subst (λ (l : List Altered). Has o.0 l) (sym r.adds.altered_are)
-                (has_right o.0 old.altered r.altered o.1), (e, o.2, refl, refl, refl)))
+            | inl o ↦ inr (inl (
+              o.0,
+              subst (λ (l : List Altered). Has o.0 l) (sym r.adds.altered_are)
+                  (has_right o.0 old.altered r.altered o.1),
+              (e, o.2, refl, refl, refl),
+            ))
             | inr b ↦ inr (inr b)
           ]
         ]
@@ -171,8 +175,12 @@ module _ (keys : Keys) where
       hand_came = λ e h. elim (joined_from keys start (keys.leaf_of p) r.altered now joined e r.read h) [
         | inl l ↦ came_more keys old new (drawn_events keys start r.asked p) r.altered e r.adds (s.hand_came e l)
         | inr c ↦ elim c [
-          | inl o ↦ inl (o.0, subst (λ (l : List Altered). Has o.0 l) (sym r.adds.altered_are)
-              (has_right o.0 old.altered r.altered o.1), (e, o.2, refl, refl, refl))
+          | inl o ↦ inl (
+            o.0,
+            subst (λ (l : List Altered). Has o.0 l) (sym r.adds.altered_are)
+                (has_right o.0 old.altered r.altered o.1),
+            (e, o.2, refl, refl, refl),
+          )
           | inr b ↦ came_more keys old new (drawn_events keys start r.asked p) r.altered e r.adds
               (s.tree_came b.0 e b.1)
         ]
@@ -181,12 +189,17 @@ module _ (keys : Keys) where
           (s.tree_came b e h);
       past = λ reply h. elim (has_split reply old.altered r.altered
           (subst (λ (l : List Altered). Has reply l) r.adds.altered_are h)) [
-        | inl o ↦ omega (arith, s.past reply o, ap length r.adds.events_are, length-append old.events
-            (drawn_events keys start r.asked p))
-        | inr n ↦ (let at : reply.before ≡ length old.events + 2 = all_has
-            (λ (x : Altered). x.before ≡ length old.events + 2) reply r.altered r.noted n in omega
-            (arith, at, ap length r.adds.events_are, length-append old.events (drawn_events keys start r.asked p)))
-      ];
+            | inl o ↦ omega (
+              arith,
+              s.past reply o,
+              ap length r.adds.events_are,
+              length-append old.events
+                  (drawn_events keys start r.asked p),
+            )
+            | inr n ↦ (let at : reply.before ≡ length old.events + 2 = all_has
+                (λ (x : Altered). x.before ≡ length old.events + 2) reply r.altered r.noted n in omega
+                (arith, at, ap length r.adds.events_are, length-append old.events (drawn_events keys start r.asked p)))
+          ];
       mirrored = s.mirrored;
       seeds = s.seeds;
     }
@@ -195,9 +208,9 @@ module _ (keys : Keys) where
   module _ (lawful : AreKeys keys) (old new : LogLists) (g : Ghost) (now : Contents) (a : ℕ) (c : Counter)
       (found : Option Entry)
       (opened : g.path ≡ Some (keys.leaf_of (real a (g.count a)))) (next : g.pend ≡ Some a)
-          (drawn : LastDrawn old.events a (g.count a))
+      (drawn : LastDrawn old.events a (g.count a))
       (rises : MayRise keys g a c) (f : IsFound keys old new now.hand a (g.count a) found) (w : Always keys old now)
-          (s : Sound keys old g now) where
+      (s : Sound keys old g now) where
     abbrev address : Address
     address = record { 0 = a }
 
@@ -217,30 +230,30 @@ module _ (keys : Keys) where
     left_sound : Sound keys new g (record now { hand = without now.hand (record { 0 = a }) })
     left_sound = sound_fewer keys new g now (without now.hand (record { 0 = a })) (λ e h. (left e h).0)
         (sound_log keys old new (accepted a (g.count a) found) [] g now f.adds (none_tagged_in found)
-            (λ b x leaf h. absurd (none_drawn_in found (real b x) leaf h))
-            (λ n leaf h. absurd (none_drawn_in found (Dummy n) leaf h)) s)
+        (λ b x leaf h. absurd (none_drawn_in found (real b x) leaf h))
+        (λ n leaf h. absurd (none_drawn_in found (Dummy n) leaf h)) s)
 
     stale : (b : ℕ) (e : Entry) → OffOpen keys.shape.levels g.path b → Has e (entries_at keys now.mirror b)
         → e.address.0 ≡ a → Genuine keys new g.count e → ⊥
     stale b e off h is k =
         let same : e.leaf.0 ≡ keys.leaf_of (real a (g.count a)) = k.leaf
-            ∙ ap (λ x. keys.leaf_of (real x (g.count x))) is in
+        ∙ ap (λ x. keys.leaf_of (real x (g.count x))) is in
         subst (λ p. OffOpen keys.shape.levels p b) opened off
-            (subst (λ x. OnPath keys.shape.levels x b) same (w.placed b e h))
+        (subst (λ x. OnPath keys.shape.levels x b) same (w.placed b e h))
 
     pub take_sound : Sound keys new (taken g a c) (record now { hand = without now.hand (record { 0 = a }) })
     take_sound =
         let now' : Contents = record now { hand = without now.hand (record { 0 = a }) } in
         let pend_same : (b : ℕ) → (b ≡ a → ⊥) → g.pend ≡ Some b
-            → None ≡ Some b = λ b other is. absurd (other (some_is (sym is ∙ next))) in
+        → None ≡ Some b = λ b other is. absurd (other (some_is (sym is ∙ next))) in
         let gone : (e : Entry) → Has e now'.hand → e.address.0 ≡ a → Genuine keys new g.count e
-            → ⊥ = λ e h is k. (left e h).1 is in
+        → ⊥ = λ e h is k. (left e h).1 is in
         let up = sound_raised keys lawful new g now' a c None rises.up rises.parent pend_same gone stale left_sound in
         let facts = counter_raised keys lawful new g now' a c None rises.up rises.parent pend_same gone stale
-            left_sound rises.inside in
+        left_sound rises.inside in
         let at : put_at g.count a c a ≡ c = put_same g.count a c in
         sound_flight new (raised g a c None) now' a None rises.inside (subst (IsBefore first_counter) (sym at) facts.0)
-            (subst (Untagged new.events a) (sym at) facts.1) up
+        (subst (Untagged new.events a) (sym at) facts.1) up
 
     pub take_line : Forgery keys new ⊎ (line_found found ≡ line_at keys.shape g a)
     take_line = by_entry found f.found_is f.right f.adds
@@ -280,15 +293,20 @@ module _ (keys : Keys) where
   pub always_adds : (old new : LogLists) (events : List Event) (now : Contents) (hand : List Entry)
       → Adds old new events [] → AreApart hand → AreOfShape keys.shape hand
       → ((e : Entry) → Has e hand → Came keys new e) → Always keys old now
-          → Always keys new (record now { hand = hand })
+      → Always keys new (record now { hand = hand })
   always_adds old new events now hand adds apart of_shape came s = record {
     placed = s.placed;
     apart = apart;
     of_shape = of_shape;
     hand_came = came;
     tree_came = λ b e h. came_more keys old new events [] e adds (s.tree_came b e h);
-    past = λ reply h. omega (arith, s.past reply (subst (λ (l : List Altered). Has reply l)
-        (adds.altered_are ∙ append-nil old.altered) h), ap length adds.events_are, length-append old.events events);
+    past = λ reply h. omega (
+      arith,
+      s.past reply (subst (λ (l : List Altered). Has reply l)
+          (adds.altered_are ∙ append-nil old.altered) h),
+      ap length adds.events_are,
+      length-append old.events events,
+    );
     mirrored = s.mirrored;
     seeds = s.seeds;
   }
@@ -298,37 +316,48 @@ module _ (keys : Keys) where
       → Always keys new (record now { hand = without now.hand (record { 0 = a }) })
   take_always old new now a c found f s =
       always_adds old new (accepted a c found) now (without now.hand (record { 0 = a })) f.adds
-          (without_apart now.hand (record { 0 = a }) s.apart)
-          (without_of_shape keys.shape now.hand (record { 0 = a }) s.of_shape)
+      (without_apart now.hand (record { 0 = a }) s.apart)
+      (without_of_shape keys.shape now.hand (record { 0 = a }) s.of_shape)
       (λ e h. came_more keys old new (accepted a c found) [] e f.adds
-          (s.hand_came e (without_has now.hand (record { 0 = a }) e s.apart h).0)) s
+      (s.hand_came e (without_has now.hand (record { 0 = a }) e s.apart h).0)) s
 
   pub put_always : (lawful : AreKeys keys) (old new : LogLists) (now after : Contents) (a : ℕ) (c : Counter)
       (l : List ℕ) → a < keys.shape.total → length l ≡ 64
       → ((e : Entry) → Has e now.hand → e.address.0 ≡ a → ⊥) → IsPut keys old new now after a c l → Always keys old now
-          → Always keys new after
+      → Always keys new after
   put_always lawful old new now after a c l inside whole other put s =
       subst (λ x. Always keys new x) (sym put.after_is)
       (always_adds old new (Tagged (message_of a c l) ∷ []) now (now.hand ++ entry_of keys a c l ∷ []) put.adds
       (apart_append now.hand (entry_of keys a c l) s.apart other)
       (put_of_shape keys.shape now.hand (now.hand ++ entry_of keys a c l ∷ []) (entry_of keys a c l) refl is_entry
-          (inside, lawful.leaves (real a c)) s.of_shape)
+      (inside, lawful.leaves (real a c)) s.of_shape)
       came s)
     where
       came : (e : Entry) → Has e (now.hand ++ entry_of keys a c l ∷ []) → Came keys new e
       came e h = elim (has_last e (entry_of keys a c l) now.hand h) [
         | inl old_one ↦ came_more keys old new (Tagged (message_of a c l) ∷ []) [] e put.adds (s.hand_came e old_one)
         | inr is ↦ subst (λ x. Came keys new x) (sym is)
-            (inr (message_of a c l, subst (λ (x : List Event). Has (Tagged (message_of a c l)) x)
-            (sym put.adds.events_are) (has_new (Tagged (message_of a c l)) old.events), refl, refl, refl))
+            (inr (
+              message_of a c l,
+              subst (λ (x : List Event). Has (Tagged (message_of a c l)) x)
+                  (sym put.adds.events_are) (has_new (Tagged (message_of a c l)) old.events),
+              refl,
+              refl,
+              refl,
+            ))
       ]
 
       is_entry : IsEntry (entry_of keys a c l)
       is_entry =
           let layered : IsLayered keys.shape = shape_layered keys.shape lawful.shape in
-          record { address = omega (arith, inside, layered.total_to); leaf = omega
-              (arith, lawful.leaves (real a c), few keys.shape.levels layered.levels_to); line = whole; tag =
-              length-tag keys.tags (message_of a c l) }
+          record {
+            address = omega (arith, inside, layered.total_to);
+            leaf = omega
+                (arith, lawful.leaves (real a c), few keys.shape.levels layered.levels_to);
+            line = whole;
+            tag =
+                length-tag keys.tags (message_of a c l);
+          }
         where
           few : (n : ℕ) → n ≤ 17 → 2 ^ n ≤ 2 ^ 17
           few n less = pow_mono {i = n} {j = 17} less
@@ -339,7 +368,7 @@ module _ (keys : Keys) where
       → IsPut keys old new now after a (g.count a) l → Sound keys old g now → Sound keys new (landed g) after
   put_sound old new g now after a l flying unheld is put s =
       subst (λ x. Sound keys new (landed g) x) (sym put.after_is)
-          (sound_put keys old new g now a l flying unheld is put.adds s)
+      (sound_put keys old new g now a l flying unheld is put.adds s)
 
   -- a line is stored, while its block is in flight
   pub store_sound : (log : LogLists) (g : Ghost) (now : Contents) (a : ℕ) (l : List ℕ) → IsAway g a
@@ -378,7 +407,7 @@ module _ (keys : Keys) where
         → Sound keys log (closed g) (after_write keys.pads keys.shape.levels leaf now)
     write_sound g opened s = sound_write keys log g now (after_write keys.pads keys.shape.levels leaf now) leaf opened
         (λ b e h. elim (written_from keys lawful leaf now b e within w.of_shape w.mirrored w.seeds room h)
-            [ inl kept ↦ inl kept | inr from ↦ inr from.0 ])
+        [ inl kept ↦ inl kept | inr from ↦ inr from.0 ])
         (λ e h. where_placed_has _ (places_of keys.shape.levels leaf now.hand) now.hand e h) s
 
     pub write_always : Always keys log (after_write keys.pads keys.shape.levels leaf now)

@@ -1,15 +1,12 @@
 -- How what stands in a list is found again.
-use Rattle.std.proofs.Common.{◌≡◌, ◌<◌, ◌⊎◌, inl, inr, ℕ, zero, suc, List, [], ◌∷◌, ◌++◌, length, All, refl, sym, ap}
-use Rattle.std.proofs.Common.{◌∙◌, subst, arith}
+use Rattle.std.proofs.Common.{◌≡◌, ◌⊎◌, inl, inr, ℕ, suc, List, [], ◌∷◌, ◌++◌, All, refl, sym, ap}
+use Rattle.std.proofs.Common.{subst, arith}
 use Rattle.std.proofs.lemmas.Bool.{cases_eq}
-use Rattle.asc_base.specs.declared.block.Address.{Address}
-use Rattle.asc_base.specs.declared.block.Counter.{Counter}
-use Rattle.asc_base.specs.declared.block.Line.{Line}
 use Rattle.asc_base.specs.declared.block.Message.{Message}
 use Rattle.bus_watch.specs.declared.log.Event.{Event}
 use Rattle.bus_watch.specs.declared.log.Event.TheVariants.{Access, Drawn, Tagged, Accepted, Chosen, Answered}
 use Rattle.oram_contents.specs.Entries.{Has}
-use Rattle.oram_contents.specs.Provenance.{Untagged, AtMostOnce}
+use Rattle.oram_contents.specs.Provenance.{AtMostOnce}
 
 pub has_left : {A : Type 0} (x : A) (xs ys : List A) → Has x xs → Has x (xs ++ ys)
 has_left x [] ys h = absurd h
@@ -27,8 +24,11 @@ has_split x (y ∷ xs) ys (inr h) = elim (has_split x xs ys h) [ inl l ↦ inl (
 
 -- the last item is it, or it stood there before
 pub has_last : {A : Type 0} (x y : A) (xs : List A) → Has x (xs ++ y ∷ []) → Has x xs ⊎ (x ≡ y)
-has_last x y xs h = elim (has_split x xs (y ∷ []) h) [ inl l ↦ inl l | inr r ↦ elim r
-    [ inl e ↦ inr e | inr n ↦ absurd n ] ]
+has_last x y xs h = elim (has_split x xs (y ∷ []) h) [
+  | inl l ↦ inl l
+  | inr r ↦ elim r
+      [ inl e ↦ inr e | inr n ↦ absurd n ]
+]
 
 pub has_new : {A : Type 0} (x : A) (xs : List A) → Has x (xs ++ x ∷ [])
 has_new x xs = has_right x xs (x ∷ []) (inl refl)
@@ -52,8 +52,11 @@ cases_bytes (x ∷ xs) (y ∷ ys) = both (cases_eq x y) (cases_bytes xs ys)
 
 pub same_message : (m n : Message) → m.address.0 ≡ n.address.0 → m.counter.group ≡ n.counter.group
     → m.counter.own ≡ n.counter.own → m.line.0 ≡ n.line.0 → m ≡ n
-same_message m n a g o l = λ i. record { address = record { 0 = a i }; counter = record { group = g i; own = o i };
-    line = record { 0 = l i } }
+same_message m n a g o l = λ i. record {
+  address = record { 0 = a i };
+  counter = record { group = g i; own = o i };
+  line = record { 0 = l i };
+}
 
 pub cases_message : (m n : Message) → (m ≡ n) ⊎ (m ≡ n → ⊥)
 cases_message m n = all (cases_eq m.address.0 n.address.0) (cases_eq m.counter.group n.counter.group)
@@ -62,7 +65,7 @@ cases_message m n = all (cases_eq m.address.0 n.address.0) (cases_eq m.counter.g
     all : (m.address.0 ≡ n.address.0) ⊎ (m.address.0 ≡ n.address.0 → ⊥)
         → (m.counter.group ≡ n.counter.group) ⊎ (m.counter.group ≡ n.counter.group → ⊥)
         → (m.counter.own ≡ n.counter.own) ⊎ (m.counter.own ≡ n.counter.own → ⊥)
-            → (m.line.0 ≡ n.line.0) ⊎ (m.line.0 ≡ n.line.0 → ⊥) → (m ≡ n) ⊎ (m ≡ n → ⊥)
+        → (m.line.0 ≡ n.line.0) ⊎ (m.line.0 ≡ n.line.0 → ⊥) → (m ≡ n) ⊎ (m ≡ n → ⊥)
     all (inl a) (inl g) (inl o) (inl l) = inl (same_message m n a g o l)
     all (inr differs) g o l = inr (λ e. differs (ap (λ (x : Message). x.address.0) e))
     all (inl a) (inr differs) o l = inr (λ e. differs (ap (λ (x : Message). x.counter.group) e))
@@ -83,8 +86,11 @@ cases_tagged m (e ∷ events) = both (first e) (cases_tagged m events)
     first (Accepted n t) = inr (λ p. cc)
     first (Chosen index) = inr (λ p. cc)
     first (Answered line value) = inr (λ p. cc)
-    first (Tagged n) = elim (cases_message m n) [ inl p ↦ inl (ap Tagged p) | inr differs ↦ inr
-        (λ p. differs (tagged_same m n p)) ]
+    first (Tagged n) = elim (cases_message m n) [
+      | inl p ↦ inl (ap Tagged p)
+      | inr differs ↦ inr
+          (λ p. differs (tagged_same m n p))
+    ]
 
     both : (Tagged m ≡ e) ⊎ (Tagged m ≡ e → ⊥) → Has (Tagged m) events ⊎ (Has (Tagged m) events → ⊥)
         → Has (Tagged m) (e ∷ events) ⊎ (Has (Tagged m) (e ∷ events) → ⊥)
@@ -95,11 +101,14 @@ cases_tagged m (e ∷ events) = both (first e) (cases_tagged m events)
 -- tagged at most once, in two lists of which none repeats the other
 pub once_append : (xs ys : List Event) → AtMostOnce xs → AtMostOnce ys
     → ((m n : Message) → Has (Tagged m) xs → Has (Tagged n) ys → n.address.0 ≡ m.address.0 → n.counter ≡ m.counter → ⊥)
-        → AtMostOnce (xs ++ ys)
+    → AtMostOnce (xs ++ ys)
 once_append [] ys s t cross = t
 once_append (e ∷ xs) ys s t cross = (
-  λ m is n h a c. elim (has_split (Tagged n) xs ys h) [ inl l ↦ s.0 m is n l a c | inr r ↦ cross m n
-      (inl (sym is)) r a c ],
+  λ m is n h a c. elim (has_split (Tagged n) xs ys h) [
+    | inl l ↦ s.0 m is n l a c
+    | inr r ↦ cross m n
+        (inl (sym is)) r a c
+  ],
   once_append xs ys s.1 t (λ m n h k. cross m n (inr h) k),
 )
 

@@ -46,15 +46,15 @@ All-four : (P : Entry → Type 0) (Q : Option Entry → Type 0) → Q None → (
 All-four P Q none some es all =
     let at = at_slice P Q none some es all in
     All-cons Q (slice_get es 0) (slice_get es 1 ∷ slice_get es 2 ∷ slice_get es 3 ∷ []) (at 0)
-        (All-cons Q (slice_get es 1) (slice_get es 2 ∷ slice_get es 3 ∷ []) (at 1)
-        (All-cons Q (slice_get es 2) (slice_get es 3 ∷ []) (at 2)
-        (All-cons Q (slice_get es 3) [] (at 3) (λ k d less. absurd (omega arith)))))
+    (All-cons Q (slice_get es 1) (slice_get es 2 ∷ slice_get es 3 ∷ []) (at 1)
+    (All-cons Q (slice_get es 2) (slice_get es 3 ∷ []) (at 2)
+    (All-cons Q (slice_get es 3) [] (at 3) (λ k d less. absurd (omega arith)))))
 
 -- what is written of entries of the shape is opened again
 pub opened-sealed : (key : List ℕ) (shape : Shape) (leaf seed level : ℕ) (hand : List Entry) → 0 < seed → seed < 2 ^ 64
     → AreOfShape shape hand
     → opened key shape (bucket_text key seed (slots_at shape.levels leaf hand level)) ≡ Ok
-        (slots_at shape.levels leaf hand level)
+    (slots_at shape.levels leaf hand level)
 opened-sealed key shape leaf seed level hand some below all =
     let P : Entry → Type 0 = λ e. IsEntry e × IsInRange shape (Some e) in
     let entries = where_placed (stands_at level) (places_of shape.levels leaf hand) hand in
@@ -89,30 +89,30 @@ module _ (key : List ℕ) (levels leaf seed : ℕ) (hand : List Entry) (mirror :
   sealed-off zero b off = refl
   sealed-off (suc n) b off =
       get-set-other (sealed key levels leaf seed hand mirror n) (bucket_of levels leaf n) b
-          (bucket_text key (seed + n) (slots_at levels leaf hand n)) (off n (omega arith))
+      (bucket_text key (seed + n) (slots_at levels leaf hand n)) (off n (omega arith))
       ∙ sealed-off n b (λ level less. off level (omega arith))
 
   -- a bucket of the path is sealed, under a seed of its own
   pub sealed-on : (n level : ℕ) → level < n → n ≤ levels + 1 → leaf < 2 ^ levels
       → bucket_of levels leaf level < length mirror
       → slice_get (sealed key levels leaf seed hand mirror n) (bucket_of levels leaf level) ≡ Some
-          (bucket_text key (seed + level) (slots_at levels leaf hand level))
+      (bucket_text key (seed + level) (slots_at levels leaf hand level))
   unfolding sealed
   sealed-on zero level less within leaf_in there = absurd (omega arith)
   sealed-on (suc n) level less within leaf_in there = elim (cases_lt level n) [
     | inl under ↦
         get-set-other (sealed key levels leaf seed hand mirror n) (bucket_of levels leaf n)
-            (bucket_of levels leaf level) (bucket_text key (seed + n) (slots_at levels leaf hand n))
+        (bucket_of levels leaf level) (bucket_text key (seed + n) (slots_at levels leaf hand n))
         (bucket_of-apart levels leaf leaf n level (λ e. omega (arith, e)) (omega arith) (omega arith) leaf_in leaf_in)
         ∙ sealed-on n level under (omega arith) leaf_in there
     | inr over ↦
         let same : level ≡ n = omega arith in
         let inside : bucket_of levels leaf n < length (sealed key levels leaf seed hand mirror n) = omega
-            (arith, sealed-length n, ap (bucket_of levels leaf) same) in
+        (arith, sealed-length n, ap (bucket_of levels leaf) same) in
         subst (λ l. slice_get (set (sealed key levels leaf seed hand mirror n) (bucket_of levels leaf n)
-            (bucket_text key (seed + n) (slots_at levels leaf hand n))) (bucket_of levels leaf l) ≡ Some
-            (bucket_text key (seed + l) (slots_at levels leaf hand l)))
+        (bucket_text key (seed + n) (slots_at levels leaf hand n))) (bucket_of levels leaf l) ≡ Some
+        (bucket_text key (seed + l) (slots_at levels leaf hand l)))
         (sym same)
         (get-set (sealed key levels leaf seed hand mirror n) (bucket_of levels leaf n)
-            (bucket_text key (seed + n) (slots_at levels leaf hand n)) inside)
+        (bucket_text key (seed + n) (slots_at levels leaf hand n)) inside)
   ]

@@ -38,7 +38,7 @@ four-all (a ∷ b ∷ c ∷ d ∷ e ∷ es) few = absurd (omega arith)
 placed-step : (p : Entry → Bool) (test : Option ℕ → Bool) (place : Option ℕ) (places : List (Option ℕ)) (e : Entry)
     (hand : List Entry)
     → count_by p (where_placed test (place ∷ places) (e ∷ hand)) ≡ (if test place then one p e else 0) + count_by p
-        (where_placed test places hand)
+    (where_placed test places hand)
 placed-step p test place places e hand = both (test place)
   where
     both : (b : Bool) → count_by p (if b then (e ∷ where_placed test places hand) else where_placed test places hand) ≡
@@ -99,7 +99,7 @@ parted p levels leaf (e ∷ hand) (Some place ∷ places) fits =
     let stay = placed-step p is_none (Some place) places e hand in
     let within : place ≤ levels = omega (arith, fits.0, shared_of-le levels e.leaf.0 leaf) in
     let here : among (suc levels) (Some place) (one p e) ≡ one p e = rw
-        (lt-ltb place (suc levels) (omega arith)) refl in
+    (lt-ltb place (suc levels) (omega arith)) refl in
     let sum = sum-step p (Some place) places e hand (suc levels) in
     omega arith
 
@@ -109,13 +109,13 @@ copies-sum p levels leaf hand zero = refl
 copies-sum p levels leaf hand (suc n) =
     ap₂ (λ a b. a + b) (copies-sum p levels leaf hand n)
     (ap (count_by p) (four-all (where_placed (stands_at n) (places_of levels leaf hand) hand)
-        (placed_number levels leaf n hand)))
+    (placed_number levels leaf n hand)))
 
 pub copies_add_up : (p : Entry → Bool) (levels leaf : ℕ) (hand : List Entry)
     → count_by p (stays levels leaf hand) + copies_to p levels leaf hand (levels + 1) ≡ count_by p hand
 copies_add_up p levels leaf hand =
     let next : levels + 1 ≡ suc levels = rw add-one refl in
     ap (λ n. count_by p (stays levels leaf hand) + n) (copies-sum p levels leaf hand (levels + 1)
-        ∙ ap (sum_to p (places_of levels leaf hand) hand) next)
+    ∙ ap (sum_to p (places_of levels leaf hand) hand) next)
     ∙ parted p levels leaf hand (places_of levels leaf hand)
-        (IsPlacement-eviction (depths_of levels leaf hand) levels).fits
+    (IsPlacement-eviction (depths_of levels leaf hand) levels).fits

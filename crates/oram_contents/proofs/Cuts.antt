@@ -1,20 +1,15 @@
 -- The contents of a log whose last slot failed in one of its writes.
-use Rattle.std.proofs.Common.{◌≡◌, ◌<◌, ◌≤◌, ◌+◌, ◌-◌, ℕ, zero, suc, inl, inr, Bool, true, false, if◌then◌else◌, ◌==◌}
-use Rattle.std.proofs.Common.{List, [], ◌∷◌, ◌++◌, length, All, Option, None, Some, refl, sym, ◌∙◌, ap, ap₂, subst}
+use Rattle.std.proofs.Common.{◌≡◌, ◌≤◌, ◌+◌, ◌-◌, ℕ, zero, suc, inl, inr, Bool, true, false, if◌then◌else◌, ◌==◌}
+use Rattle.std.proofs.Common.{List, [], ◌∷◌, ◌++◌, Option, None, Some, refl, ◌∙◌, ap}
 use Rattle.std.proofs.Common.{arith, add-one}
 use Rattle.std.proofs.lemmas.Bool.Decides.{eqb_tells}
-use Rattle.asc_base.specs.declared.block.Counter.{Counter}
-use Rattle.asc_base.specs.declared.block.Entry.{Entry}
 use Rattle.asc_base.specs.declared.block.Point.{Point}
 use Rattle.bus_schedule.specs.Schedule.{along, reads, reads_end, writes, slot_moves}
 use Rattle.bus_watch.specs.Log.{LogLists}
-use Rattle.bus_watch.specs.declared.log.Altered.{Altered}
-use Rattle.bus_watch.specs.declared.log.Event.{Event}
-use Rattle.bus_watch.specs.declared.log.Event.TheVariants.{Tagged}
 use Rattle.bus_watch.specs.declared.log.Move.{Move}
 use Rattle.oram_contents.specs.Contents.{Contents}
 use Rattle.oram_contents.specs.PathWritten.{sealed}
-use Rattle.oram_contents.specs.Entries.{Keys, real, message_of}
+use Rattle.oram_contents.specs.Entries.{Keys}
 use Rattle.oram_contents.specs.Fold.{Fold, IsCut, LogEnd, Whole, LastFailed, RanOut, settle, partly, whole, writes_run}
 use Rattle.oram_contents.specs.Fold.{written_ok, fold_events, contents_of_log}
 
@@ -38,14 +33,14 @@ pub written_at : (levels start leaf level : ℕ) (old new : List Move)
     → writes_run 0 new ≡ level + 1
 written_at levels start leaf level old new is =
     ap (writes_run 0) is ∙ run_append 0 old (reads levels start leaf ++ along levels true
-        (reads_end levels start + 16) leaf (level + 1))
+    (reads_end levels start + 16) leaf (level + 1))
     ∙ run_append (writes_run 0 old) (reads levels start leaf)
-        (along levels true (reads_end levels start + 16) leaf (level + 1))
+    (along levels true (reads_end levels start + 16) leaf (level + 1))
     ∙ run_writes levels (reads_end levels start + 16) leaf
-        (writes_run (writes_run 0 old) (along levels false start leaf (levels + 1))) (level + 1)
+    (writes_run (writes_run 0 old) (along levels false start leaf (levels + 1))) (level + 1)
     ∙ (let none : writes_run (writes_run 0 old) (along levels false start leaf (levels + 1)) ≡ 0 = ap
-        (λ n. writes_run (writes_run 0 old) (along levels false start leaf n)) add_one_is
-        ∙ run_reads levels start leaf (writes_run 0 old) levels in omega arith)
+    (λ n. writes_run (writes_run 0 old) (along levels false start leaf n)) add_one_is
+    ∙ run_reads levels start leaf (writes_run 0 old) levels in omega arith)
   where
     add_one_is : levels + 1 ≡ suc levels
     add_one_is = rw add-one refl
@@ -63,7 +58,7 @@ module _ (keys : Keys) (first : Fold) (log : LogLists) where
       → contents_of_log keys first log end ≡ partly keys level folded
   part end level wrote within =
       ap (λ (b : Bool). (if b then (settle keys folded).now else partly keys (written_ok end log.moves) folded)) less
-          ∙ ap (λ w. partly keys w folded) wrote
+      ∙ ap (λ w. partly keys w folded) wrote
     where
       less : (written_ok end log.moves == keys.shape.levels + 1) ≡ false
       less = elim (eqb_tells (written_ok end log.moves) (keys.shape.levels + 1))
@@ -82,13 +77,13 @@ module _ (keys : Keys) (first : Fold) (log : LogLists) where
   pub cut_contents : (before : List Move) (end : LogEnd) (start level : ℕ) (p : Point) (leaf : ℕ) → IsCut end
       → level ≤ keys.shape.levels
       → log.moves ≡ before ++ (reads keys.shape.levels start leaf ++ along keys.shape.levels true
-          (reads_end keys.shape.levels start + 16) leaf (level + 1))
+      (reads_end keys.shape.levels start + 16) leaf (level + 1))
       → folded.path ≡ Some (p, leaf)
       → (contents_of_log keys first log end).mirror ≡ sealed keys.pads keys.shape.levels leaf folded.now.seed
-          folded.now.hand folded.now.mirror level
+      folded.now.hand folded.now.mirror level
   cut_contents before end start level p leaf cut within moves opened =
       let wrote : written_ok end log.moves ≡ level = (let number = cut_number end cut log.moves in let all = written_at
-          keys.shape.levels start leaf level before log.moves moves in omega arith) in
+      keys.shape.levels start leaf level before log.moves moves in omega arith) in
       ap (λ (c : Contents). c.mirror) (part end level wrote within) ∙ by_path folded level p leaf opened
 
   -- a slot ended in its reads or after them, however the log ended: no bucket is written
@@ -97,10 +92,10 @@ module _ (keys : Keys) (first : Fold) (log : LogLists) where
       → (contents_of_log keys first log end).mirror ≡ folded.now.mirror
   read_contents before end start n leaf moves =
       let none : writes_run 0 log.moves ≡ 0 = ap (writes_run 0) moves
-          ∙ run_append 0 before (along keys.shape.levels false start leaf (suc n))
-          ∙ run_reads keys.shape.levels start leaf (writes_run 0 before) n in
+      ∙ run_append 0 before (along keys.shape.levels false start leaf (suc n))
+      ∙ run_reads keys.shape.levels start leaf (writes_run 0 before) n in
       ap (λ (c : Contents). c.mirror) (part end 0 (by_end end none) (omega arith))
-          ∙ none_written folded folded.path refl
+      ∙ none_written folded folded.path refl
     where
       by_end : (end : LogEnd) → writes_run 0 log.moves ≡ 0 → written_ok end log.moves ≡ 0
       by_end Whole none = none
@@ -120,12 +115,12 @@ module _ (keys : Keys) (first : Fold) (log : LogLists) where
       run : writes_run 0 log.moves ≡ keys.shape.levels + 1
       run =
           let none : writes_run (writes_run 0 before) (along keys.shape.levels false start leaf
-              (keys.shape.levels + 1)) ≡ 0 =
-              ap (λ n. writes_run (writes_run 0 before) (along keys.shape.levels false start leaf n)) add_one_is
-                  ∙ run_reads keys.shape.levels start leaf (writes_run 0 before) keys.shape.levels in
+          (keys.shape.levels + 1)) ≡ 0 =
+          ap (λ n. writes_run (writes_run 0 before) (along keys.shape.levels false start leaf n)) add_one_is
+          ∙ run_reads keys.shape.levels start leaf (writes_run 0 before) keys.shape.levels in
           let all_writes = run_writes keys.shape.levels (reads_end keys.shape.levels start + 16) leaf
-              (writes_run (writes_run 0 before) (along keys.shape.levels false start leaf (keys.shape.levels + 1)))
-              (keys.shape.levels + 1) in
+          (writes_run (writes_run 0 before) (along keys.shape.levels false start leaf (keys.shape.levels + 1)))
+          (keys.shape.levels + 1) in
           ap (writes_run 0) moves ∙ run_append 0 before (slot_moves keys.shape.levels start leaf)
           ∙ run_append (writes_run 0 before) (reads keys.shape.levels start leaf) (writes keys.shape.levels start leaf)
           ∙ all_writes ∙ omega (arith, none)

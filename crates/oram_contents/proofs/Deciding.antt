@@ -1,10 +1,10 @@
 -- The test for a forgery decides it.
-use Rattle.std.proofs.Common.{◌≡◌, ◌≤◌, ◌<◌, ◌⊎◌, inl, inr, ℕ, Bool, true, false, not, ◌==◌, ◌&&◌, ◌||◌, nat_le}
+use Rattle.std.proofs.Common.{◌≡◌, ◌≤◌, ◌⊎◌, inl, inr, ℕ, Bool, true, false, not, ◌==◌, ◌&&◌, ◌||◌, nat_le}
 use Rattle.std.proofs.Common.{if◌then◌else◌, List, [], ◌∷◌, ◌++◌, length, refl, sym, ◌∙◌, ap, subst, arith}
 use Rattle.std.proofs.Common.{append_assoc, append-nil}
 use Rattle.std.specs.Prelude.{bytes_eq}
 use Rattle.std.specs.Bool.{Decides}
-use Rattle.std.proofs.lemmas.Bool.Decides.{Decides-at, Decides-like, Decides-not, Decides-and, Decides-or, Decides-eqb}
+use Rattle.std.proofs.lemmas.Bool.Decides.{Decides-like, Decides-not, Decides-and, Decides-or, Decides-eqb}
 use Rattle.std.proofs.lemmas.Bool.Decides.{leb_tells, not_from_Decides}
 use Rattle.std.proofs.lemmas.Slice.Eq.{bytes_eq-Decides}
 use Rattle.asc_base.specs.declared.block.Counter.{Counter}
@@ -22,7 +22,7 @@ use Rattle.oram_contents.specs.Decided.{among, same_message, tags_it, draws, poi
 use Rattle.oram_contents.specs.Decided.{reply_has, forged_at, forged_from, shows_forgery}
 use Rattle.oram_contents.specs.Entries.{Has, Keys, real, entries_in}
 use Rattle.oram_contents.specs.Forgery.{Forgery, LastDrawn, Stood}
-use Rattle.oram_contents.proofs.Among.{has_left, has_right, same_message as messages_same, tagged_same}
+use Rattle.oram_contents.proofs.Among.{has_right, same_message as messages_same, tagged_same}
 
 not_true : {P : Type 0} → (let b : Bool = false in b ≡ true) → P
 not_true e = absurd (let bad : false ≡ true = e in cc)
@@ -40,13 +40,18 @@ decides_message : (m n : Message) → Decides (same_message m n) (m ≡ n)
 decides_message m n =
     Decides-like (same_message m n)
     (λ (h : (m.address.0 ≡ n.address.0) × ((m.counter.group ≡ n.counter.group)
-        × ((m.counter.own ≡ n.counter.own) × (m.line.0 ≡ n.line.0)))). messages_same m n h.0 h.1.0 h.1.1.0 h.1.1.1)
-    (λ is. (ap (λ (x : Message). x.address.0) is, (ap (λ (x : Message). x.counter.group) is,
-        (ap (λ (x : Message). x.counter.own) is, ap (λ (x : Message). x.line.0) is))))
+    × ((m.counter.own ≡ n.counter.own) × (m.line.0 ≡ n.line.0)))). messages_same m n h.0 h.1.0 h.1.1.0 h.1.1.1)
+    (λ is. (
+      ap (λ (x : Message). x.address.0) is,
+      (
+        ap (λ (x : Message). x.counter.group) is,
+        (ap (λ (x : Message). x.counter.own) is, ap (λ (x : Message). x.line.0) is),
+      ),
+    ))
     (Decides-and (m.address.0 == n.address.0) _ (Decides-eqb m.address.0 n.address.0)
     (Decides-and (m.counter.group == n.counter.group) _ (Decides-eqb m.counter.group n.counter.group)
     (Decides-and (m.counter.own == n.counter.own) (bytes_eq m.line.0 n.line.0)
-        (Decides-eqb m.counter.own n.counter.own) (bytes_eq-Decides m.line.0 n.line.0))))
+    (Decides-eqb m.counter.own n.counter.own) (bytes_eq-Decides m.line.0 n.line.0))))
 
 decides_tags : (m : Message) (e : Event) → Decides (tags_it m e) (e ≡ Tagged m)
 decides_tags m (Access start asked) = (not_true, λ is. absurd (let bad : Access start asked ≡ Tagged m = is in cc))
@@ -66,8 +71,11 @@ decides_draws (Access start asked) = (not_true, λ h. absurd (let bad : Access s
 decides_draws (Tagged n) = (not_true, λ h. absurd (let bad : Tagged n ≡ Drawn h.0 h.1 = h.2 in cc))
 decides_draws (Accepted n t) = (not_true, λ h. absurd (let bad : Accepted n t ≡ Drawn h.0 h.1 = h.2 in cc))
 decides_draws (Chosen index) = (not_true, λ h. absurd (let bad : Chosen index ≡ Drawn h.0 h.1 = h.2 in cc))
-decides_draws (Answered line value) = (not_true, λ h. absurd
-    (let bad : Answered line value ≡ Drawn h.0 h.1 = h.2 in cc))
+decides_draws (Answered line value) = (
+  not_true,
+  λ h. absurd
+      (let bad : Answered line value ≡ Drawn h.0 h.1 = h.2 in cc),
+)
 decides_draws (Drawn p x) = (λ e. (p, x, refl), λ h. refl)
 
 real_same : (a b : ℕ) (c d : Counter) → a ≡ b → c.group ≡ d.group → c.own ≡ d.own → real a c ≡ real b d
@@ -78,11 +86,11 @@ decides_point m (Dummy n) = (not_true, λ is. absurd (let bad : Dummy n ≡ real
 decides_point m (Real a c) =
     Decides-like (point_is m (Real a c))
     (λ (h : (a.0 ≡ m.address.0) × ((c.group ≡ m.counter.group) × (c.own ≡ m.counter.own))). real_same a.0 m.address.0 c
-        m.counter h.0 h.1.0 h.1.1)
+    m.counter h.0 h.1.0 h.1.1)
     (λ is. (ap (address_in) is, (ap (λ q. (counter_in q).group) is, ap (λ q. (counter_in q).own) is)))
     (Decides-and (a.0 == m.address.0) _ (Decides-eqb a.0 m.address.0)
     (Decides-and (c.group == m.counter.group) (c.own == m.counter.own) (Decides-eqb c.group m.counter.group)
-        (Decides-eqb c.own m.counter.own)))
+    (Decides-eqb c.own m.counter.own)))
   where
     address_in : Point → ℕ
     address_in (Real b d) = b.0
@@ -97,16 +105,31 @@ drawn_point p q x y e = cc
 
 decides_draws_it : (m : Message) (e : Event) → Decides (draws_it m e)
     ((x : Leaf) × (e ≡ Drawn (real m.address.0 m.counter) x))
-decides_draws_it m (Access start asked) = (not_true, λ h. absurd
-    (let bad : Access start asked ≡ Drawn (real m.address.0 m.counter) h.0 = h.1 in cc))
-decides_draws_it m (Tagged n) = (not_true, λ h. absurd
-    (let bad : Tagged n ≡ Drawn (real m.address.0 m.counter) h.0 = h.1 in cc))
-decides_draws_it m (Accepted n t) = (not_true, λ h. absurd
-    (let bad : Accepted n t ≡ Drawn (real m.address.0 m.counter) h.0 = h.1 in cc))
-decides_draws_it m (Chosen index) = (not_true, λ h. absurd
-    (let bad : Chosen index ≡ Drawn (real m.address.0 m.counter) h.0 = h.1 in cc))
-decides_draws_it m (Answered line value) = (not_true, λ h. absurd
-    (let bad : Answered line value ≡ Drawn (real m.address.0 m.counter) h.0 = h.1 in cc))
+decides_draws_it m (Access start asked) = (
+  not_true,
+  λ h. absurd
+      (let bad : Access start asked ≡ Drawn (real m.address.0 m.counter) h.0 = h.1 in cc),
+)
+decides_draws_it m (Tagged n) = (
+  not_true,
+  λ h. absurd
+      (let bad : Tagged n ≡ Drawn (real m.address.0 m.counter) h.0 = h.1 in cc),
+)
+decides_draws_it m (Accepted n t) = (
+  not_true,
+  λ h. absurd
+      (let bad : Accepted n t ≡ Drawn (real m.address.0 m.counter) h.0 = h.1 in cc),
+)
+decides_draws_it m (Chosen index) = (
+  not_true,
+  λ h. absurd
+      (let bad : Chosen index ≡ Drawn (real m.address.0 m.counter) h.0 = h.1 in cc),
+)
+decides_draws_it m (Answered line value) = (
+  not_true,
+  λ h. absurd
+      (let bad : Answered line value ≡ Drawn (real m.address.0 m.counter) h.0 = h.1 in cc),
+)
 decides_draws_it m (Drawn p x) = Decides-like (point_is m p) (λ is. (x, ap (λ q. Drawn q x) is))
     (λ h. drawn_point p (real m.address.0 m.counter) x h.0 h.1) (decides_point m p)
 
@@ -144,13 +167,19 @@ decides_last m (e ∷ later) = by_later (decides_last m later) (among draws late
             let parts = first_same e (Drawn (real m.address.0 m.counter) leaf) later after same in
             let draw = some_later.0 is in
             absurd (none draw.2.0 draw.2.1 (subst (λ l. Has (Drawn draw.2.0 draw.2.1) l) parts.1
-                (subst (λ x. Has x later) draw.2.2 draw.1)))
+            (subst (λ x. Has x later) draw.2.2 draw.1)))
         deeper (d ∷ before) after leaf same none =
             let parts = first_same e d later (before ++ Drawn (real m.address.0 m.counter) leaf ∷ after) same in
             (before, after, leaf, parts.1, none)
     by_later next false is = Decides-like (draws_it m e)
-        (λ h. ([], later, h.0, ap (λ x. x ∷ later) h.1, λ p x has. not_from_Decides (among draws later) some_later is
-            (Drawn p x, has, (p, x, refl))))
+        (λ h. (
+          [],
+          later,
+          h.0,
+          ap (λ x. x ∷ later) h.1,
+          λ p x has. not_from_Decides (among draws later) some_later is
+              (Drawn p x, has, (p, x, refl)),
+        ))
         (λ h. here h.0 h.1 h.2 h.3)
         (decides_draws_it m e)
       where
@@ -173,24 +202,27 @@ module _ (keys : Keys) where
       → Decides (reply_has keys m t reply) (Stood keys reply m.address.0 m.line.0 t)
   decides_stood m t reply =
       Decides-like (reply_has keys m t reply) (λ h. (h.0, h.1, h.2.0, h.2.1.0, h.2.1.1))
-          (λ h. (h.0, h.1, (h.2, (h.3, h.4))))
+      (λ h. (h.0, h.1, (h.2, (h.3, h.4))))
       (decides_among (λ (e : Entry). (e.address.0 == m.address.0) && (bytes_eq e.line.0 m.line.0 && bytes_eq e.tag t))
-          (λ (e : Entry). (e.address.0 ≡ m.address.0) × ((e.line.0 ≡ m.line.0) × (e.tag ≡ t)))
+      (λ (e : Entry). (e.address.0 ≡ m.address.0) × ((e.line.0 ≡ m.line.0) × (e.tag ≡ t)))
       (λ e. Decides-and (e.address.0 == m.address.0) _ (Decides-eqb e.address.0 m.address.0)
-          (Decides-and (bytes_eq e.line.0 m.line.0) (bytes_eq e.tag t) (bytes_eq-Decides e.line.0 m.line.0)
-          (bytes_eq-Decides e.tag t)))
+      (Decides-and (bytes_eq e.line.0 m.line.0) (bytes_eq e.tag t) (bytes_eq-Decides e.line.0 m.line.0)
+      (bytes_eq-Decides e.tag t)))
       (entries_in keys reply.bytes))
 
   decides_le : (a b : ℕ) → Decides (nat_le a b) (a ≤ b)
-  decides_le a b = elim (leb_tells a b) [ inl less ↦ (λ e. less.1, λ h. less.0) | inr more ↦
-      (λ e. absurd (let bad : true ≡ false = sym e ∙ more.0 in cc), λ h. absurd (omega (arith, more.1))) ]
+  decides_le a b = elim (leb_tells a b) [
+    | inl less ↦ (λ e. less.1, λ h. less.0)
+    | inr more ↦
+        (λ e. absurd (let bad : true ≡ false = sym e ∙ more.0 in cc), λ h. absurd (omega (arith, more.1)))
+  ]
 
   -- the parts of a forgery at an event
   abbrev ForgedBy : List Altered → List Event → Message → List ℕ → Type 0
   ForgedBy altered earlier m t = (Has (Tagged m) earlier → ⊥)
       × (LastDrawn earlier m.address.0 m.counter × ((t ≡ tag keys.tags m)
       × ((reply : Altered) × Has reply altered × ((reply.before ≤ length earlier)
-          × Stood keys reply m.address.0 m.line.0 t))))
+      × Stood keys reply m.address.0 m.line.0 t))))
 
   abbrev ForgedAt : List Altered → List Event → Event → Type 0
   ForgedAt altered earlier e = (m : Message) × (t : List ℕ) × (e ≡ Accepted m t) × ForgedBy altered earlier m t
@@ -200,25 +232,34 @@ module _ (keys : Keys) where
 
   decides_at : (altered : List Altered) (earlier : List Event) (e : Event)
       → Decides (forged_at keys altered earlier e) (ForgedAt altered earlier e)
-  decides_at altered earlier (Access start asked) = (not_true, λ h. absurd
-      (let bad : Access start asked ≡ Accepted h.0 h.1 = h.2 in cc))
+  decides_at altered earlier (Access start asked) = (
+    not_true,
+    λ h. absurd
+        (let bad : Access start asked ≡ Accepted h.0 h.1 = h.2 in cc),
+  )
   decides_at altered earlier (Drawn p x) = (not_true, λ h. absurd (let bad : Drawn p x ≡ Accepted h.0 h.1 = h.2 in cc))
   decides_at altered earlier (Tagged n) = (not_true, λ h. absurd (let bad : Tagged n ≡ Accepted h.0 h.1 = h.2 in cc))
-  decides_at altered earlier (Chosen index) = (not_true, λ h. absurd
-      (let bad : Chosen index ≡ Accepted h.0 h.1 = h.2 in cc))
-  decides_at altered earlier (Answered line value) = (not_true, λ h. absurd
-      (let bad : Answered line value ≡ Accepted h.0 h.1 = h.2 in cc))
+  decides_at altered earlier (Chosen index) = (
+    not_true,
+    λ h. absurd
+        (let bad : Chosen index ≡ Accepted h.0 h.1 = h.2 in cc),
+  )
+  decides_at altered earlier (Answered line value) = (
+    not_true,
+    λ h. absurd
+        (let bad : Answered line value ≡ Accepted h.0 h.1 = h.2 in cc),
+  )
   decides_at altered earlier (Accepted m t) =
       Decides-like (forged_at keys altered earlier (Accepted m t)) (λ h. (m, t, refl, h))
       (λ h. let same = accepted_same m h.0 t h.1 h.2 in subst (λ x. ForgedBy altered earlier x t) (sym same.0)
-          (subst (λ x. ForgedBy altered earlier h.0 x) (sym same.1) h.3))
+      (subst (λ x. ForgedBy altered earlier h.0 x) (sym same.1) h.3))
       (Decides-and (not (among (tags_it m) earlier)) _ never
       (Decides-and (last_draws_it m earlier) _ (decides_last m earlier)
       (Decides-and (bytes_eq t (tag keys.tags m)) _ (bytes_eq-Decides t (tag keys.tags m))
       (decides_among (λ (reply : Altered). nat_le reply.before (length earlier) && reply_has keys m t reply)
-          (λ (reply : Altered). (reply.before ≤ length earlier) × Stood keys reply m.address.0 m.line.0 t)
+      (λ (reply : Altered). (reply.before ≤ length earlier) × Stood keys reply m.address.0 m.line.0 t)
       (λ reply. Decides-and (nat_le reply.before (length earlier)) (reply_has keys m t reply)
-          (decides_le reply.before (length earlier)) (decides_stood m t reply)) altered))))
+      (decides_le reply.before (length earlier)) (decides_stood m t reply)) altered))))
     where
       tagged : Decides (among (tags_it m) earlier) (Has (Tagged m) earlier)
       tagged = Decides-like (among (tags_it m) earlier) (λ h. subst (λ x. Has x earlier) h.2 h.1)
@@ -239,12 +280,18 @@ module _ (keys : Keys) where
       Decides-like (forged_at keys altered earlier d || forged_from keys altered (earlier ++ d ∷ []) later)
       (λ h. elim h [
         | inl here ↦ ([], d, later, refl, subst (λ l. ForgedAt altered l d) (sym (append-nil earlier)) here)
-        | inr r ↦ (d ∷ r.0, r.1, r.2, ap (λ l. d ∷ l) r.3, subst (λ l. ForgedAt altered l r.1)
-            (append_assoc earlier (d ∷ []) r.0) r.4)
+        | inr r ↦ (
+          d ∷ r.0,
+          r.1,
+          r.2,
+          ap (λ l. d ∷ l) r.3,
+          subst (λ l. ForgedAt altered l r.1)
+              (append_assoc earlier (d ∷ []) r.0) r.4,
+        )
       ])
       (λ h. place h.0 h.1 h.2 h.3 h.4)
       (Decides-or (forged_at keys altered earlier d) (forged_from keys altered (earlier ++ d ∷ []) later)
-          (decides_at altered earlier d) (decides_from altered (earlier ++ d ∷ []) later))
+      (decides_at altered earlier d) (decides_from altered (earlier ++ d ∷ []) later))
     where
       place : (before : List Event) (e : Event) (after : List Event) → (d ∷ later) ≡ before ++ e ∷ after
           → ForgedAt altered (earlier ++ before) e
@@ -252,12 +299,18 @@ module _ (keys : Keys) where
       place [] e after is at =
           let parts = first_same d e later after is in
           inl (subst (λ x. ForgedAt altered earlier x) (sym parts.0)
-              (subst (λ l. ForgedAt altered l e) (append-nil earlier) at))
+          (subst (λ l. ForgedAt altered l e) (append-nil earlier) at))
       place (b ∷ before) e after is at =
           let parts = first_same d b later (before ++ e ∷ after) is in
-          inr (before, e, after, parts.1, subst (λ l. ForgedAt altered l e)
-              (sym (append_assoc earlier (d ∷ []) before))
-              (subst (λ x. ForgedAt altered (earlier ++ x ∷ before) e) (sym parts.0) at))
+          inr (
+            before,
+            e,
+            after,
+            parts.1,
+            subst (λ l. ForgedAt altered l e)
+                (sym (append_assoc earlier (d ∷ []) before))
+                (subst (λ x. ForgedAt altered (earlier ++ x ∷ before) e) (sym parts.0) at),
+          )
 
   pub decides_forgery : (log : LogLists) → Decides (shows_forgery keys log) (Forgery keys log)
   decides_forgery log =
@@ -280,5 +333,10 @@ module _ (keys : Keys) where
       }
 
       from_forgery : Forgery keys log → ForgedFrom log.altered [] log.events
-      from_forgery f = (f.earlier, Accepted f.message f.found, f.later, f.accepted,
-          (f.message, f.found, refl, (f.never, (f.point, (f.valid, (f.reply, f.altered, (f.before, f.stood)))))))
+      from_forgery f = (
+        f.earlier,
+        Accepted f.message f.found,
+        f.later,
+        f.accepted,
+        (f.message, f.found, refl, (f.never, (f.point, (f.valid, (f.reply, f.altered, (f.before, f.stood)))))),
+      )

@@ -1,5 +1,5 @@
 -- The end of a slot, with a choice or without, changes no contents.
-use Rattle.std.proofs.Common.{◌≡◌, ◌≤◌, ◌+◌, ℕ, List, [], ◌∷◌, ◌++◌, length, refl, sym, subst, ◌∙◌, ap, arith}
+use Rattle.std.proofs.Common.{◌≡◌, ◌≤◌, ℕ, [], ◌∷◌, length, sym, subst, ◌∙◌, ap, arith}
 use Rattle.std.proofs.Common.{append-nil, length-append, inl, inr}
 use Rattle.asc_base.specs.declared.block.Counter.{Counter}
 use Rattle.asc_base.specs.declared.block.Entry.{Entry}
@@ -7,14 +7,12 @@ use Rattle.asc_base.specs.declared.block.Message.{Message}
 use Rattle.asc_base.specs.declared.block.Point.{Point}
 use Rattle.asc_base.specs.declared.block.Leaf.{Leaf}
 use Rattle.bus_watch.specs.Log.{LogLists}
-use Rattle.bus_watch.specs.declared.log.Altered.{Altered}
-use Rattle.bus_watch.specs.declared.log.Event.{Event}
 use Rattle.bus_watch.specs.declared.log.Event.TheVariants.{Chosen, Tagged, Drawn}
 use Rattle.oram_contents.specs.Contents.{Contents}
 use Rattle.oram_contents.specs.Fold.{Fold, fold_events, settle, whole}
 use Rattle.oram_contents.specs.Counts.{Ghost}
 use Rattle.oram_contents.specs.Entries.{Has, Keys}
-use Rattle.oram_contents.specs.Provenance.{Sound, Always, Came, Known, Genuine, AtMostOnce}
+use Rattle.oram_contents.specs.Provenance.{Sound, Always, Came, Known, AtMostOnce}
 use Rattle.oram_contents.specs.Forgery.{Forgery}
 use Rattle.oram_contents.proofs.Among.{has_left, has_last, once_append, once_none}
 use Rattle.oram_contents.proofs.Access.{forgery_more}
@@ -88,8 +86,12 @@ sound_ends keys old new g now e s = record {
 
 came_after : (keys : Keys) (old new : LogLists) (entry : Entry) → IsEnd old new → Came keys old entry
     → Came keys new entry
-came_after keys old new entry e (inl outside) = inl (outside.0, subst (Has outside.0)
-    (sym e.altered) outside.1, outside.2)
+came_after keys old new entry e (inl outside) = inl (
+  outside.0,
+  subst (Has outside.0)
+      (sym e.altered) outside.1,
+  outside.2,
+)
 came_after keys old new entry e (inr t) = inr (t.0, tagged_after old new t.0 e t.1, t.2, t.3, t.4)
 
 longer : (old new : LogLists) → IsEnd old new → length old.events ≤ length new.events

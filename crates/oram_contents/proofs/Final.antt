@@ -1,25 +1,20 @@
 -- A whole slot of a block that is put back.
-use Rattle.std.proofs.Common.{◌≡◌, ◌<◌, ◌≤◌, ◌+◌, ◌^◌, ◌⊎◌, inl, inr, ℕ, List, [], ◌∷◌, ◌++◌, length, Option, None}
+use Rattle.std.proofs.Common.{◌≡◌, ◌<◌, ◌⊎◌, inl, inr, ℕ, List, [], ◌∷◌, ◌++◌, length, Option, None}
 use Rattle.std.proofs.Common.{Some, refl, sym, ◌∙◌, ap, subst, append_assoc, append-nil}
 use Rattle.asc_base.specs.TreeShape.{children_of}
-use Rattle.asc_base.specs.declared.block.Address.{Address}
 use Rattle.asc_base.specs.declared.block.Counter.{Counter}
 use Rattle.asc_base.specs.declared.block.Entry.{Entry}
-use Rattle.asc_base.specs.declared.block.Leaf.{Leaf}
-use Rattle.asc_base.specs.declared.block.Point.{Point}
-use Rattle.asc_base.specs.declared.block.Point.TheVariants.{Real, Dummy}
 use Rattle.bus_watch.specs.Log.{LogLists}
-use Rattle.bus_watch.specs.declared.log.Event.{Event}
-use Rattle.bus_watch.specs.declared.log.Event.TheVariants.{Access, Drawn, Tagged, Accepted}
+use Rattle.bus_watch.specs.declared.log.Event.TheVariants.{Access, Drawn, Tagged}
 use Rattle.oram_stash.specs.Entries.{without}
-use Rattle.oram_contents.specs.Contents.{Contents, after_write}
+use Rattle.oram_contents.specs.Contents.{Contents}
 use Rattle.oram_contents.specs.Entries.{Has, Keys, AreKeys, real, message_of, entry_of}
 use Rattle.oram_contents.specs.Counts.{Ghost, line_at, line_by, put_at}
 use Rattle.oram_contents.specs.Fold.{with_entry}
 use Rattle.oram_contents.specs.Verdict.{line_found}
 use Rattle.oram_contents.specs.Forgery.{Forgery, LastDrawn}
 use Rattle.oram_contents.specs.Provenance.{Sound, Always}
-use Rattle.oram_contents.specs.Steps.{Adds, opened_at, taken, accepted, stored, landed}
+use Rattle.oram_contents.specs.Steps.{opened_at, taken, accepted, stored, landed}
 use Rattle.oram_contents.specs.Slots.{drawn_events, IsRead, IsFound, MayRise, IsPut, HasSeeds, done, IsAccess}
 use Rattle.oram_contents.specs.Slots.{IsBetween}
 use Rattle.oram_contents.proofs.Lines.{put_same}
@@ -36,12 +31,20 @@ module _ (keys : Keys) (lawful : AreKeys keys) (old new : LogLists) (g : Ghost) 
     (c : Counter) (found : Option Entry) (l : List ℕ)
     (x : IsAccess keys old new now after start a (g.count a) c found l) where
   abbrev log1 : LogLists
-  log1 = record { moves = new.moves; events = old.events ++ drawn_events keys start x.asked
-      (real a (g.count a)); altered = new.altered }
+  log1 = record {
+    moves = new.moves;
+    events = old.events ++ drawn_events keys start x.asked
+        (real a (g.count a));
+    altered = new.altered;
+  }
 
   abbrev log2 : LogLists
-  log2 = record { moves = new.moves; events = (old.events ++ drawn_events keys start x.asked (real a (g.count a)))
-      ++ accepted a (g.count a) found; altered = new.altered }
+  log2 = record {
+    moves = new.moves;
+    events = (old.events ++ drawn_events keys start x.asked (real a (g.count a)))
+        ++ accepted a (g.count a) found;
+    altered = new.altered;
+  }
 
   abbrev at_hand : Contents
   at_hand = record now { hand = x.joined }
@@ -53,21 +56,32 @@ module _ (keys : Keys) (lawful : AreKeys keys) (old new : LogLists) (g : Ghost) 
   put = with_entry (record now { hand = without x.joined (record { 0 = a }) }) (entry_of keys a c l)
 
   is_read : IsRead keys old log1 now start (real a (g.count a)) x.joined
-  is_read = record { asked = x.asked; altered = x.altered; adds = record
-      { events_are = refl; altered_are = x.altered_are }; noted = x.noted; read = x.read; of_shape = x.of_shape }
+  is_read = record {
+    asked = x.asked;
+    altered = x.altered;
+    adds = record
+        { events_are = refl; altered_are = x.altered_are };
+    noted = x.noted;
+    read = x.read;
+    of_shape = x.of_shape;
+  }
 
   is_found : IsFound keys log1 log2 x.joined a (g.count a) found
-  is_found = record { found_is = x.found_is; right = x.right; adds = record
-      { events_are = refl; altered_are = sym (append-nil new.altered) } }
+  is_found = record {
+    found_is = x.found_is;
+    right = x.right;
+    adds = record
+        { events_are = refl; altered_are = sym (append-nil new.altered) };
+  }
 
   is_put : (d : Counter) → d ≡ c → IsPut keys log2 new left put a d l
   is_put d is = subst (λ e. IsPut keys log2 new left put a e l) (sym is) (record {
     adds = record {
       events_are = x.events_are
           ∙ sym (append_assoc old.events (drawn_events keys start x.asked (real a (g.count a)))
-              (accepted a (g.count a) found ++ Tagged (message_of a c l) ∷ []))
+          (accepted a (g.count a) found ++ Tagged (message_of a c l) ∷ []))
           ∙ sym (append_assoc (old.events ++ drawn_events keys start x.asked (real a (g.count a)))
-              (accepted a (g.count a) found) (Tagged (message_of a c l) ∷ []));
+          (accepted a (g.count a) found) (Tagged (message_of a c l) ∷ []));
       altered_are = sym (append-nil new.altered);
     };
     after_is = refl;
@@ -89,18 +103,18 @@ module _ (keys : Keys) (lawful : AreKeys keys) (old new : LogLists) (g : Ghost) 
       let read = read_always keys old log1 g now start (real a (g.count a)) x.joined is_read w in
       let take = take_always keys log1 log2 at_hand a (g.count a) found is_found read in
       put_always keys lawful log2 new left put a c l inside whole
-          (λ e h. (without_has x.joined (record { 0 = a }) e read.apart h).1) (is_put c refl) take
+      (λ e h. (without_has x.joined (record { 0 = a }) e read.apart h).1) (is_put c refl) take
 
   pub final_always : (a < keys.shape.total) → length l ≡ 64 → HasSeeds now → Always keys old now → Always keys new after
   final_always inside whole room w =
       subst (λ y. Always keys new y) (sym x.after_is)
       (write_always keys lawful new put (keys.leaf_of (real a (g.count a))) (lawful.leaves (real a (g.count a))) room
-          (put_hand_always inside whole w))
+      (put_hand_always inside whole w))
 
   pub final_sound : IsBetween g → g.pend ≡ Some a → MayRise keys g a c → (Has a g.held → ⊥)
       → l ≡ line_at keys.shape (done g a c l) a → length l ≡ 64 → HasSeeds now
       → Always keys old now → Sound keys old g now → Forgery keys new
-          ⊎ (Sound keys new (done g a c l) after × (line_found found ≡ line_at keys.shape g a))
+      ⊎ (Sound keys new (done g a c l) after × (line_found found ≡ line_at keys.shape g a))
   final_sound between next rises unheld stored_is whole room w s =
       let g1 = opened_at g (real a (g.count a)) (keys.leaf_of (real a (g.count a))) in
       let rises1 : MayRise keys g1 a c = record { inside = rises.inside; up = rises.up; parent = rises.parent } in
@@ -115,9 +129,9 @@ module _ (keys : Keys) (lawful : AreKeys keys) (old new : LogLists) (g : Ghost) 
       let at : put_at g.count a c a ≡ c = put_same g.count a c in
       let s4 = put_sound keys log2 new g3 left put a l refl unheld stored_is (is_put (put_at g.count a c a) at) s3 in
       let w4 = put_always keys lawful log2 new left put a c l rises.inside whole
-          (λ e h. (without_has x.joined (record { 0 = a }) e w1.apart h).1) (is_put c refl) w2 in
+      (λ e h. (without_has x.joined (record { 0 = a }) e w1.apart h).1) (is_put c refl) w2 in
       let s5 = write_sound keys lawful new put (keys.leaf_of (real a (g.count a)))
-          (lawful.leaves (real a (g.count a))) room w4 (landed g3) refl s4 in
+      (lawful.leaves (real a (g.count a))) room w4 (landed g3) refl s4 in
       elim line [
         | inl f ↦ inl (forgery_more keys log2 new (Tagged (message_of a c l) ∷ []) [] (is_put c refl).adds f)
         | inr same ↦ inr (subst (λ y. Sound keys new (done g a c l) y) (sym x.after_is) s5, same)

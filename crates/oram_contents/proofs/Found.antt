@@ -1,6 +1,6 @@
 -- What is found at hand, taken out, and judged.
-use Rattle.std.proofs.Common.{◌≡◌, ◌⊎◌, inl, inr, ℕ, zero, suc, Bool, true, false, if◌then◌else◌, ◌==◌, List, [], ◌∷◌}
-use Rattle.std.proofs.Common.{Option, None, Some, refl, sym, ◌∙◌, ap, subst}
+use Rattle.std.proofs.Common.{◌≡◌, inl, inr, ℕ, Bool, true, false, if◌then◌else◌, List, [], ◌∷◌}
+use Rattle.std.proofs.Common.{None, Some, refl, sym, ◌∙◌, ap}
 use Rattle.std.specs.Prelude.{bytes_eq}
 use Rattle.std.proofs.lemmas.Bool.Decides.{eqb_tells}
 use Rattle.std.proofs.lemmas.Slice.Eq.{bytes_eq-Decides}
@@ -9,7 +9,7 @@ use Rattle.asc_base.specs.declared.block.Counter.{Counter}
 use Rattle.asc_base.specs.declared.block.Entry.{Entry}
 use Rattle.asc_base.specs.declared.stop.Evidence.{Evidence}
 use Rattle.asc_base.specs.declared.stop.Evidence.TheVariants.{Missing, Unexpected, BadTag}
-use Rattle.oram_stash.specs.Entries.{is_of, held, without}
+use Rattle.oram_stash.specs.Entries.{held, without}
 use Rattle.pmmac_tags.specs.Tag.{tag}
 use Rattle.posmap_counters.specs.Counters.{first_counter}
 use Rattle.oram_contents.specs.Entries.{Has, Keys, message_of}
@@ -83,8 +83,8 @@ valid_tag keys a c e is = by_test (is_first c) (bytes_eq e.tag (tag keys.tags (m
   where
     by_test : (b d : Bool) → bytes_eq e.tag (tag keys.tags (message_of a c e.line.0)) ≡ d
         → (if b then Some (Unexpected (record { 0 = a })) else
-            (if d then None else Some (BadTag (message_of a c e.line.0) e.tag
-            (tag keys.tags (message_of a c e.line.0))))) ≡ None
+        (if d then None else Some (BadTag (message_of a c e.line.0) e.tag
+        (tag keys.tags (message_of a c e.line.0))))) ≡ None
         → e.tag ≡ tag keys.tags (message_of a c e.line.0)
     by_test true d at is = evidence_is_not is
     by_test false true at is = (bytes_eq-Decides e.tag (tag keys.tags (message_of a c e.line.0))).0 at

@@ -1,7 +1,7 @@
 -- No block is lost or doubled while no reply is altered.
-use Rattle.std.proofs.Common.{◌≡◌, ◌≢◌, ◌<◌, ◌≤◌, ◌+◌, ◌*◌, ◌^◌, ◌⊎◌, inl, inr, ℕ, zero, suc, Bool, true, false}
-use Rattle.std.proofs.Common.{if◌then◌else◌, ◌==◌, List, [], ◌∷◌, ◌++◌, length, map, flat_map, get_or, take, slice_get}
-use Rattle.std.proofs.Common.{count_by, Option, None, Some, Ok, refl, sym, ◌∙◌, ap, ap₂, subst, arith, add-one}
+use Rattle.std.proofs.Common.{◌≡◌, ◌<◌, ◌≤◌, ◌+◌, ◌^◌, ◌⊎◌, inl, inr, ℕ, zero, suc, Bool, true, false}
+use Rattle.std.proofs.Common.{if◌then◌else◌, ◌==◌, List, [], ◌∷◌, ◌++◌, length, map, flat_map, get_or}
+use Rattle.std.proofs.Common.{count_by, None, Some, refl, sym, ◌∙◌, ap, ap₂, subst, arith}
 use Rattle.std.specs.List.{range_with_len}
 use Rattle.std.specs.Option.{option_to_list}
 use Rattle.std.specs.Prelude.{unwrap_or}
@@ -9,31 +9,25 @@ use Rattle.std.proofs.lemmas.Bool.{cases_eq}
 use Rattle.std.proofs.lemmas.Bool.Decides.{eqb_tells}
 use Rattle.std.proofs.lemmas.Option.{get_or_from_slice_get, unwrap_or-slice_get}
 use Rattle.asc_base.specs.TreeShape.{bucket_of}
-use Rattle.asc_base.specs.declared.block.Address.{Address}
-use Rattle.asc_base.specs.declared.block.Counter.{Counter}
 use Rattle.asc_base.specs.declared.block.Entry.{Entry}
 use Rattle.asc_base.proofs.Paths.{bucket_of-lt, bucket_of-apart}
-use Rattle.asc_base.proofs.ShapeFacts.{IsLayered, shape_layered}
+use Rattle.asc_base.proofs.ShapeFacts.{shape_layered}
 use Rattle.bucket_codec.specs.Bucket.{opened, bucket_text}
-use Rattle.oram_stash.specs.Entries.{is_of, held, without}
 use Rattle.path_evict.proofs.Tally.{count_by-yes, count_by-no}
 use Rattle.oram_contents.specs.Contents.{Contents, entries_of, IsReadTo, after_write}
 use Rattle.oram_contents.specs.Copies.{copies_to}
-use Rattle.oram_contents.specs.PathRead.{replies, reply_at}
+use Rattle.oram_contents.specs.PathRead.{replies}
 use Rattle.oram_contents.specs.PathWritten.{sealed, slots_at, stays}
 use Rattle.oram_contents.specs.Shapes.{AreOfShape}
 use Rattle.oram_contents.proofs.ContentsLaws.{sealed-on, sealed-off, opened-sealed}
 use Rattle.oram_contents.proofs.CopyLaws.{copies_add_up}
 use Rattle.oram_contents.proofs.JoinLaws.{buckets-joined}
-use Rattle.oram_contents.specs.Entries.{Has, Keys, AreKeys, entries_at, entries_in, entry_of}
-use Rattle.oram_contents.specs.Counts.{Ghost, put_at}
-use Rattle.oram_contents.specs.Fold.{with_entry}
-use Rattle.oram_contents.specs.Home.{total, meets, is_open, is_copy, copies, tree_copies, flying, places, Home}
-use Rattle.oram_contents.specs.Provenance.{Always}
+use Rattle.oram_contents.specs.Entries.{Keys, AreKeys, entries_at, entries_in}
+use Rattle.oram_contents.specs.Counts.{Ghost}
+use Rattle.oram_contents.specs.Home.{total, meets, is_copy, copies, tree_copies, flying, Home}
 use Rattle.oram_contents.specs.Slots.{HasSeeds}
-use Rattle.oram_contents.specs.Steps.{taken, landed, closed, inserted}
-use Rattle.oram_contents.specs.Verdict.{is_first, judged}
-use Rattle.oram_contents.proofs.Lines.{put_same, put_other}
+use Rattle.oram_contents.specs.Steps.{closed}
+use Rattle.oram_contents.specs.Verdict.{is_first}
 use Rattle.oram_contents.proofs.Placing.{buckets_are}
 
 -- sums
@@ -72,28 +66,28 @@ meets_below : (levels leaf n k : ℕ) → leaf < 2 ^ levels → n ≤ k → k �
 meets_below levels leaf zero k within less in_k = refl
 meets_below levels leaf (suc n) k within less in_k = elim
     (eqb_tells (bucket_of levels leaf k) (bucket_of levels leaf n)) [
-  | inl same ↦ absurd (bucket_of-apart levels leaf leaf k n (λ e. omega (arith, e)) in_k
-      (omega arith) within within same.1)
-  | inr other ↦ rw other.0 (meets_below levels leaf n k within (omega arith) in_k)
-]
+      | inl same ↦ absurd (bucket_of-apart levels leaf leaf k n (λ e. omega (arith, e)) in_k
+          (omega arith) within within same.1)
+      | inr other ↦ rw other.0 (meets_below levels leaf n k within (omega arith) in_k)
+    ]
 
 -- the buckets of a path, and those off it, are all buckets
 total_path : (levels leaf buckets : ℕ) (f : ℕ → ℕ) (n : ℕ) → leaf < 2 ^ levels
     → ((k : ℕ) → k ≤ levels → bucket_of levels leaf k < buckets) → n ≤ levels + 1
     → total (λ b. (if meets levels leaf n b then 0 else f b)) buckets + total
-        (λ k. f (bucket_of levels leaf k)) n ≡ total f buckets
+    (λ k. f (bucket_of levels leaf k)) n ≡ total f buckets
 total_path levels leaf buckets f zero within inside few = omega arith
 total_path levels leaf buckets f (suc n) within inside few =
     let before = total_path levels leaf buckets f n within inside (omega arith) in
     let one = total_but (λ b. (if meets levels leaf n b then 0 else f b)) (bucket_of levels leaf n) buckets
-        (inside n (omega arith)) in
+    (inside n (omega arith)) in
     let here : (if meets levels leaf n (bucket_of levels leaf n) then 0 else f (bucket_of levels leaf n)) ≡ f
-        (bucket_of levels leaf n) =
-        ap (λ b. (if b then 0 else f (bucket_of levels leaf n)))
-            (meets_below levels leaf n n within (omega arith) (omega arith)) in
+    (bucket_of levels leaf n) =
+    ap (λ b. (if b then 0 else f (bucket_of levels leaf n)))
+    (meets_below levels leaf n n within (omega arith) (omega arith)) in
     let same = total_same (λ b. (if meets levels leaf (suc n) b then 0 else f b))
-        (λ b. (if b == bucket_of levels leaf n then 0 else (if meets levels leaf n b then 0 else f b))) buckets
-        (λ b less. split b (b == bucket_of levels leaf n)) in
+    (λ b. (if b == bucket_of levels leaf n then 0 else (if meets levels leaf n b then 0 else f b))) buckets
+    (λ b less. split b (b == bucket_of levels leaf n)) in
     omega arith
   where
     split : (b : ℕ) (t : Bool) → (if (if t then true else meets levels leaf n b) then 0 else f b) ≡
@@ -125,15 +119,15 @@ copies_of_path keys a r from zero = refl
 copies_of_path keys a r from (suc n) =
     let before = copies_of_path keys a r (from + 1) n in
     let parts = copies_append a (entries_in keys (r from))
-        (flat_map entries_of (map (opened keys.pads keys.shape) (map r (range_with_len (from + 1) n)))) in
+    (flat_map entries_of (map (opened keys.pads keys.shape) (map r (range_with_len (from + 1) n)))) in
     let first = total_first (λ k. copies a (entries_in keys (r (from + k)))) n in
     let zeroth : copies a (entries_in keys (r (from + 0))) ≡ copies a (entries_in keys (r from)) = ap
-        (λ m. copies a (entries_in keys (r m))) (omega arith) in
+    (λ m. copies a (entries_in keys (r m))) (omega arith) in
     let rest : total (λ k. copies a (entries_in keys (r (from + 1 + k)))) n ≡ total
-        (λ k. copies a (entries_in keys (r (from + suc k)))) n = total_same _ _ n
-        (λ k less. ap (λ m. copies a (entries_in keys (r m))) (omega arith)) in
+    (λ k. copies a (entries_in keys (r (from + suc k)))) n = total_same _ _ n
+    (λ k less. ap (λ m. copies a (entries_in keys (r m))) (omega arith)) in
     parts ∙ ap (λ m. copies a (entries_in keys (r from)) + m) (before ∙ rest)
-        ∙ ap (λ m. m + total (λ k. copies a (entries_in keys (r (from + suc k)))) n) (sym zeroth) ∙ sym first
+    ∙ ap (λ m. m + total (λ k. copies a (entries_in keys (r (from + suc k)))) n) (sym zeroth) ∙ sym first
 
 -- the buckets after a path is written
 abbrev written : Keys → ℕ → Contents → List (List ℕ)
@@ -142,17 +136,22 @@ written keys leaf now = sealed keys.pads keys.shape.levels leaf now.seed now.han
 module _ (keys : Keys) (lawful : AreKeys keys) where
   pub path_inside : (leaf k : ℕ) → leaf < 2 ^ keys.shape.levels → k ≤ keys.shape.levels
       → bucket_of keys.shape.levels leaf k < keys.shape.buckets
-  path_inside leaf k within less = omega (arith, (shape_layered keys.shape lawful.shape).buckets, buckets_are
-      keys.shape.levels, bucket_of-lt keys.shape.levels leaf k less within)
+  path_inside leaf k within less = omega (
+    arith,
+    (shape_layered keys.shape lawful.shape).buckets,
+    buckets_are
+        keys.shape.levels,
+    bucket_of-lt keys.shape.levels leaf k less within,
+  )
 
   -- the copies of a tree are those off a path and those on it
   pub tree_split : (mirror : List (List ℕ)) (leaf a : ℕ) → leaf < 2 ^ keys.shape.levels
       → tree_copies keys (Some leaf) mirror a + total (λ k. copies a
-          (entries_at keys mirror (bucket_of keys.shape.levels leaf k)))
-          (keys.shape.levels + 1) ≡ tree_copies keys None mirror a
+      (entries_at keys mirror (bucket_of keys.shape.levels leaf k)))
+      (keys.shape.levels + 1) ≡ tree_copies keys None mirror a
   tree_split mirror leaf a within =
       total_path keys.shape.levels leaf keys.shape.buckets (λ b. copies a (entries_at keys mirror b))
-          (keys.shape.levels + 1) within (λ k less. path_inside leaf k within less) (omega arith)
+      (keys.shape.levels + 1) within (λ k less. path_inside leaf k within less) (omega arith)
 
   -- a path read without an altered reply moves its entries from the tree to the hand
   pub home_read : (g : Ghost) (now : Contents) (start leaf : ℕ) (joined : List Entry) (dummies : ℕ)
@@ -161,26 +160,26 @@ module _ (keys : Keys) (lawful : AreKeys keys) where
   home_read g now start leaf joined dummies within shut read home a inside =
       let r : ℕ → List ℕ = λ level. get_or now.mirror (bucket_of keys.shape.levels leaf level) [] in
       let came = flat_map entries_of (map (opened keys.pads keys.shape)
-          (replies keys.shape.levels start leaf now.mirror [])) in
+      (replies keys.shape.levels start leaf now.mirror [])) in
       let whole : joined ≡ now.hand ++ came = buckets-joined keys.shape.levels leaf 0
-          (map (opened keys.pads keys.shape) (replies keys.shape.levels start leaf now.mirror [])) now.hand joined read
-          in
+      (map (opened keys.pads keys.shape) (replies keys.shape.levels start leaf now.mirror [])) now.hand joined read
+      in
       let grown : copies a joined ≡ copies a now.hand + copies a came = ap (copies a) whole
-          ∙ copies_append a now.hand came in
+      ∙ copies_append a now.hand came in
       let path : copies a came ≡ total (λ k. copies a (entries_in keys (r (0 + k))))
-          (keys.shape.levels + 1) = copies_of_path keys a r 0 (keys.shape.levels + 1) in
+      (keys.shape.levels + 1) = copies_of_path keys a r 0 (keys.shape.levels + 1) in
       let plain : total (λ k. copies a (entries_in keys (r (0 + k)))) (keys.shape.levels + 1) ≡ total
-          (λ k. copies a (entries_at keys now.mirror (bucket_of keys.shape.levels leaf k))) (keys.shape.levels + 1) =
-          total_same _ _ (keys.shape.levels + 1) (λ k less. ap (λ m. copies a (entries_in keys (r m))) (omega arith)) in
+      (λ k. copies a (entries_at keys now.mirror (bucket_of keys.shape.levels leaf k))) (keys.shape.levels + 1) =
+      total_same _ _ (keys.shape.levels + 1) (λ k less. ap (λ m. copies a (entries_in keys (r m))) (omega arith)) in
       let split = tree_split now.mirror leaf a within in
       let old : copies a now.hand + (tree_copies keys None now.mirror a +
-          (count_by (λ b. b == a) g.held + flying a g.flight)) ≡ (if is_first (g.count a) then 0 else 1) =
-          subst (λ p. copies a now.hand + (tree_copies keys p now.mirror a +
-              (count_by (λ b. b == a) g.held + flying a g.flight)) ≡ (if is_first (g.count a) then 0 else 1)) shut
-              (home a inside) in
+      (count_by (λ b. b == a) g.held + flying a g.flight)) ≡ (if is_first (g.count a) then 0 else 1) =
+      subst (λ p. copies a now.hand + (tree_copies keys p now.mirror a +
+      (count_by (λ b. b == a) g.held + flying a g.flight)) ≡ (if is_first (g.count a) then 0 else 1)) shut
+      (home a inside) in
       adds (copies a joined) (copies a now.hand) (copies a came) (tree_copies keys (Some leaf) now.mirror a)
-          (tree_copies keys None now.mirror a) _ grown
-          (ap (λ m. tree_copies keys (Some leaf) now.mirror a + m) (path ∙ plain) ∙ split) ∙ old
+      (tree_copies keys None now.mirror a) _ grown
+      (ap (λ m. tree_copies keys (Some leaf) now.mirror a + m) (path ∙ plain) ∙ split) ∙ old
     where
       adds : (joined hand came off shut rest : ℕ) → joined ≡ hand + came → off + came ≡ shut
           → joined + (off + rest) ≡ hand + (shut + rest)
@@ -192,23 +191,23 @@ module _ (keys : Keys) (lawful : AreKeys keys) where
       → Home keys g now → Home keys (closed g) (after_write keys.pads keys.shape.levels leaf now)
   home_write g now leaf within opened_at_leaf of_shape mirrored some below home a inside =
       let old : copies a now.hand + (tree_copies keys (Some leaf) now.mirror a +
-          (count_by (λ b. b == a) g.held + flying a g.flight)) ≡ (if is_first (g.count a) then 0 else 1) =
-          subst (λ p. copies a now.hand + (tree_copies keys p now.mirror a +
-              (count_by (λ b. b == a) g.held + flying a g.flight)) ≡ (if is_first (g.count a) then 0 else 1))
-              opened_at_leaf (home a inside) in
+      (count_by (λ b. b == a) g.held + flying a g.flight)) ≡ (if is_first (g.count a) then 0 else 1) =
+      subst (λ p. copies a now.hand + (tree_copies keys p now.mirror a +
+      (count_by (λ b. b == a) g.held + flying a g.flight)) ≡ (if is_first (g.count a) then 0 else 1))
+      opened_at_leaf (home a inside) in
       let split = tree_split (written keys leaf now) leaf a within in
       let off : tree_copies keys (Some leaf) (written keys leaf now) a ≡ tree_copies keys
-          (Some leaf) now.mirror a = total_same _ _ keys.shape.buckets
-          (λ b less. off_at b (meets keys.shape.levels leaf (keys.shape.levels + 1) b) refl) in
+      (Some leaf) now.mirror a = total_same _ _ keys.shape.buckets
+      (λ b less. off_at b (meets keys.shape.levels leaf (keys.shape.levels + 1) b) refl) in
       let on : total (λ k. copies a (entries_at keys (written keys leaf now) (bucket_of keys.shape.levels leaf k)))
-          (keys.shape.levels + 1) ≡ copies_to (is_copy a) keys.shape.levels leaf now.hand (keys.shape.levels + 1) =
-          total_same _ _ (keys.shape.levels + 1) (λ k less. ap (copies a) (on_at k (omega (arith, less))))
-              ∙ placed_sum (keys.shape.levels + 1) in
+      (keys.shape.levels + 1) ≡ copies_to (is_copy a) keys.shape.levels leaf now.hand (keys.shape.levels + 1) =
+      total_same _ _ (keys.shape.levels + 1) (λ k less. ap (copies a) (on_at k (omega (arith, less))))
+      ∙ placed_sum (keys.shape.levels + 1) in
       let parted = copies_add_up (is_copy a) keys.shape.levels leaf now.hand in
       adds (copies a (stays keys.shape.levels leaf now.hand))
-          (copies_to (is_copy a) keys.shape.levels leaf now.hand (keys.shape.levels + 1)) (copies a now.hand)
-          (tree_copies keys (Some leaf) now.mirror a) (tree_copies keys None (written keys leaf now) a) _ parted
-          (ap₂ (λ x y. x + y) (sym off) (sym on) ∙ split) ∙ old
+      (copies_to (is_copy a) keys.shape.levels leaf now.hand (keys.shape.levels + 1)) (copies a now.hand)
+      (tree_copies keys (Some leaf) now.mirror a) (tree_copies keys None (written keys leaf now) a) _ parted
+      (ap₂ (λ x y. x + y) (sym off) (sym on) ∙ split) ∙ old
     where
       adds : (stay placed hand off shut rest : ℕ) → stay + placed ≡ hand → off + placed ≡ shut
           → stay + (shut + rest) ≡ hand + (off + rest)
@@ -241,27 +240,27 @@ module _ (keys : Keys) (lawful : AreKeys keys) where
           ∙ sym (ap (λ t. (if t then 0 else copies a (entries_at keys now.mirror b))) is)
       off_at b false is =
           let kept = sealed-off keys.pads keys.shape.levels leaf now.seed now.hand now.mirror (keys.shape.levels + 1) b
-              (λ level less same. (let both : true ≡ false = sym
-                  (meets_all (keys.shape.levels + 1) level b less (sym same)) ∙ is in cc)) in
+          (λ level less same. (let both : true ≡ false = sym
+          (meets_all (keys.shape.levels + 1) level b less (sym same)) ∙ is in cc)) in
           let same : get_or (sealed keys.pads keys.shape.levels leaf now.seed now.hand now.mirror
-              (keys.shape.levels + 1)) b [] ≡ get_or now.mirror b [] =
-              sym (unwrap_or-slice_get (sealed keys.pads keys.shape.levels leaf now.seed now.hand now.mirror
-                  (keys.shape.levels + 1)) b []) ∙ ap (λ o. unwrap_or o []) kept
-                  ∙ unwrap_or-slice_get now.mirror b [] in
+          (keys.shape.levels + 1)) b [] ≡ get_or now.mirror b [] =
+          sym (unwrap_or-slice_get (sealed keys.pads keys.shape.levels leaf now.seed now.hand now.mirror
+          (keys.shape.levels + 1)) b []) ∙ ap (λ o. unwrap_or o []) kept
+          ∙ unwrap_or-slice_get now.mirror b [] in
           ap (λ t. (if meets keys.shape.levels leaf (keys.shape.levels + 1) b then 0 else copies a
-              (entries_in keys t))) same
+          (entries_in keys t))) same
 
       on_at : (level : ℕ) → level ≤ keys.shape.levels → entries_at keys (written keys leaf now)
           (bucket_of keys.shape.levels leaf level) ≡ flat_map option_to_list
           (slots_at keys.shape.levels leaf now.hand level)
       on_at level less =
           let there : bucket_of keys.shape.levels leaf level < length now.mirror = omega
-              (arith, mirrored, path_inside leaf level within less) in
+          (arith, mirrored, path_inside leaf level within less) in
           let text = sealed-on keys.pads keys.shape.levels leaf now.seed now.hand now.mirror
-              (keys.shape.levels + 1) level (omega arith) (omega arith) within there in
+          (keys.shape.levels + 1) level (omega arith) (omega arith) within there in
           let bytes = get_or_from_slice_get (sealed keys.pads keys.shape.levels leaf now.seed now.hand now.mirror
-              (keys.shape.levels + 1)) (bucket_of keys.shape.levels leaf level)
-              (bucket_text keys.pads (now.seed + level) (slots_at keys.shape.levels leaf now.hand level)) [] text in
+          (keys.shape.levels + 1)) (bucket_of keys.shape.levels leaf level)
+          (bucket_text keys.pads (now.seed + level) (slots_at keys.shape.levels leaf now.hand level)) [] text in
           ap entries_of (ap (opened keys.pads keys.shape) bytes
-              ∙ opened-sealed keys.pads keys.shape leaf (now.seed + level) level now.hand (omega arith)
-              (omega (arith, (shape_layered keys.shape lawful.shape).levels_to)) of_shape)
+          ∙ opened-sealed keys.pads keys.shape leaf (now.seed + level) level now.hand (omega arith)
+          (omega (arith, (shape_layered keys.shape lawful.shape).levels_to)) of_shape)

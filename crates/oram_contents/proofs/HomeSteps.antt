@@ -1,29 +1,27 @@
 -- Home is kept where blocks are taken, put, held and renumbered.
-use Rattle.std.proofs.Common.{◌≡◌, ◌<◌, ◌≤◌, ◌+◌, ◌^◌, ◌⊎◌, inl, inr, ℕ, zero, suc, Bool, true, false, if◌then◌else◌}
-use Rattle.std.proofs.Common.{◌==◌, List, [], ◌∷◌, ◌++◌, length, take, slice_get, count_by, Option, None, Some, refl}
-use Rattle.std.proofs.Common.{sym, ◌∙◌, ap, ap₂, subst, arith}
+use Rattle.std.proofs.Common.{◌≡◌, ◌≤◌, ◌+◌, ◌⊎◌, inl, inr, ℕ, zero, suc, Bool, true, false, if◌then◌else◌}
+use Rattle.std.proofs.Common.{◌==◌, List, [], ◌∷◌, length, take, slice_get, count_by, Option, None, Some, refl}
+use Rattle.std.proofs.Common.{sym, ◌∙◌, ap, subst, arith}
 use Rattle.std.specs.Prelude.{bytes_eq}
 use Rattle.std.proofs.lemmas.Bool.{cases_eq}
 use Rattle.std.proofs.lemmas.Bool.Decides.{eqb_tells}
 use Rattle.asc_base.specs.declared.block.Address.{Address}
 use Rattle.asc_base.specs.declared.block.Counter.{Counter}
 use Rattle.asc_base.specs.declared.block.Entry.{Entry}
-use Rattle.asc_base.specs.declared.block.Point.TheVariants.{Real, Dummy}
-use Rattle.asc_base.specs.declared.stop.Evidence.TheVariants.{Missing, Unexpected, BadTag}
+use Rattle.asc_base.specs.declared.stop.Evidence.TheVariants.{Unexpected, BadTag}
 use Rattle.bus_watch.specs.Log.{LogLists}
-use Rattle.oram_stash.specs.Entries.{is_of, held, without}
+use Rattle.oram_stash.specs.Entries.{held, without}
 use Rattle.path_evict.proofs.Tally.{count_by-yes, count_by-no}
 use Rattle.pmmac_tags.specs.Tag.{tag}
 use Rattle.posmap_counters.specs.Counters.{IsBefore, first_counter}
-use Rattle.oram_contents.specs.Contents.{Contents, after_write, IsReadTo}
-use Rattle.oram_contents.specs.Shapes.{AreOfShape}
-use Rattle.oram_contents.specs.Entries.{Has, Keys, AreKeys, real, message_of, entry_of, entries_at}
+use Rattle.oram_contents.specs.Contents.{Contents, IsReadTo}
+use Rattle.oram_contents.specs.Entries.{Keys, AreKeys, real, message_of, entry_of}
 use Rattle.oram_contents.specs.Counts.{Ghost, put_at}
 use Rattle.oram_contents.specs.Fold.{with_entry}
-use Rattle.oram_contents.specs.Home.{total, meets, is_open, is_copy, copies, tree_copies, flying, places, Home}
+use Rattle.oram_contents.specs.Home.{copies, tree_copies, flying, Home}
 use Rattle.oram_contents.specs.Provenance.{Always}
 use Rattle.oram_contents.specs.Slots.{HasSeeds, IsAccess, done}
-use Rattle.oram_contents.specs.Steps.{opened_at, taken, raised, landed, closed, inserted, stored}
+use Rattle.oram_contents.specs.Steps.{opened_at, taken, raised, landed, inserted, stored}
 use Rattle.oram_contents.specs.Verdict.{is_first, judged}
 use Rattle.oram_contents.proofs.Lines.{put_same, put_other}
 use Rattle.oram_contents.proofs.Found.{nothing_wrong}
@@ -34,11 +32,17 @@ later_not_first : (x c : Counter) → IsBefore x c → is_first c ≡ false
 later_not_first x c up = by_own up
   where
     by_own : IsBefore x c → is_first c ≡ false
-    by_own (inl more) = elim (eqb_tells c.group 0) [ inl none ↦ absurd
-        (omega (arith, none.1)) | inr some ↦ rw some.0 refl ]
+    by_own (inl more) = elim (eqb_tells c.group 0) [
+      | inl none ↦ absurd
+          (omega (arith, none.1))
+      | inr some ↦ rw some.0 refl
+    ]
     by_own (inr more) = elim (eqb_tells c.group 0) [
-      | inl none ↦ elim (eqb_tells c.own 0) [ inl own ↦ absurd (omega (arith, own.1, more.1)) | inr some ↦ rw
-          (none.0, some.0) refl ]
+      | inl none ↦ elim (eqb_tells c.own 0) [
+        | inl own ↦ absurd (omega (arith, own.1, more.1))
+        | inr some ↦ rw
+            (none.0, some.0) refl
+      ]
       | inr some ↦ rw some.0 refl
     ]
 
@@ -47,8 +51,8 @@ found_not_first keys a c e is = by_test (is_first c) refl is
   where
     by_test : (b : Bool) → is_first c ≡ b
         → (if b then Some (Unexpected (record { 0 = a })) else
-            (if bytes_eq e.tag (tag keys.tags (message_of a c e.line.0)) then None else Some
-            (BadTag (message_of a c e.line.0) e.tag (tag keys.tags (message_of a c e.line.0))))) ≡ None
+        (if bytes_eq e.tag (tag keys.tags (message_of a c e.line.0)) then None else Some
+        (BadTag (message_of a c e.line.0) e.tag (tag keys.tags (message_of a c e.line.0))))) ≡ None
         → is_first c ≡ false
     by_test true at bad = let wrong : Some (Unexpected (record { 0 = a })) ≡ None = bad in cc
     by_test false at ok = at
@@ -87,7 +91,7 @@ module _ (keys : Keys) where
   pub home_take : (g : Ghost) (now : Contents) (a : ℕ) (c : Counter) (found : Option Entry) → g.flight ≡ None
       → IsBefore (g.count a) c
       → held now.hand (record { 0 = a }) ≡ found → judged keys a (g.count a) found ≡ None → Home keys g now
-          → Home keys (taken g a c) (record now { hand = without now.hand (record { 0 = a }) })
+      → Home keys (taken g a c) (record now { hand = without now.hand (record { 0 = a }) })
   home_take g now a c found grounded up found_is right home b inside = by_block (cases_eq b a)
     where
       old : copies b now.hand + (tree_copies keys g.path now.mirror b +
@@ -103,16 +107,16 @@ module _ (keys : Keys) where
 
       by_found : (o : Option Entry) → b ≡ a → held now.hand (record { 0 = a }) ≡ o → judged keys a (g.count a) o ≡ None
           → copies b (without now.hand (record { 0 = a })) +
-              (tree_copies keys g.path now.mirror b + (count_by (λ x. x == b) g.held + one_of a b)) ≡ 1
+          (tree_copies keys g.path now.mirror b + (count_by (λ x. x == b) g.held + one_of a b)) ≡ 1
       by_found None is found_is right =
           let none : seat (g.count b) ≡ 0 = ap (λ x. seat (g.count x)) is
-              ∙ ap (λ x. seat x) (nothing_wrong keys a (g.count a) right) in
+          ∙ ap (λ x. seat x) (nothing_wrong keys a (g.count a) right) in
           let left = out None found_is in
           let one = one_same a b is in
           omega (arith, old)
       by_found (Some e) is found_is right =
           let some : seat (g.count b) ≡ 1 = ap (λ x. seat (g.count x)) is
-              ∙ ap (λ t. of_first t) (found_not_first keys a (g.count a) e right) in
+          ∙ ap (λ t. of_first t) (found_not_first keys a (g.count a) e right) in
           let left = out (Some e) found_is in
           let one = one_same a b is in
           omega (arith, old)
@@ -124,17 +128,17 @@ module _ (keys : Keys) where
 
       by_block : (b ≡ a) ⊎ (b ≡ a → ⊥)
           → copies b (without now.hand (record { 0 = a })) +
-              (tree_copies keys g.path now.mirror b + (count_by (λ x. x == b) g.held + one_of a b)) ≡ seat
-              (put_at g.count a c b)
+          (tree_copies keys g.path now.mirror b + (count_by (λ x. x == b) g.held + one_of a b)) ≡ seat
+          (put_at g.count a c b)
       by_block (inl is) =
           by_found found is found_is right
           ∙ sym (ap (λ x. seat x) (ap (put_at g.count a c) is ∙ put_same g.count a c)
-              ∙ ap (λ t. of_first t) (later_not_first (g.count a) c up))
+          ∙ ap (λ t. of_first t) (later_not_first (g.count a) c up))
       by_block (inr other) =
           let same = by_other found other found_is in
           let none = one_other a b other in
           let counted : seat (put_at g.count a c b) ≡ seat (g.count b) = ap (λ x. seat x)
-              (put_other g.count a c b other) in
+          (put_other g.count a c b other) in
           omega (arith, old)
 
   -- the block in flight is put at hand
@@ -142,9 +146,9 @@ module _ (keys : Keys) where
       → Home keys g now → Home keys (landed g) (with_entry now e)
   home_put g now a e is flying_it home b inside =
       let old : copies b now.hand + (tree_copies keys g.path now.mirror b +
-          (count_by (λ x. x == b) g.held + one_of a b)) ≡ seat (g.count b) =
-          subst (λ f. copies b now.hand + (tree_copies keys g.path now.mirror b +
-              (count_by (λ x. x == b) g.held + flying b f)) ≡ seat (g.count b)) flying_it (home b inside) in
+      (count_by (λ x. x == b) g.held + one_of a b)) ≡ seat (g.count b) =
+      subst (λ f. copies b now.hand + (tree_copies keys g.path now.mirror b +
+      (count_by (λ x. x == b) g.held + flying b f)) ≡ seat (g.count b)) flying_it (home b inside) in
       let grown = copies_append b now.hand (e ∷ []) in
       let one = copies_cons b e [] in
       let mine : one_of e.address.0 b ≡ one_of a b = ap (λ n. one_of n b) is in
@@ -175,9 +179,9 @@ module _ (keys : Keys) where
       → Home keys g now → Home keys (inserted g plb a) now
   home_insert g now plb a flying_it few home b inside =
       let old : copies b now.hand + (tree_copies keys g.path now.mirror b +
-          (count_by (λ x. x == b) g.held + one_of a b)) ≡ seat (g.count b) =
-          subst (λ f. copies b now.hand + (tree_copies keys g.path now.mirror b +
-              (count_by (λ x. x == b) g.held + flying b f)) ≡ seat (g.count b)) flying_it (home b inside) in
+      (count_by (λ x. x == b) g.held + one_of a b)) ≡ seat (g.count b) =
+      subst (λ f. copies b now.hand + (tree_copies keys g.path now.mirror b +
+      (count_by (λ x. x == b) g.held + flying b f)) ≡ seat (g.count b)) flying_it (home b inside) in
       let all = taken_or_last b plb (a ∷ g.held) (omega (arith, few)) in
       let whole = count_cons b a g.held in
       omega arith
@@ -191,7 +195,7 @@ module _ (keys : Keys) where
       counted : (b ≡ a) ⊎ (b ≡ a → ⊥) → seat (put_at g.count a c b) ≡ seat (g.count b)
       counted (inl is) =
           ap (λ x. seat x) (ap (put_at g.count a c) is ∙ put_same g.count a c)
-              ∙ ap (λ t. of_first t) (later_not_first (g.count a) c up)
+          ∙ ap (λ t. of_first t) (later_not_first (g.count a) c up)
           ∙ sym (ap (λ x. seat (g.count x)) is ∙ ap (λ t. of_first t) (later_not_first first_counter (g.count a) some))
       counted (inr other) = ap (λ x. seat x) (put_other g.count a c b other)
 
@@ -199,7 +203,7 @@ module _ (keys : Keys) where
   pub home_access : (lawful : AreKeys keys) (old new : LogLists) (g : Ghost) (now after : Contents) (start a : ℕ)
       (c : Counter) (found : Option Entry) (l : List ℕ)
       (x : IsAccess keys old new now after start a (g.count a) c found l) → x.altered ≡ [] → g.path ≡ None
-          → g.flight ≡ None → IsBefore (g.count a) c → HasSeeds now
+      → g.flight ≡ None → IsBefore (g.count a) c → HasSeeds now
       → Always keys new (with_entry (record now { hand = without x.joined (record { 0 = a }) }) (entry_of keys a c l))
       → Home keys g now → Home keys (done g a c l) after
   home_access lawful old new g now after start a c found l x none shut grounded up room w home =
@@ -209,10 +213,10 @@ module _ (keys : Keys) where
       let put : Contents = with_entry left (entry_of keys a c l) in
       let g1 = opened_at g (real a (g.count a)) (keys.leaf_of (real a (g.count a))) in
       let h1 = home_read keys lawful g now start (keys.leaf_of (real a (g.count a))) x.joined g.dummies within shut
-          (subst (λ r. IsReadTo keys.pads keys.shape start (keys.leaf_of (real a (g.count a))) r now x.joined) none
-          x.read) home in
+      (subst (λ r. IsReadTo keys.pads keys.shape start (keys.leaf_of (real a (g.count a))) r now x.joined) none
+      x.read) home in
       let h2 = home_take g1 at_hand a c found grounded up x.found_is x.right h1 in
       let h3 = home_put (stored (taken g1 a c) a l) left a (entry_of keys a c l) refl refl h2 in
       subst (λ y. Home keys (done g a c l) y) (sym x.after_is)
-          (home_write keys lawful (landed (stored (taken g1 a c) a l)) put
-          (keys.leaf_of (real a (g.count a))) within refl w.of_shape w.mirrored w.seeds room h3)
+      (home_write keys lawful (landed (stored (taken g1 a c) a l)) put
+      (keys.leaf_of (real a (g.count a))) within refl w.of_shape w.mirrored w.seeds room h3)

@@ -1,32 +1,26 @@
 -- Where no reply is altered a path read gives no evidence, and what is found for a block is right.
-use Rattle.std.proofs.Common.{◌≡◌, ◌<◌, ◌≤◌, ◌+◌, ◌*◌, ◌^◌, ◌⊎◌, inl, inr, ℕ, zero, suc, Bool, true, false}
+use Rattle.std.proofs.Common.{◌≡◌, ◌<◌, ◌≤◌, ◌+◌, ◌^◌, ◌⊎◌, inl, inr, ℕ, zero, suc, Bool, true, false}
 use Rattle.std.proofs.Common.{if◌then◌else◌, ◌==◌, List, [], ◌∷◌, ◌++◌, length, map, flat_map, get_or, count_by, Option}
 use Rattle.std.proofs.Common.{None, Some, is_some, Result, Ok, Err, refl, sym, ◌∙◌, ap, ap₂, subst, arith, append_assoc}
 use Rattle.std.proofs.Common.{append-nil}
 use Rattle.std.specs.List.{range_with_len}
 use Rattle.std.specs.Option.{option_to_list}
-use Rattle.std.specs.Prelude.{bytes_eq}
 use Rattle.std.proofs.lemmas.Bool.{cases_eq}
 use Rattle.std.proofs.lemmas.Bool.Decides.{eqb_tells}
 use Rattle.std.proofs.lemmas.Slice.Eq.{bytes_eq-Decides}
 use Rattle.asc_base.specs.TreeShape.{bucket_of}
 use Rattle.asc_base.specs.declared.block.Address.{Address}
-use Rattle.asc_base.specs.declared.block.Counter.{Counter}
 use Rattle.asc_base.specs.declared.block.Entry.{Entry}
-use Rattle.asc_base.specs.declared.shape.Shape.{Shape}
-use Rattle.asc_base.specs.declared.stop.Evidence.{Evidence}
-use Rattle.asc_base.specs.declared.stop.Evidence.TheVariants.{OffPath, Doubled, BadSlot, Missing, Unexpected, BadTag}
+use Rattle.asc_base.specs.declared.stop.Evidence.TheVariants.{OffPath, Doubled, Missing, Unexpected, BadTag}
 use Rattle.asc_base.proofs.Paths.{bucket_of-apart}
 use Rattle.bucket_codec.specs.Bucket.{opened}
 use Rattle.bucket_codec.specs.declared.codec.BadSlot.{BadSlot as Bad}
-use Rattle.bucket_codec.specs.Slot.{IsEntry, IsInRange}
 use Rattle.bus_watch.specs.Log.{LogLists}
 use Rattle.bus_watch.specs.declared.log.Altered.{Altered}
-use Rattle.oram_stash.specs.Entries.{is_of, held}
+use Rattle.oram_stash.specs.Entries.{held}
 use Rattle.pmmac_tags.specs.Tag.{tag}
-use Rattle.posmap_counters.specs.Counters.{first_counter}
 use Rattle.oram_contents.specs.Contents.{Contents, entries_of, IsReadTo}
-use Rattle.oram_contents.specs.PathRead.{replies, join_entry, join_slot, join_slots, join_bucket, join_buckets}
+use Rattle.oram_contents.specs.PathRead.{replies, join_entry, join_slots, join_buckets}
 use Rattle.oram_contents.specs.PathRead.{then_join}
 use Rattle.oram_contents.specs.Entries.{Has, Keys, AreKeys, OnPath, real, message_of, entries_in, entries_at}
 use Rattle.oram_contents.specs.Counts.{Ghost}
@@ -47,7 +41,6 @@ use Rattle.oram_contents.specs.Home.{AreInForm}
 use Rattle.oram_contents.specs.Slots.{HasSeeds}
 use Rattle.oram_contents.proofs.Placing.{cases_path}
 use Rattle.oram_contents.proofs.Found.{held_has}
-use Rattle.oram_contents.proofs.Among.{all_has, has_left, has_right}
 
 -- none of a block is held where there are no copies of it
 held_none : (hand : List Entry) (a : Address) → copies a.0 hand ≡ 0 → held hand a ≡ None
@@ -90,7 +83,7 @@ copies_none a (e ∷ es) none =
     let all = copies_cons a e es in
     let rest = copies_none a es (λ x h. none x (inr h)) in
     let here : (let x : ℕ = (if is_copy a e then 1 else 0) in x ≡ 0) = elim
-        (eqb_tells e.address.0 a) [ inl same ↦ absurd (none e (inl refl) same.1) | inr other ↦ rw other.0 refl ] in
+    (eqb_tells e.address.0 a) [ inl same ↦ absurd (none e (inl refl) same.1) | inr other ↦ rw other.0 refl ] in
     omega arith
 
 -- at most one copy of each block of a shape of so many
@@ -109,29 +102,29 @@ entry_joins blocks levels leaf level slot e hand rest may once =
     let parts = copies_append e.address.0 hand (e ∷ rest) in
     let first = copies_cons e.address.0 e rest in
     let one : (let x : ℕ = (if is_copy e.address.0 e then 1 else 0) in x ≡ 1) = elim
-        (eqb_tells e.address.0 e.address.0) [ inl same ↦ rw same.0 refl | inr other ↦ absurd (other.1 refl) ] in
+    (eqb_tells e.address.0 e.address.0) [ inl same ↦ rw same.0 refl | inr other ↦ absurd (other.1 refl) ] in
     let at_most = once e.address.0 may.0 in
     let none : held hand e.address ≡ None = held_none hand e.address (omega arith) in
     let on : (bucket_of levels e.leaf.0 level == bucket_of levels leaf level) ≡ true = elim
-        (eqb_tells (bucket_of levels e.leaf.0 level) (bucket_of levels leaf level))
-        [ inl same ↦ same.0 | inr other ↦ absurd (other.1 may.1) ] in
+    (eqb_tells (bucket_of levels e.leaf.0 level) (bucket_of levels leaf level))
+    [ inl same ↦ same.0 | inr other ↦ absurd (other.1 may.1) ] in
     ap₂ (λ b c. (if b then (if c then Err (Doubled e.address) else Ok (hand ++ e ∷ [])) else Err
-        (OffPath (bucket_of levels leaf level) slot))) on (ap is_some none)
+    (OffPath (bucket_of levels leaf level) slot))) on (ap is_some none)
 
 slots_join : (blocks levels leaf level slot : ℕ) (slots : List (Option Entry)) (hand rest : List Entry)
     → ((e : Entry) → Has e (flat_map option_to_list slots) → MayStand blocks levels leaf level e)
     → AtMostOne blocks (hand ++ (flat_map option_to_list slots ++ rest))
-        → join_slots levels leaf level slot slots hand ≡ Ok (hand ++ flat_map option_to_list slots)
+    → join_slots levels leaf level slot slots hand ≡ Ok (hand ++ flat_map option_to_list slots)
 slots_join blocks levels leaf level slot [] hand rest may once = ap Ok (sym (append-nil hand))
 slots_join blocks levels leaf level slot (None ∷ slots) hand rest may once = slots_join blocks levels leaf level
     (slot + 1) slots hand rest may once
 slots_join blocks levels leaf level slot (Some e ∷ slots) hand rest may once =
     ap (λ r. then_join r (join_slots levels leaf level (slot + 1) slots))
-        (entry_joins blocks levels leaf level slot e hand (flat_map option_to_list slots ++ rest)
-        (may e (inl refl)) once)
+    (entry_joins blocks levels leaf level slot e hand (flat_map option_to_list slots ++ rest)
+    (may e (inl refl)) once)
     ∙ slots_join blocks levels leaf level (slot + 1) slots (hand ++ e ∷ []) rest (λ x h. may x (inr h))
-        (λ a inside. subst (λ l. copies a l ≤ 1) (sym (append_assoc hand (e ∷ [])
-        (flat_map option_to_list slots ++ rest))) (once a inside))
+    (λ a inside. subst (λ l. copies a l ≤ 1) (sym (append_assoc hand (e ∷ [])
+    (flat_map option_to_list slots ++ rest))) (once a inside))
     ∙ ap Ok (append_assoc hand (e ∷ []) (flat_map option_to_list slots))
 
 -- buckets in the form, from a level on, whose entries may stand there
@@ -149,10 +142,10 @@ buckets_join blocks levels leaf level (Err bad ∷ bs) hand fit once = absurd
     (let wrong : Err bad ≡ Ok fit.0.0 = fit.0.1 in cc)
 buckets_join blocks levels leaf level (Ok slots ∷ bs) hand fit once =
     ap (λ r. then_join r (join_buckets levels leaf (level + 1) bs))
-        (slots_join blocks levels leaf level 0 slots hand (flat_map entries_of bs) fit.1 once)
+    (slots_join blocks levels leaf level 0 slots hand (flat_map entries_of bs) fit.1 once)
     ∙ buckets_join blocks levels leaf (level + 1) bs (hand ++ flat_map option_to_list slots) fit.2
-        (λ a inside. subst (λ l. copies a l ≤ 1) (sym (append_assoc hand (flat_map option_to_list slots)
-        (flat_map entries_of bs))) (once a inside))
+    (λ a inside. subst (λ l. copies a l ≤ 1) (sym (append_assoc hand (flat_map option_to_list slots)
+    (flat_map entries_of bs))) (once a inside))
     ∙ ap Ok (append_assoc hand (flat_map option_to_list slots) (flat_map entries_of bs))
 
 on_meets : (levels leaf n level b : ℕ) → level < n → b ≡ bucket_of levels leaf level → meets levels leaf n b ≡ true
@@ -176,32 +169,31 @@ pub write_in_form : (keys : Keys) → AreKeys keys → (leaf : ℕ) (now : Conte
     → AreInForm keys now.mirror → AreInForm keys (after_write keys.pads keys.shape.levels leaf now).mirror
 write_in_form keys lawful leaf now within of_shape mirrored some room forms b inside = elim
     (cases_path keys.shape.levels leaf b) [
-  | inr off ↦
-      (let kept = sealed-off keys.pads keys.shape.levels leaf now.seed now.hand now.mirror (keys.shape.levels + 1) b
+      | inr off ↦
+          (let kept = sealed-off keys.pads keys.shape.levels leaf now.seed now.hand now.mirror (keys.shape.levels + 1) b
           (λ level less is. off (level, omega (arith, less), sym is)) in
-      let same : get_or (sealed keys.pads keys.shape.levels leaf now.seed now.hand now.mirror (keys.shape.levels + 1))
+          let same : get_or (sealed keys.pads keys.shape.levels leaf now.seed now.hand now.mirror (keys.shape.levels + 1))
           b [] ≡ get_or now.mirror b [] =
           sym (unwrap_or-slice_get (sealed keys.pads keys.shape.levels leaf now.seed now.hand now.mirror
-              (keys.shape.levels + 1)) b []) ∙ ap (λ o. unwrap_or o []) kept ∙ unwrap_or-slice_get now.mirror b [] in
-      let form = forms b inside in
-      (form.0, ap (opened keys.pads keys.shape) same ∙ form.1))
-  | inl on ↦
-      (let there : bucket_of keys.shape.levels leaf on.0 < length now.mirror = omega
+          (keys.shape.levels + 1)) b []) ∙ ap (λ o. unwrap_or o []) kept ∙ unwrap_or-slice_get now.mirror b [] in
+          let form = forms b inside in
+          (form.0, ap (opened keys.pads keys.shape) same ∙ form.1))
+      | inl on ↦
+          (let there : bucket_of keys.shape.levels leaf on.0 < length now.mirror = omega
           (arith, mirrored, path_inside keys lawful leaf on.0 within on.1) in
-      let text = sealed-on keys.pads keys.shape.levels leaf now.seed now.hand now.mirror (keys.shape.levels + 1) on.0
+          let text = sealed-on keys.pads keys.shape.levels leaf now.seed now.hand now.mirror (keys.shape.levels + 1) on.0
           (omega (arith, on.1)) (omega arith) within there in
-      let bytes = get_or_from_slice_get (sealed keys.pads keys.shape.levels leaf now.seed now.hand now.mirror
+          let bytes = get_or_from_slice_get (sealed keys.pads keys.shape.levels leaf now.seed now.hand now.mirror
           (keys.shape.levels + 1)) (bucket_of keys.shape.levels leaf on.0)
-          (bucket_text keys.pads (now.seed + on.0) (slots_at keys.shape.levels leaf now.hand on.0)) [] text in
-      (
-        slots_at keys.shape.levels leaf now.hand on.0,
-        ap (λ n. opened keys.pads keys.shape (get_or (sealed keys.pads keys.shape.levels leaf now.seed now.hand
-            now.mirror (keys.shape.levels + 1)) n [])) on.2
-        ∙ ap (opened keys.pads keys.shape) bytes
-        ∙ opened-sealed keys.pads keys.shape leaf (now.seed + on.0) on.0 now.hand (omega arith)
-            (omega (arith, on.1, (shape_layered keys.shape lawful.shape).levels_to)) of_shape,
-      ))
-]
+          (bucket_text keys.pads (now.seed + on.0) (slots_at keys.shape.levels leaf now.hand on.0)) [] text in (
+            slots_at keys.shape.levels leaf now.hand on.0,
+            ap (λ n. opened keys.pads keys.shape (get_or (sealed keys.pads keys.shape.levels leaf now.seed now.hand
+                now.mirror (keys.shape.levels + 1)) n [])) on.2
+                ∙ ap (opened keys.pads keys.shape) bytes
+                ∙ opened-sealed keys.pads keys.shape leaf (now.seed + on.0) on.0 now.hand (omega arith)
+                (omega (arith, on.1, (shape_layered keys.shape lawful.shape).levels_to)) of_shape,
+          ))
+    ]
 
 module _ (keys : Keys) (lawful : AreKeys keys) (log : LogLists) (g : Ghost) (now : Contents)
     (none_altered : log.altered ≡ []) (w : Always keys log now) (s : Sound keys log g now)
@@ -231,49 +223,52 @@ module _ (keys : Keys) (lawful : AreKeys keys) (log : LogLists) (g : Ghost) (now
     stands level less e h =
         let k = open_in (bucket_of keys.shape.levels leaf level) e h in
         let in_e : e.leaf.0 < 2 ^ keys.shape.levels = subst (λ x. x < 2 ^ keys.shape.levels) (sym k.leaf)
-            (lawful.leaves (real e.address.0 (g.count e.address.0))) in
+        (lawful.leaves (real e.address.0 (g.count e.address.0))) in
         ((s.fresh _ k.tagged).0, same_level level less e in_e (w.placed (bucket_of keys.shape.levels leaf level) e h))
 
     fits : (from n : ℕ) → from + n ≤ keys.shape.levels + 1
         → Fit keys.shape.total keys.shape.levels leaf from
-            (map (opened keys.pads keys.shape) (map (λ level. get_or now.mirror
-            (bucket_of keys.shape.levels leaf level) []) (range_with_len from n)))
+        (map (opened keys.pads keys.shape) (map (λ level. get_or now.mirror
+        (bucket_of keys.shape.levels leaf level) []) (range_with_len from n)))
     unfolding Fit
     fits from zero few = tt
     fits from (suc n) few =
         let form = forms (bucket_of keys.shape.levels leaf from)
-            (path_inside keys lawful leaf from within (omega (arith, few))) in
+        (path_inside keys lawful leaf from within (omega (arith, few))) in
         (form, stands from (omega (arith, few)), fits (from + 1) n (omega (arith, few)))
 
     pub honest_read : (joined : List Entry) × IsReadTo keys.pads keys.shape start leaf [] now joined
-    honest_read = (now.hand ++ flat_map entries_of (map (opened keys.pads keys.shape)
-        (replies keys.shape.levels start leaf now.mirror [])), buckets_join keys.shape.total keys.shape.levels leaf 0
-        (map (opened keys.pads keys.shape) (replies keys.shape.levels start leaf now.mirror [])) now.hand
-        (fits 0 (keys.shape.levels + 1) (omega arith)) once)
+    honest_read = (
+      now.hand ++ flat_map entries_of (map (opened keys.pads keys.shape)
+          (replies keys.shape.levels start leaf now.mirror [])),
+      buckets_join keys.shape.total keys.shape.levels leaf 0
+          (map (opened keys.pads keys.shape) (replies keys.shape.levels start leaf now.mirror [])) now.hand
+          (fits 0 (keys.shape.levels + 1) (omega arith)) once,
+    )
       where
         once : AtMostOne keys.shape.total (now.hand ++ flat_map entries_of
             (map (opened keys.pads keys.shape) (replies keys.shape.levels start leaf now.mirror [])))
         once a inside =
             let r : ℕ → List ℕ = λ level. get_or now.mirror (bucket_of keys.shape.levels leaf level) [] in
             let whole = copies_append a now.hand (flat_map entries_of
-                (map (opened keys.pads keys.shape) (replies keys.shape.levels start leaf now.mirror []))) in
+            (map (opened keys.pads keys.shape) (replies keys.shape.levels start leaf now.mirror []))) in
             let path : copies a (flat_map entries_of (map (opened keys.pads keys.shape)
-                (replies keys.shape.levels start leaf now.mirror []))) ≡ total
-                (λ k. copies a (entries_in keys (r (0 + k)))) (keys.shape.levels + 1) = copies_of_path keys a r 0
-                (keys.shape.levels + 1) in
+            (replies keys.shape.levels start leaf now.mirror []))) ≡ total
+            (λ k. copies a (entries_in keys (r (0 + k)))) (keys.shape.levels + 1) = copies_of_path keys a r 0
+            (keys.shape.levels + 1) in
             let plain : total (λ k. copies a (entries_in keys (r (0 + k)))) (keys.shape.levels + 1) ≡ total
-                (λ k. copies a (entries_at keys now.mirror (bucket_of keys.shape.levels leaf k)))
-                (keys.shape.levels + 1) =
-                total_same _ _ (keys.shape.levels + 1)
-                    (λ k less. ap (λ m. copies a (entries_in keys (r m))) (omega arith)) in
+            (λ k. copies a (entries_at keys now.mirror (bucket_of keys.shape.levels leaf k)))
+            (keys.shape.levels + 1) =
+            total_same _ _ (keys.shape.levels + 1)
+            (λ k less. ap (λ m. copies a (entries_in keys (r m))) (omega arith)) in
             let split = tree_split keys lawful now.mirror leaf a within in
             let all : copies a now.hand + (tree_copies keys None now.mirror a +
-                (count_by (λ b. b == a) g.held + flying a g.flight)) ≡ (if is_first (g.count a) then 0 else 1) =
-                subst (λ p. copies a now.hand + (tree_copies keys p now.mirror a +
-                    (count_by (λ b. b == a) g.held + flying a g.flight)) ≡ (if is_first (g.count a) then 0 else 1))
-                    shut (home a inside) in
+            (count_by (λ b. b == a) g.held + flying a g.flight)) ≡ (if is_first (g.count a) then 0 else 1) =
+            subst (λ p. copies a now.hand + (tree_copies keys p now.mirror a +
+            (count_by (λ b. b == a) g.held + flying a g.flight)) ≡ (if is_first (g.count a) then 0 else 1))
+            shut (home a inside) in
             let most : (let x : ℕ = (if is_first (g.count a) then 0 else 1) in x ≤ 1) = at_most
-                (is_first (g.count a)) in
+            (is_first (g.count a)) in
             omega (arith, whole, path, plain, split, all, most)
           where
             at_most : (b : Bool) → (let x : ℕ = (if b then 0 else 1) in x ≤ 1)
@@ -291,9 +286,9 @@ module _ (keys : Keys) (lawful : AreKeys keys) (log : LogLists) (g : Ghost) (now
       no_copy b true is = refl
       no_copy b false is = copies_none a (entries_at keys now.mirror b) (λ e h at.
           (let k = genuine e (s.in_tree b e (subst (λ p. OffOpen keys.shape.levels p b) (sym opened_at) (off b is)) h)
-              in
+          in
           let same : e.leaf.0 ≡ keys.leaf_of (real a (g.count a)) = k.leaf
-              ∙ ap (λ x. keys.leaf_of (real x (g.count x))) at in
+          ∙ ap (λ x. keys.leaf_of (real x (g.count x))) at in
           off b is (subst (λ x. OnPath keys.shape.levels x b) same (w.placed b e h))))
         where
           off : (b : ℕ) → is_open keys.shape.levels (Some (keys.leaf_of (real a (g.count a)))) b ≡ false
@@ -317,21 +312,21 @@ module _ (keys : Keys) (lawful : AreKeys keys) (log : LogLists) (g : Ghost) (now
           → judged keys a (g.count a) (held now.hand (record { 0 = a })) ≡ None
       by_first true is =
           let seat : (let x : ℕ = (if is_first (g.count a) then 0 else 1) in x ≡ 0) = ap
-              (λ t. (if t then 0 else 1)) is in
+          (λ t. (if t then 0 else 1)) is in
           let none : copies a now.hand ≡ 0 = omega (arith, all, none_off, unheld, grounded, seat) in
           ap (judged keys a (g.count a)) (held_none now.hand (record { 0 = a }) none)
-              ∙ ap (λ t. (if t then None else Some (Missing (record { 0 = a }) (g.count a)))) is
+          ∙ ap (λ t. (if t then None else Some (Missing (record { 0 = a }) (g.count a)))) is
       by_first false is =
           let seat : (let x : ℕ = (if is_first (g.count a) then 0 else 1) in x ≡ 1) = ap
-              (λ t. (if t then 0 else 1)) is in
+          (λ t. (if t then 0 else 1)) is in
           let some : 0 < copies a now.hand = omega (arith, all, none_off, unheld, grounded, seat) in
           let found = held_some now.hand (record { 0 = a }) some in
           let at = held_has now.hand (record { 0 = a }) found.0 found.1 in
           let k = genuine found.0 (s.at_hand found.0 at.0) in
           let valid : found.0.tag ≡ tag keys.tags (message_of a (g.count a) found.0.line.0) = k.tag_is
-              ∙ ap (λ x. tag keys.tags (message_of x (g.count x) found.0.line.0)) at.1 in
+          ∙ ap (λ x. tag keys.tags (message_of x (g.count x) found.0.line.0)) at.1 in
           ap (judged keys a (g.count a)) found.1
           ∙ ap₂ (λ t v. (if t then Some (Unexpected (record { 0 = a })) else
-              (if v then None else Some (BadTag (message_of a (g.count a) found.0.line.0) found.0.tag
-              (tag keys.tags (message_of a (g.count a) found.0.line.0))))))
-              is ((bytes_eq-Decides found.0.tag (tag keys.tags (message_of a (g.count a) found.0.line.0))).1 valid)
+          (if v then None else Some (BadTag (message_of a (g.count a) found.0.line.0) found.0.tag
+          (tag keys.tags (message_of a (g.count a) found.0.line.0))))))
+          is ((bytes_eq-Decides found.0.tag (tag keys.tags (message_of a (g.count a) found.0.line.0))).1 valid)

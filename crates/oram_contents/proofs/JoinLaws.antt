@@ -40,7 +40,7 @@ slots-joined levels leaf level slot (None ∷ rest) hand joined is = slots-joine
     (slot + 1) rest hand joined is
 slots-joined levels leaf level slot (Some entry ∷ rest) hand joined is =
     let parts = then_ok (join_entry levels leaf level slot entry hand)
-        (join_slots levels leaf level (slot + 1) rest) joined is in
+    (join_slots levels leaf level (slot + 1) rest) joined is in
     slots-joined levels leaf level (slot + 1) rest parts.0 joined parts.2
     ∙ ap (λ h. h ++ flat_map option_to_list rest) (entry-joined levels leaf level slot entry hand parts.0 parts.1)
     ∙ append_assoc hand (entry ∷ []) (flat_map option_to_list rest)
@@ -56,7 +56,7 @@ pub buckets-joined : (levels leaf level : ℕ) (buckets : List (Result (List (Op
 buckets-joined levels leaf level [] hand joined is = sym (ok_is is) ∙ sym (append-nil hand)
 buckets-joined levels leaf level (bucket ∷ rest) hand joined is =
     let parts = then_ok (join_bucket levels leaf level bucket hand)
-        (join_buckets levels leaf (level + 1) rest) joined is in
+    (join_buckets levels leaf (level + 1) rest) joined is in
     buckets-joined levels leaf (level + 1) rest parts.0 joined parts.2
     ∙ ap (λ h. h ++ flat_map entries_of rest) (bucket-joined levels leaf level bucket hand parts.0 parts.1)
     ∙ append_assoc hand (entries_of bucket) (flat_map entries_of rest)

@@ -1,20 +1,18 @@
 -- Where the entries come from that a path read joins.
-use Rattle.std.proofs.Common.{◌≡◌, ◌≢◌, ◌<◌, ◌≤◌, ◌+◌, ◌*◌, ◌⊎◌, inl, inr, ℕ, zero, suc, Bool, true, false}
-use Rattle.std.proofs.Common.{if◌then◌else◌, ◌==◌, List, [], ◌∷◌, ◌++◌, length, map, flat_map, get_or, Option, None}
-use Rattle.std.proofs.Common.{Some, Result, Ok, Err, is_some, refl, sym, ◌∙◌, ap, subst, arith}
+use Rattle.std.proofs.Common.{◌≡◌, ◌+◌, ◌*◌, ◌⊎◌, inl, inr, ℕ, Bool, true, false}
+use Rattle.std.proofs.Common.{if◌then◌else◌, ◌==◌, List, [], ◌∷◌, ◌++◌, map, flat_map, get_or, Option, None}
+use Rattle.std.proofs.Common.{Some, Result, Ok, Err, is_some, refl, sym, ◌∙◌, ap, subst}
 use Rattle.std.specs.List.{range_with_len}
-use Rattle.std.specs.Option.{option_to_list}
 use Rattle.std.proofs.lemmas.Bool.Decides.{eqb_tells}
 use Rattle.asc_base.specs.TreeShape.{bucket_of}
 use Rattle.asc_base.specs.declared.block.Entry.{Entry}
 use Rattle.asc_base.specs.declared.block.Address.{Address}
-use Rattle.asc_base.specs.declared.shape.Shape.{Shape}
 use Rattle.asc_base.specs.declared.stop.Evidence.{Evidence}
-use Rattle.asc_base.specs.declared.stop.Evidence.TheVariants.{OffPath, Doubled, BadSlot}
+use Rattle.asc_base.specs.declared.stop.Evidence.TheVariants.{OffPath, Doubled}
 use Rattle.bucket_codec.specs.Bucket.{opened}
 use Rattle.bucket_codec.specs.declared.codec.BadSlot.{BadSlot as Bad}
 use Rattle.bus_watch.specs.declared.log.Altered.{Altered}
-use Rattle.oram_stash.specs.Entries.{is_of, held}
+use Rattle.oram_stash.specs.Entries.{held}
 use Rattle.oram_contents.specs.Contents.{Contents, entries_of, IsReadTo}
 use Rattle.oram_contents.specs.PathRead.{reply_at, replies, join_entry, join_slots, join_bucket, join_buckets}
 use Rattle.oram_contents.specs.PathRead.{then_join}
@@ -39,7 +37,7 @@ has_flat_map f y (x ∷ xs) h = elim (has_split y (f x) (flat_map f xs) h) [
 -- a reply is the bucket as last written, or one of the altered replies
 reply_from : (mirror : List (List ℕ)) (altered : List Altered) (at bucket : ℕ)
     → (reply_at mirror altered at bucket ≡ get_or mirror bucket [])
-        ⊎ ((reply : Altered) × Has reply altered × (reply_at mirror altered at bucket ≡ reply.bytes))
+    ⊎ ((reply : Altered) × Has reply altered × (reply_at mirror altered at bucket ≡ reply.bytes))
 reply_from mirror [] at bucket = inl refl
 reply_from mirror (reply ∷ altered) at bucket = elim (eqb_tells reply.time at) [
   | inl same ↦ inr (reply, inl refl, rw same.0 refl)
@@ -56,13 +54,13 @@ CameBy keys altered mirror e = ((reply : Altered) × Has reply altered × Has e 
 pub joined_from : (keys : Keys) (start leaf : ℕ) (altered : List Altered) (now : Contents) (joined : List Entry)
     (e : Entry)
     → IsReadTo keys.pads keys.shape start leaf altered now joined → Has e joined
-        → Has e now.hand ⊎ CameBy keys altered now.mirror e
+    → Has e now.hand ⊎ CameBy keys altered now.mirror e
 joined_from keys start leaf altered now joined e is h =
     let all = map (opened keys.pads keys.shape) (replies keys.shape.levels start leaf now.mirror altered) in
     let whole : joined ≡ now.hand ++ flat_map entries_of all = buckets-joined keys.shape.levels leaf 0 all now.hand
-        joined is in
+    joined is in
     elim (has_split e now.hand (flat_map entries_of all) (subst (λ x. Has e x) whole h))
-        [ inl l ↦ inl l | inr r ↦ inr (came r) ]
+    [ inl l ↦ inl l | inr r ↦ inr (came r) ]
   where
     by_reply : (text : List ℕ) → Has e (entries_in keys text) → (at bucket : ℕ)
         → text ≡ reply_at now.mirror altered at bucket → CameBy keys altered now.mirror e
@@ -75,13 +73,13 @@ joined_from keys start leaf altered now joined e is h =
         (replies keys.shape.levels start leaf now.mirror altered))) → CameBy keys altered now.mirror e
     came r =
         let of_bucket = has_flat_map entries_of e (map (opened keys.pads keys.shape)
-            (replies keys.shape.levels start leaf now.mirror altered)) r in
+        (replies keys.shape.levels start leaf now.mirror altered)) r in
         let of_text = has_map (opened keys.pads keys.shape) of_bucket.0
-            (replies keys.shape.levels start leaf now.mirror altered) of_bucket.1 in
+        (replies keys.shape.levels start leaf now.mirror altered) of_bucket.1 in
         let of_level = has_map (λ level. reply_at now.mirror altered (start + 40 * level)
-            (bucket_of keys.shape.levels leaf level)) of_text.0 (range_with_len 0 (keys.shape.levels + 1)) of_text.1 in
+        (bucket_of keys.shape.levels leaf level)) of_text.0 (range_with_len 0 (keys.shape.levels + 1)) of_text.1 in
         by_reply of_text.0 (subst (λ b. Has e (entries_of b)) of_text.2 of_bucket.2) (start + 40 * of_level.0)
-            (bucket_of keys.shape.levels leaf of_level.0) of_level.2
+        (bucket_of keys.shape.levels leaf of_level.0) of_level.2
 
 -- addresses stay apart
 none_held : (hand : List Entry) (a : Address) → is_some (held hand a) ≡ false → (x : Entry) → Has x hand
@@ -90,8 +88,11 @@ unfolding held
 none_held [] a none x h is = h
 none_held (e ∷ hand) a none x h is = elim (eqb_tells e.address.0 a.0) [
   | inl same ↦ (let found : is_some (held (e ∷ hand) a) ≡ true = rw same.0 refl in cc)
-  | inr other ↦ elim h [ inl first ↦ other.1 (ap (λ (y : Entry). y.address.0) (sym first) ∙ is) | inr later ↦ none_held
-      hand a (rw other.0 at none) x later is ]
+  | inr other ↦ elim h [
+    | inl first ↦ other.1 (ap (λ (y : Entry). y.address.0) (sym first) ∙ is)
+    | inr later ↦ none_held
+        hand a (rw other.0 at none) x later is
+  ]
 ]
 
 pub apart_append : (hand : List Entry) (e : Entry) → AreApart hand
@@ -135,9 +136,9 @@ slots-apart levels leaf level slot (None ∷ rest) hand joined is apart = slots-
     (slot + 1) rest hand joined is apart
 slots-apart levels leaf level slot (Some entry ∷ rest) hand joined is apart =
     let parts = then_ok (join_entry levels leaf level slot entry hand)
-        (join_slots levels leaf level (slot + 1) rest) joined is in
+    (join_slots levels leaf level (slot + 1) rest) joined is in
     slots-apart levels leaf level (slot + 1) rest parts.0 joined parts.2
-        (entry-apart levels leaf level slot entry hand parts.0 parts.1 apart)
+    (entry-apart levels leaf level slot entry hand parts.0 parts.1 apart)
 
 bucket-apart : (levels leaf level : ℕ) (bucket : Result (List (Option Entry)) Bad) (hand joined : List Entry)
     → join_bucket levels leaf level bucket hand ≡ Ok joined → AreApart hand → AreApart joined
@@ -150,6 +151,6 @@ pub buckets-apart : (levels leaf level : ℕ) (buckets : List (Result (List (Opt
 buckets-apart levels leaf level [] hand joined is apart = subst AreApart (ok_is is) apart
 buckets-apart levels leaf level (bucket ∷ rest) hand joined is apart =
     let parts = then_ok (join_bucket levels leaf level bucket hand)
-        (join_buckets levels leaf (level + 1) rest) joined is in
+    (join_buckets levels leaf (level + 1) rest) joined is in
     buckets-apart levels leaf (level + 1) rest parts.0 joined parts.2
-        (bucket-apart levels leaf level bucket hand parts.0 parts.1 apart)
+    (bucket-apart levels leaf level bucket hand parts.0 parts.1 apart)

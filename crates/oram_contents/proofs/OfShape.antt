@@ -16,15 +16,15 @@ pub put_of_shape : (shape : Shape) (old new : List Entry) (entry : Entry) → ne
     → IsInRange shape (Some entry) → AreOfShape shape old → AreOfShape shape new
 put_of_shape shape old new entry is entry_is range all =
     subst (λ (entries : List Entry). AreOfShape shape entries) (sym is)
-        (All-append (IsOf shape) old (entry ∷ []) all (All-cons (IsOf shape) entry [] (entry_is, range)
-        (λ k d less. absurd (omega arith))))
+    (All-append (IsOf shape) old (entry ∷ []) all (All-cons (IsOf shape) entry [] (entry_is, range)
+    (λ k d less. absurd (omega arith))))
 
 -- the same for the entry of a slot
 pub slot_of_shape : (shape : Shape) (found : Option Entry) (old new : List Entry) (entry : Entry) → found ≡ Some entry
     → new ≡ old ++ entry ∷ [] → IsSlot found × IsInRange shape found → AreOfShape shape old → AreOfShape shape new
 slot_of_shape shape found old new entry is pushed fact all =
     let at : IsSlot (Some entry) × IsInRange shape (Some entry) = subst
-        (λ (o : Option Entry). IsSlot o × IsInRange shape o) is fact in
+    (λ (o : Option Entry). IsSlot o × IsInRange shape o) is fact in
     put_of_shape shape old new entry pushed at.0 at.1 all
 
 pub without_of_shape : (shape : Shape) (entries : List Entry) (address : Address) → AreOfShape shape entries

@@ -42,15 +42,18 @@ length-where_placed test (place ∷ places) (entry ∷ hand) = both (test place)
         → length (where_placed test (place ∷ places) (entry ∷ hand)) ≤ count_by test (place ∷ places)
     both true is less =
         let more : length (where_placed test (place ∷ places) (entry ∷ hand)) ≡ length
-            (where_placed test places hand) + 1 = rw is (omega arith) in
+        (where_placed test places hand) + 1 = rw is (omega arith) in
         omega (arith, count_by-yes test place places is)
     both false is less =
         let same : length (where_placed test (place ∷ places) (entry ∷ hand)) ≡ length
-            (where_placed test places hand) = rw is refl in
+        (where_placed test places hand) = rw is refl in
         omega (arith, count_by-no test place places is)
 
 pub placed_number : (levels leaf level : ℕ) (hand : List Entry)
     → length (where_placed (stands_at level) (places_of levels leaf hand) hand) ≤ 4
 placed_number levels leaf level hand =
-    omega (arith, length-where_placed (stands_at level) (places_of levels leaf hand) hand,
-        (IsPlacement-eviction (depths_of levels leaf hand) levels).room level)
+    omega (
+      arith,
+      length-where_placed (stands_at level) (places_of levels leaf hand) hand,
+      (IsPlacement-eviction (depths_of levels leaf hand) levels).room level,
+    )

@@ -1,31 +1,28 @@
 -- The start is sound and at home; a log that shows a forgery, and one that doesn't.
-use Rattle.std.proofs.Common.{◌≡◌, ◌<◌, ◌≤◌, ◌+◌, ◌^◌, ◌⊎◌, inl, inr, ℕ, zero, suc, Bool, true, false, if◌then◌else◌}
-use Rattle.std.proofs.Common.{◌==◌, List, [], ◌∷◌, ◌++◌, length, map, get_or, replicate, All, Option, None, Some, Ok}
+use Rattle.std.proofs.Common.{◌≡◌, ◌+◌, ◌⊎◌, inl, inr, ℕ, zero, suc, Bool, true, false, if◌then◌else◌}
+use Rattle.std.proofs.Common.{List, [], ◌∷◌, length, map, get_or, replicate, All, Option, None, Some}
 use Rattle.std.proofs.Common.{refl, sym, ◌∙◌, ap, subst, arith, nat_lt}
 use Rattle.std.specs.List.{range_with_len}
 use Rattle.asc_base.specs.TreeShape.{children_of}
 use Rattle.asc_base.specs.declared.block.Counter.{Counter}
 use Rattle.asc_base.specs.declared.block.Entry.{Entry}
-use Rattle.asc_base.specs.declared.block.Leaf.{Leaf}
 use Rattle.asc_base.specs.declared.block.Message.{Message}
-use Rattle.asc_base.specs.declared.block.Point.{Point}
 use Rattle.asc_outside.specs.Memory.{zero_bucket, zero_buckets}
 use Rattle.bucket_codec.specs.Bucket.{seed_in, opened, bucket_text}
 use Rattle.bucket_codec.specs.Slot.{IsSlot, IsInRange, IsEntry}
 use Rattle.bucket_codec.proofs.Buckets.{opened_bucket}
-use Rattle.bus_watch.specs.declared.log.Event.TheVariants.{Access, Drawn, Tagged, Accepted}
+use Rattle.bus_watch.specs.declared.log.Event.TheVariants.{Access, Accepted}
 use Rattle.posmap_counters.specs.Counters.{first_counter}
 use Rattle.posmap_counters.specs.Digits.{digits}
 use Rattle.posmap_counters.specs.Group.{line_of}
-use Rattle.oram_contents.specs.Contents.{Contents, entries_of}
-use Rattle.oram_contents.specs.Entries.{Has, Keys, AreKeys, real, message_of, entry_of, entries_in, entries_at}
-use Rattle.oram_contents.specs.Counts.{Ghost, line_at, line_by, own_counts, zero_line}
+use Rattle.oram_contents.specs.Contents.{entries_of}
+use Rattle.oram_contents.specs.Entries.{Has, Keys, real, message_of, entry_of, entries_in, entries_at}
+use Rattle.oram_contents.specs.Counts.{line_by, own_counts, zero_line}
 use Rattle.oram_contents.specs.Forgery.{Forgery}
 use Rattle.oram_contents.specs.Home.{Home, total, copies, tree_copies}
 use Rattle.oram_contents.specs.Slots.{drawn_events}
 use Rattle.oram_contents.specs.Provenance.{Sound, Always}
 use Rattle.oram_contents.specs.Starts.{empty_log, first_ghost, first_contents, forged_log, unforged_log}
-use Rattle.oram_contents.specs.Verdict.{is_first}
 use Rattle.oram_contents.proofs.Among.{has_right}
 
 zeros_same : (f : ℕ → ℕ) (n from : ℕ) → ((k : ℕ) → f k ≡ 0)
@@ -115,8 +112,8 @@ start_always keys = record {
 pub start_home : (keys : Keys) → Home keys first_ghost (first_contents keys)
 start_home keys a inside =
     let none : tree_copies keys None (zero_buckets keys.shape.buckets) a ≡ 0 = no_total
-        (λ b. copies a (entries_at keys (zero_buckets keys.shape.buckets) b)) keys.shape.buckets
-        (λ b. ap (copies a) (none_at keys b)) in
+    (λ b. copies a (entries_at keys (zero_buckets keys.shape.buckets) b)) keys.shape.buckets
+    (λ b. ap (copies a) (none_at keys b)) in
     ap (λ n. 0 + (n + (0 + 0))) none
 
 -- an entry of the shape in a sealed bucket's first slot is in it
@@ -124,7 +121,7 @@ stands_in : (keys : Keys) (e : Entry) → IsEntry e → IsInRange keys.shape (So
     → Has e (entries_in keys (bucket_text keys.pads 1 (Some e ∷ None ∷ None ∷ None ∷ [])))
 stands_in keys e is range =
     let opens = opened_bucket keys.pads keys.shape 1 (Some e ∷ None ∷ None ∷ None ∷ []) (omega arith) (omega arith)
-        (record { four = refl; each = each_slot }) each_range in
+    (record { four = refl; each = each_slot }) each_range in
     subst (λ r. Has e (entries_of r)) (sym opens) (inl refl)
   where
     each_slot : All IsSlot (Some e ∷ None ∷ None ∷ None ∷ [])
@@ -152,8 +149,13 @@ forged keys a c l is range = record {
   never = λ h. elim h [ inl e ↦ cc | inr r ↦ elim r [ inl e ↦ cc | inr none ↦ none ] ];
   point = (Access 0 None ∷ [], [], record { 0 = keys.leaf_of (real a c) }, refl, λ p x h. h);
   valid = refl;
-  reply = record { time = 0; bucket = 0; bytes = bucket_text keys.pads 1
-      (Some (entry_of keys a c l) ∷ None ∷ None ∷ None ∷ []); before = 2 };
+  reply = record {
+    time = 0;
+    bucket = 0;
+    bytes = bucket_text keys.pads 1
+        (Some (entry_of keys a c l) ∷ None ∷ None ∷ None ∷ []);
+    before = 2;
+  };
   altered = inl refl;
   before = omega arith;
   stood = (entry_of keys a c l, stands_in keys (entry_of keys a c l) is range, refl, refl, refl);

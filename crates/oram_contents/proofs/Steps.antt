@@ -1,29 +1,28 @@
 -- Each part of an access keeps the invariant: the log grows, a path is read, entries leave, a counter rises, a line is put
 -- at hand, a path is written.
-use Rattle.std.proofs.Common.{◌≡◌, ◌<◌, ◌≤◌, ◌+◌, ◌⊎◌, inl, inr, ℕ, zero, suc, List, [], ◌∷◌, ◌++◌, length, Option}
-use Rattle.std.proofs.Common.{None, Some, refl, sym, ◌∙◌, ap, ap₂, subst, subst₂, arith, length-append}
+use Rattle.std.proofs.Common.{◌≡◌, ◌<◌, ◌⊎◌, inl, inr, ℕ, zero, suc, List, [], ◌∷◌, ◌++◌, Option}
+use Rattle.std.proofs.Common.{None, Some, refl, sym, ◌∙◌, ap, subst, arith}
 use Rattle.std.proofs.lemmas.Bool.{cases_eq}
-use Rattle.asc_base.specs.Shape.{IsShape}
-use Rattle.asc_base.specs.TreeShape.{parent_of, children_of}
+use Rattle.asc_base.specs.TreeShape.{parent_of}
 use Rattle.asc_base.specs.declared.block.Counter.{Counter}
 use Rattle.asc_base.specs.declared.block.Entry.{Entry}
 use Rattle.asc_base.specs.declared.block.Leaf.{Leaf}
 use Rattle.asc_base.specs.declared.block.Message.{Message}
-use Rattle.asc_base.specs.declared.block.Point.TheVariants.{Real, Dummy}
+use Rattle.asc_base.specs.declared.block.Point.TheVariants.{Dummy}
 use Rattle.bus_watch.specs.Log.{LogLists}
 use Rattle.bus_watch.specs.declared.log.Altered.{Altered}
 use Rattle.bus_watch.specs.declared.log.Event.{Event}
-use Rattle.bus_watch.specs.declared.log.Event.TheVariants.{Drawn, Tagged, Accepted}
+use Rattle.bus_watch.specs.declared.log.Event.TheVariants.{Drawn, Tagged}
 use Rattle.pmmac_tags.specs.Tag.{tag}
 use Rattle.posmap_counters.specs.Counters.{IsBefore, IsNotAfter, first_counter}
 use Rattle.posmap_counters.proofs.CounterLaws.{before_trans, not_after_trans, before_irreflexive}
 use Rattle.oram_contents.specs.Contents.{Contents}
 use Rattle.oram_contents.specs.Entries.{Has, Keys, AreKeys, real, message_of, entry_of, entries_at, OnPath}
-use Rattle.oram_contents.specs.Counts.{Ghost, line_at, line_by, zero_line, IsAway, put_at}
+use Rattle.oram_contents.specs.Counts.{Ghost, line_at, zero_line, IsAway, put_at}
 use Rattle.oram_contents.specs.Provenance.{FromOutside, Came, Genuine, Known, message_in, Untagged, AtMostOnce, OffOpen}
 use Rattle.oram_contents.specs.Provenance.{Sound}
 use Rattle.oram_contents.specs.Steps.{Adds, raised, landed}
-use Rattle.oram_contents.proofs.Among.{has_left, has_right, has_split, has_last, has_new, tagged_same, once_append}
+use Rattle.oram_contents.proofs.Among.{has_left, has_split, has_last, has_new, tagged_same, once_append}
 use Rattle.oram_contents.proofs.Among.{once_none}
 use Rattle.oram_contents.proofs.Lines.{put_same, put_other, line_same}
 
@@ -37,15 +36,25 @@ IsPast g a c = IsBefore c (g.count a) ⊎ ((g.pend ≡ Some a) × (c ≡ g.count
 module _ (keys : Keys) where
   outside_more : (old new : LogLists) (events : List Event) (altered : List Altered) (e : Entry)
       → Adds old new events altered → FromOutside keys old e → FromOutside keys new e
-  outside_more old new events altered e adds o = (o.0, subst (λ (l : List Altered). Has o.0 l) (sym adds.altered_are)
-      (has_left o.0 old.altered altered o.1), o.2)
+  outside_more old new events altered e adds o = (
+    o.0,
+    subst (λ (l : List Altered). Has o.0 l) (sym adds.altered_are)
+        (has_left o.0 old.altered altered o.1),
+    o.2,
+  )
 
   pub came_more : (old new : LogLists) (events : List Event) (altered : List Altered) (e : Entry)
       → Adds old new events altered → Came keys old e → Came keys new e
   came_more old new events altered e adds (inl o) = inl (outside_more old new events altered e adds o)
   came_more old new events altered e adds (inr t) =
-      inr (t.0, subst (λ (l : List Event). Has (Tagged t.0) l) (sym adds.events_are)
-          (has_left _ old.events events t.1), t.2, t.3, t.4)
+      inr (
+        t.0,
+        subst (λ (l : List Event). Has (Tagged t.0) l) (sym adds.events_are)
+            (has_left _ old.events events t.1),
+        t.2,
+        t.3,
+        t.4,
+      )
 
   genuine_more : (old new : LogLists) (events : List Event) (altered : List Altered) (count : ℕ → Counter) (e : Entry)
       → Adds old new events altered → Genuine keys old count e → Genuine keys new count e
@@ -65,7 +74,7 @@ module _ (keys : Keys) where
   pub sound_log : (old new : LogLists) (events : List Event) (altered : List Altered) (g : Ghost) (now : Contents)
       → Adds old new events altered → AreUntagged events
       → ((a : ℕ) (c : Counter) (x : Leaf) → Has (Drawn (real a c) x) events → IsPast g a c)
-          → ((n : ℕ) (x : Leaf) → Has (Drawn (Dummy n) x) events → n < g.dummies)
+      → ((n : ℕ) (x : Leaf) → Has (Drawn (Dummy n) x) events → n < g.dummies)
       → Sound keys old g now → Sound keys new g now
   sound_log old new events altered g now adds none past fewer s = record {
     fresh = λ m h. s.fresh m (before m h);
@@ -89,7 +98,7 @@ module _ (keys : Keys) where
   -- a path is read: each entry that joins stands in a bucket or came by an altered reply
   pub sound_read : (log : LogLists) (g : Ghost) (now : Contents) (joined : List Entry) (leaf : ℕ) → g.path ≡ None
       → ((e : Entry) → Has e joined → Has e now.hand ⊎
-          (FromOutside keys log e ⊎ ((bucket : ℕ) × Has e (entries_at keys now.mirror bucket))))
+      (FromOutside keys log e ⊎ ((bucket : ℕ) × Has e (entries_at keys now.mirror bucket))))
       → Sound keys log g now → Sound keys log (record g { path = Some leaf }) (record now { hand = joined })
   sound_read log g now joined leaf closed from s = record {
     fresh = s.fresh;
@@ -99,8 +108,11 @@ module _ (keys : Keys) where
     drawn = s.drawn;
     dummies = s.dummies;
     away = s.away;
-    at_hand = λ e h. elim (from e h) [ inl l ↦ s.at_hand e l | inr r ↦ elim r
-        [ inl o ↦ inl o | inr b ↦ s.in_tree b.0 e (off b.0) b.1 ] ];
+    at_hand = λ e h. elim (from e h) [
+      | inl l ↦ s.at_hand e l
+      | inr r ↦ elim r
+          [ inl o ↦ inl o | inr b ↦ s.in_tree b.0 e (off b.0) b.1 ]
+    ];
     in_tree = λ b e no h. s.in_tree b e (off b) h;
   }
     where
@@ -127,11 +139,11 @@ module _ (keys : Keys) where
   -- Nothing is tagged under the new counter yet.
   module _ (lawful : AreKeys keys) (log : LogLists) (g : Ghost) (now : Contents) (a : ℕ) (c : Counter) (pend : Option ℕ)
       (up : IsBefore (g.count a) c) (parent_away : (p : ℕ) → parent_of keys.shape.lines keys.shape.layers a ≡ Some p
-          → IsAway g p)
+      → IsAway g p)
       (pend_same : (b : ℕ) → (b ≡ a → ⊥) → g.pend ≡ Some b → pend ≡ Some b)
       (hand_stale : (e : Entry) → Has e now.hand → e.address.0 ≡ a → Genuine keys log g.count e → ⊥)
       (tree_stale : (b : ℕ) (e : Entry) → OffOpen keys.shape.levels g.path b → Has e (entries_at keys now.mirror b)
-          → e.address.0 ≡ a → Genuine keys log g.count e → ⊥)
+      → e.address.0 ≡ a → Genuine keys log g.count e → ⊥)
       (s : Sound keys log g now) where
     above : (m : Message) → Has (Tagged m) log.events → m.address.0 ≡ a → IsBefore m.counter c
     above m h is = let f = s.fresh m h in not_before m.counter (g.count a) c
@@ -168,7 +180,7 @@ module _ (keys : Keys) where
     last_of m h is (inr other) =
         let same : m.counter ≡ g.count m.address.0 = is ∙ now_other m.address.0 other in
         s.last m h same ∙ sym (line_kept m.address.0 (s.fresh m h).0
-            (λ gone. (s.away m.address.0 gone).2 m h refl same))
+        (λ gone. (s.away m.address.0 gone).2 m h refl same))
 
     blank_of : (b : ℕ) → b < keys.shape.total → put_at g.count a c b ≡ first_counter → (b ≡ a) ⊎ (b ≡ a → ⊥)
         → line_at keys.shape (raised g a c pend) b ≡ zero_line
@@ -182,7 +194,7 @@ module _ (keys : Keys) where
     blank_of b inside none (inr other) =
         let was : g.count b ≡ first_counter = sym (now_other b other) ∙ none in
         line_kept b inside (λ gone. before_irreflexive first_counter
-            (subst (λ w. IsBefore first_counter w) was (s.away b gone).1)) ∙ s.blank b inside was
+        (subst (λ w. IsBefore first_counter w) was (s.away b gone).1)) ∙ s.blank b inside was
 
     drawn_of : (b : ℕ) (x : Counter) → IsPast g b x → (b ≡ a) ⊎ (b ≡ a → ⊥) → IsPast (raised g a c pend) b x
     drawn_of b x past (inl is) = inl (subst (λ w. IsBefore x w) (sym (ap (put_at g.count a c) is ∙ now_at)) (elim past [
@@ -204,13 +216,19 @@ module _ (keys : Keys) where
         → (b < keys.shape.total) × IsBefore first_counter (put_at g.count a c b)
         × Untagged log.events b (put_at g.count a c b)
     away_of b is (inl same) =
-        let here : c ≡ put_at g.count a c b = sym now_at ∙ ap (put_at g.count a c) (sym same) in
-        ((s.away b is).0, subst (IsBefore first_counter) here
-            (first_before (g.count a) c up), λ m h at counted. none_yet m h (at ∙ same) (counted ∙ sym here))
+        let here : c ≡ put_at g.count a c b = sym now_at ∙ ap (put_at g.count a c) (sym same) in (
+          (s.away b is).0,
+          subst (IsBefore first_counter) here
+              (first_before (g.count a) c up),
+          λ m h at counted. none_yet m h (at ∙ same) (counted ∙ sym here),
+        )
     away_of b is (inr other) =
-        let old = s.away b is in
-        (old.0, subst (IsBefore first_counter) (sym (now_other b other)) old.1, λ m h at counted. old.2 m h at
-            (counted ∙ now_other b other))
+        let old = s.away b is in (
+          old.0,
+          subst (IsBefore first_counter) (sym (now_other b other)) old.1,
+          λ m h at counted. old.2 m h at
+              (counted ∙ now_other b other),
+        )
 
     genuine_of : (e : Entry) → Genuine keys log g.count e → (e.address.0 ≡ a → ⊥)
         → Genuine keys log (put_at g.count a c) e
@@ -246,7 +264,7 @@ module _ (keys : Keys) where
   module _ (log new : LogLists) (g : Ghost) (now : Contents) (a : ℕ) (l : List ℕ) (flying : g.flight ≡ Some a)
       (unheld : Has a g.held → ⊥)
       (stored : l ≡ line_at keys.shape g a) (adds : Adds log new (Tagged (message_of a (g.count a) l) ∷ []) [])
-          (s : Sound keys log g now) where
+      (s : Sound keys log g now) where
     abbrev message : Message
     message = message_of a (g.count a) l
 
@@ -292,11 +310,14 @@ module _ (keys : Keys) where
     away_still : (b : ℕ) → Has b g.held → (b < keys.shape.total) × IsBefore first_counter (g.count b)
         × Untagged new.events b (g.count b)
     away_still b held =
-        let old = s.away b (inl held) in
-        (old.0, old.1, λ m h at counted. elim (old_or_new m h) [
-          | inl o ↦ old.2 m o at counted
-          | inr is ↦ unheld (subst (λ x. Has x g.held) (sym at ∙ ap (λ (x : Message). x.address.0) is) held)
-        ])
+        let old = s.away b (inl held) in (
+          old.0,
+          old.1,
+          λ m h at counted. elim (old_or_new m h) [
+            | inl o ↦ old.2 m o at counted
+            | inr is ↦ unheld (subst (λ x. Has x g.held) (sym at ∙ ap (λ (x : Message). x.address.0) is) held)
+          ],
+        )
 
     no_flight : {b : ℕ} → None ≡ Some b → ⊥
     no_flight e = cc
@@ -321,7 +342,7 @@ module _ (keys : Keys) where
   -- The path is written: in its buckets stand entries that were at hand, and the other buckets stay.
   pub sound_write : (log : LogLists) (g : Ghost) (now new : Contents) (leaf : ℕ) → g.path ≡ Some leaf
       → ((b : ℕ) (e : Entry) → Has e (entries_at keys new.mirror b)
-          → (Has e (entries_at keys now.mirror b) × (OnPath keys.shape.levels leaf b → ⊥)) ⊎ Has e now.hand)
+      → (Has e (entries_at keys now.mirror b) × (OnPath keys.shape.levels leaf b → ⊥)) ⊎ Has e now.hand)
       → ((e : Entry) → Has e new.hand → Has e now.hand)
       → Sound keys log g now → Sound keys log (record g { path = None }) new
   sound_write log g now new leaf opened placed less s = record {

@@ -1,9 +1,8 @@
 -- The verdict on a log that a slot or an append lengthens is the first of the verdict before and that of the slot or append.
-use Rattle.std.proofs.Common.{◌≡◌, ◌<◌, ◌≤◌, ◌+◌, ◌⊎◌, inl, inr, ℕ, suc, Bool, true, false, if◌then◌else◌, ◌==◌, List}
+use Rattle.std.proofs.Common.{◌≡◌, ◌<◌, ◌≤◌, ◌+◌, inl, inr, ℕ, Bool, true, false, if◌then◌else◌, ◌==◌, List}
 use Rattle.std.proofs.Common.{[], ◌∷◌, ◌++◌, length, All, Option, None, Some, Result, Ok, Err, refl, sym, ◌∙◌, ap, ap₂}
-use Rattle.std.proofs.Common.{subst, arith, append-nil}
+use Rattle.std.proofs.Common.{arith, append-nil}
 use Rattle.std.proofs.lemmas.Bool.Decides.{eqb_tells}
-use Rattle.asc_base.specs.declared.block.Address.{Address}
 use Rattle.asc_base.specs.declared.block.Entry.{Entry}
 use Rattle.asc_base.specs.declared.block.Line.{Line}
 use Rattle.asc_base.specs.declared.block.Message.{Message}
@@ -11,14 +10,13 @@ use Rattle.asc_base.specs.declared.block.Point.{Point}
 use Rattle.asc_base.specs.declared.block.Point.TheVariants.{Real, Dummy}
 use Rattle.asc_base.specs.declared.stop.Evidence.{Evidence}
 use Rattle.asc_base.specs.declared.stop.Stop.{Stop}
-use Rattle.asc_base.specs.declared.stop.Stop.TheVariants.{Integrity}
 use Rattle.bus_watch.specs.Log.{LogLists}
 use Rattle.bus_watch.specs.declared.log.Altered.{Altered}
 use Rattle.bus_watch.specs.declared.log.Event.{Event}
 use Rattle.bus_watch.specs.declared.log.Event.TheVariants.{Access, Drawn, Tagged, Accepted, Chosen, Answered}
 use Rattle.oram_contents.specs.Contents.{Contents}
 use Rattle.oram_contents.specs.Entries.{Has, Keys}
-use Rattle.oram_contents.specs.Fold.{Fold, settle, noted_at, leave, hand_after, with_entry, tagged_entry, is_open_for}
+use Rattle.oram_contents.specs.Fold.{Fold, settle, hand_after, is_open_for}
 use Rattle.oram_contents.specs.Fold.{joined_by, after_event, fold_events, whole}
 use Rattle.oram_contents.specs.PathRead.{replies, path_read}
 use Rattle.oram_contents.specs.Slots.{drawn_events, IsEnd}
@@ -40,16 +38,16 @@ module _ (keys : Keys) (stash : ℕ) where
   verdict_append : (altered : List Altered) (n : ℕ) (xs ys : List Event) (f : Fold)
       → events_verdict keys stash altered n (xs ++ ys) f
       ≡ first_of (events_verdict keys stash altered n xs f)
-          (events_verdict keys stash altered (n + length xs) ys (fold_events keys altered n xs f))
+      (events_verdict keys stash altered (n + length xs) ys (fold_events keys altered n xs f))
   verdict_append altered n [] ys f = ap (λ k. events_verdict keys stash altered k ys f) (omega arith)
   verdict_append altered n (x ∷ xs) ys f =
       let g = after_event keys altered n x f in
       ap (first_of (event_verdict keys stash altered n x f)) (verdict_append altered (n + 1) xs ys g)
       ∙ sym (first_twice (event_verdict keys stash altered n x f) (events_verdict keys stash altered (n + 1) xs g)
-          (events_verdict keys stash altered (n + 1 + length xs) ys (fold_events keys altered (n + 1) xs g)))
+      (events_verdict keys stash altered (n + 1 + length xs) ys (fold_events keys altered (n + 1) xs g)))
       ∙ ap (λ k. first_of (first_of (event_verdict keys stash altered n x f)
-          (events_verdict keys stash altered (n + 1) xs g))
-          (events_verdict keys stash altered k ys (fold_events keys altered (n + 1) xs g))) (omega arith)
+      (events_verdict keys stash altered (n + 1) xs g))
+      (events_verdict keys stash altered k ys (fold_events keys altered (n + 1) xs g))) (omega arith)
 
   -- replies that were noted later don't change what events show
   event_shows : (altered extra : List Altered) (n : ℕ) (e : Event) (f : Fold)
@@ -59,8 +57,8 @@ module _ (keys : Keys) (stash : ℕ) where
   event_shows altered extra n (Drawn p x) f later =
       let g = settle keys f in
       ap (λ l. first_of (open_verdict keys stash f.path f.now)
-          (read_verdict keys p (path_read keys.pads keys.shape x.0
-          (replies keys.shape.levels g.start x.0 g.now.mirror l) g.now.hand)))
+      (read_verdict keys p (path_read keys.pads keys.shape x.0
+      (replies keys.shape.levels g.start x.0 g.now.mirror l) g.now.hand)))
       (noted_same (n + 1) altered extra (λ reply h. later reply h))
   event_shows altered extra n (Accepted m t) f later = refl
   event_shows altered extra n (Tagged m) f later = refl
@@ -74,7 +72,7 @@ module _ (keys : Keys) (stash : ℕ) where
   events_show altered extra n (x ∷ xs) f later =
       ap₂ first_of (event_shows altered extra n x f (λ reply h. omega (arith, later reply h)))
       (ap (events_verdict keys stash (altered ++ extra) (n + 1) xs)
-          (event_more keys altered extra n x f (λ reply h. omega (arith, later reply h)))
+      (event_more keys altered extra n x f (λ reply h. omega (arith, later reply h)))
       ∙ events_show altered extra (n + 1) xs (after_event keys altered n x f) (λ reply h. omega (arith, later reply h)))
 
   same_test : (x y : ℕ) → x ≡ y → (y == x) ≡ true
@@ -92,7 +90,7 @@ module _ (keys : Keys) (stash : ℕ) where
       (sym (append-nil now.hand))
   put_fold altered n (Some m) (Real a c) now start leaf is =
       ap (λ b. joined_by keys m (if b then opened now start (Real a c) leaf else settle keys
-          (opened now start (Real a c) leaf))) (same_test m.address.0 a.0 is)
+      (opened now start (Real a c) leaf))) (same_test m.address.0 a.0 is)
   put_fold altered n (Some m) (Dummy k) now start leaf is = absurd is
 
   put_shows : (altered : List Altered) (n : ℕ) (put : Option Message) (p : Point) (now : Contents) (start leaf : ℕ)
@@ -101,8 +99,8 @@ module _ (keys : Keys) (stash : ℕ) where
   put_shows altered n None p now start leaf is = refl
   put_shows altered n (Some m) (Real a c) now start leaf is =
       ap (λ (b : Bool). first_of (if b then None else first_of (open_verdict keys stash (Some (Real a c, leaf)) now)
-          (append_verdict stash m.address (settle keys (opened now start (Real a c) leaf)).now.hand)) None)
-          (same_test m.address.0 a.0 is)
+      (append_verdict stash m.address (settle keys (opened now start (Real a c) leaf)).now.hand)) None)
+      (same_test m.address.0 a.0 is)
   put_shows altered n (Some m) (Dummy k) now start leaf is = absurd is
 
   rest_fold : (altered : List Altered) (n : ℕ) (note : Option (Message × List ℕ)) (put : Option Message) (p : Point)
@@ -121,7 +119,7 @@ module _ (keys : Keys) (stash : ℕ) where
   -- the verdict of a read, and else of the write, is the slot's
   slot_joint : (p : Point) (leaf : ℕ) (hand : List Entry) (read : Result (List Entry) Evidence) (put : Option Message)
       → first_of (read_verdict keys p read) (write_verdict keys stash leaf
-          (hand_after p hand read ++ put_entries keys put)) ≡ slot_verdict keys stash p leaf read put
+      (hand_after p hand read ++ put_entries keys put)) ≡ slot_verdict keys stash p leaf read put
   slot_joint (Real a c) leaf hand (Err evidence) put = refl
   slot_joint (Real a c) leaf hand (Ok joined) put = refl
   slot_joint (Dummy n) leaf hand (Err evidence) put = refl
@@ -136,11 +134,11 @@ module _ (keys : Keys) (stash : ℕ) where
       (note : Option (Message × List ℕ)) (put : Option Message) (extra : List Altered)
       → ((reply : Altered) → Has reply old.altered → reply.before ≤ length old.events)
       → new.events ≡ old.events ++ (drawn_events keys start asked p ++ (note_events note ++ put_events put))
-          → new.altered ≡ old.altered ++ extra
+      → new.altered ≡ old.altered ++ extra
       → All (λ (reply : Altered). reply.before ≡ length old.events + 2) extra → IsOfPoint put p
       → log_verdict keys stash first new
       ≡ first_of (log_verdict keys stash first old) (slot_verdict keys stash p (keys.leaf_of p)
-          (read_of keys (whole keys first old) start p extra) put)
+      (read_of keys (whole keys first old) start p extra) put)
   slot_shows first old new start asked p note put extra past events altered noted is =
       let rest : List Event = note_events note ++ put_events put in
       let f : Fold = fold_events keys old.altered 0 old.events first in
@@ -150,45 +148,48 @@ module _ (keys : Keys) (stash : ℕ) where
       let o : Option Stop = open_verdict keys stash f.path f.now in
       let n : ℕ = 0 + length old.events in
       let before : events_verdict keys stash new.altered 0 old.events first ≡ a =
-          ap (λ l. events_verdict keys stash l 0 old.events first) altered
-          ∙ events_show old.altered extra 0 old.events first
-              (λ reply h. omega (arith, before_at keys first old new start asked p rest extra past events altered noted
-              reply h)) in
+      ap (λ l. events_verdict keys stash l 0 old.events first) altered
+      ∙ events_show old.altered extra 0 old.events first
+      (λ reply h. omega (
+        arith,
+        before_at keys first old new start asked p rest extra past events altered noted
+            reply h,
+      )) in
       let slot : events_verdict keys stash new.altered n (drawn_events keys start asked p ++ rest) f ≡ first_of o
-          (read_verdict keys p r) =
-          ap (λ l. first_of o (first_of (read_verdict keys p (read_of keys w start p l))
-              (events_verdict keys stash new.altered (n + 1 + 1) rest
-              (any_fold keys w start p (read_of keys w start p l)))))
-          (noted_here keys first old new start asked p rest extra past events altered noted)
-          ∙ ap (λ v. first_of o (first_of (read_verdict keys p r) v))
-              (rest_shows new.altered (n + 1 + 1) note put p (record w { hand = hand_after p w.hand r }) start
-              (keys.leaf_of p) is)
-          ∙ ap (first_of o) (first_none (read_verdict keys p r)) in
+      (read_verdict keys p r) =
+      ap (λ l. first_of o (first_of (read_verdict keys p (read_of keys w start p l))
+      (events_verdict keys stash new.altered (n + 1 + 1) rest
+      (any_fold keys w start p (read_of keys w start p l)))))
+      (noted_here keys first old new start asked p rest extra past events altered noted)
+      ∙ ap (λ v. first_of o (first_of (read_verdict keys p r) v))
+      (rest_shows new.altered (n + 1 + 1) note put p (record w { hand = hand_after p w.hand r }) start
+      (keys.leaf_of p) is)
+      ∙ ap (first_of o) (first_none (read_verdict keys p r)) in
       let events_are : events_verdict keys stash new.altered 0 new.events first ≡ first_of a
-          (first_of o (read_verdict keys p r)) =
-          ap (λ l. events_verdict keys stash new.altered 0 l first) events
-          ∙ verdict_append new.altered 0 old.events (drawn_events keys start asked p ++ rest) first
-          ∙ ap₂ (λ x g. first_of x (events_verdict keys stash new.altered n
-              (drawn_events keys start asked p ++ rest) g)) before
-              (so_far keys first old new start asked p rest extra past events altered noted)
-          ∙ ap (first_of a) slot in
+      (first_of o (read_verdict keys p r)) =
+      ap (λ l. events_verdict keys stash new.altered 0 l first) events
+      ∙ verdict_append new.altered 0 old.events (drawn_events keys start asked p ++ rest) first
+      ∙ ap₂ (λ x g. first_of x (events_verdict keys stash new.altered n
+      (drawn_events keys start asked p ++ rest) g)) before
+      (so_far keys first old new start asked p rest extra past events altered noted)
+      ∙ ap (first_of a) slot in
       let end : fold_events keys new.altered 0 new.events first ≡ opened
-          (record w { hand = hand_after p w.hand r ++ put_entries keys put }) start p (keys.leaf_of p) =
-          slot_fold_any keys first old new start asked p rest extra past events altered noted
-          ∙ rest_fold new.altered (n + 1 + 1) note put p (record w { hand = hand_after p w.hand r }) start
-              (keys.leaf_of p) is in
+      (record w { hand = hand_after p w.hand r ++ put_entries keys put }) start p (keys.leaf_of p) =
+      slot_fold_any keys first old new start asked p rest extra past events altered noted
+      ∙ rest_fold new.altered (n + 1 + 1) note put p (record w { hand = hand_after p w.hand r }) start
+      (keys.leaf_of p) is in
       ap₂ (λ x g. first_of x (open_verdict keys stash g.path g.now)) events_are end
       ∙ in_turn a o (read_verdict keys p r) (write_verdict keys stash (keys.leaf_of p)
-          (hand_after p w.hand r ++ put_entries keys put))
+      (hand_after p w.hand r ++ put_entries keys put))
       ∙ ap (first_of (first_of a o)) (slot_joint p (keys.leaf_of p) w.hand r put)
 
   -- an event more that settles the open path
   settled_shows : (first : Fold) (old new : LogLists) (e : Event) (v : Option Stop) → new.events ≡ old.events ++ e ∷ []
       → new.altered ≡ old.altered
       → (let f = fold_events keys old.altered 0 old.events first in event_verdict keys stash old.altered
-          (0 + length old.events) e f ≡ first_of (open_verdict keys stash f.path f.now) v)
+      (0 + length old.events) e f ≡ first_of (open_verdict keys stash f.path f.now) v)
       → (let f = fold_events keys old.altered 0 old.events first in
-          (after_event keys old.altered (0 + length old.events) e f).path ≡ None)
+      (after_event keys old.altered (0 + length old.events) e f).path ≡ None)
       → log_verdict keys stash first new ≡ first_of (log_verdict keys stash first old) v
   settled_shows first old new e v events altered shows shut =
       let f : Fold = fold_events keys old.altered 0 old.events first in
@@ -197,26 +198,26 @@ module _ (keys : Keys) (stash : ℕ) where
       let o : Option Stop = open_verdict keys stash f.path f.now in
       let g : Fold = after_event keys old.altered n e f in
       let events_are : events_verdict keys stash new.altered 0 new.events first ≡ first_of a (first_of o v) =
-          ap₂ (λ l k. events_verdict keys stash l 0 k first) altered events
-          ∙ verdict_append old.altered 0 old.events (e ∷ []) first
-          ∙ ap (first_of a) (first_none (event_verdict keys stash old.altered n e f) ∙ shows) in
+      ap₂ (λ l k. events_verdict keys stash l 0 k first) altered events
+      ∙ verdict_append old.altered 0 old.events (e ∷ []) first
+      ∙ ap (first_of a) (first_none (event_verdict keys stash old.altered n e f) ∙ shows) in
       let end : fold_events keys new.altered 0 new.events first ≡ g = ap₂
-          (λ l k. fold_events keys l 0 k first) altered events
-          ∙ fold_append keys old.altered 0 old.events (e ∷ []) first in
+      (λ l k. fold_events keys l 0 k first) altered events
+      ∙ fold_append keys old.altered 0 old.events (e ∷ []) first in
       ap₂ (λ x h. first_of x (open_verdict keys stash h.path h.now)) events_are end
       ∙ ap (λ path. first_of (first_of a (first_of o v)) (open_verdict keys stash path g.now)) shut
       ∙ first_none (first_of a (first_of o v)) ∙ sym (first_twice a o v)
 
   pub append_shows : (first : Fold) (old new : LogLists) (m : Message)
       → is_open_for m (fold_events keys old.altered 0 old.events first).path ≡ false
-          → new.events ≡ old.events ++ Tagged m ∷ [] → new.altered ≡ old.altered
+      → new.events ≡ old.events ++ Tagged m ∷ [] → new.altered ≡ old.altered
       → log_verdict keys stash first new ≡ first_of (log_verdict keys stash first old)
-          (append_verdict stash m.address (whole keys first old).hand)
+      (append_verdict stash m.address (whole keys first old).hand)
   append_shows first old new m other events altered =
       let f : Fold = fold_events keys old.altered 0 old.events first in
       settled_shows first old new (Tagged m) (append_verdict stash m.address (settle keys f).now.hand) events altered
       (ap (λ (b : Bool). (if b then None else first_of (open_verdict keys stash f.path f.now)
-          (append_verdict stash m.address (settle keys f).now.hand))) other)
+      (append_verdict stash m.address (settle keys f).now.hand))) other)
       (ap (λ (b : Bool). (joined_by keys m (if b then f else settle keys f)).path) other)
 
   pub end_shows : (first : Fold) (old new : LogLists) → IsEnd old new
@@ -227,7 +228,7 @@ module _ (keys : Keys) (stash : ℕ) where
     | inr x ↦
         let f : Fold = fold_events keys old.altered 0 old.events first in
         settled_shows first old new (Chosen x.0) None x.1 e.altered
-            (sym (first_none (open_verdict keys stash f.path f.now))) refl
+        (sym (first_none (open_verdict keys stash f.path f.now))) refl
         ∙ first_none (log_verdict keys stash first old)
   ]
 
@@ -237,5 +238,5 @@ module _ (keys : Keys) (stash : ℕ) where
   answer_shows first old new line value events altered =
       let f : Fold = fold_events keys old.altered 0 old.events first in
       settled_shows first old new (Answered line value) None events altered
-          (sym (first_none (open_verdict keys stash f.path f.now))) refl
+      (sym (first_none (open_verdict keys stash f.path f.now))) refl
       ∙ first_none (log_verdict keys stash first old)

@@ -1,13 +1,12 @@
 -- The contents beside a log: the entries at hand, the buckets as last written, and the seed of the next one; and the two
 -- halves of a slot as steps on them.
-use Rattle.std.specs.Prelude.{◌≡◌, ◌+◌, ℕ, List, [], ◌++◌, length, map, flat_map, All, Option, Result, Ok, Err}
+use Rattle.std.specs.Prelude.{◌≡◌, ◌+◌, ℕ, List, [], map, flat_map, Option, Result, Ok, Err}
 use Rattle.std.specs.Option.{option_to_list}
 use Rattle.asc_base.specs.declared.block.Entry.{Entry}
 use Rattle.asc_base.specs.declared.shape.Shape.{Shape}
 use Rattle.bucket_codec.specs.Bucket.{opened}
 use Rattle.bucket_codec.specs.declared.codec.BadSlot.{BadSlot as Bad}
 use Rattle.bus_watch.specs.declared.log.Altered.{Altered}
-use Rattle.bus_watch.specs.Log.{LogLists}
 use Rattle.oram_contents.specs.PathRead.{replies, path_read}
 use Rattle.oram_contents.specs.PathWritten.{stays, sealed}
 

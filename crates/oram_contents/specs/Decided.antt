@@ -62,7 +62,7 @@ last_draws_it m (e ∷ later) = (if among draws later then last_draws_it m later
 abbrev pub reply_has : Keys → Message → List ℕ → Altered → Bool
 reply_has keys m t reply = among
     (λ (e : Entry). (e.address.0 == m.address.0) && (bytes_eq e.line.0 m.line.0 && bytes_eq e.tag t))
-        (entries_in keys reply.bytes)
+    (entries_in keys reply.bytes)
 
 -- the event accepts, after these, a message that was never tagged
 abbrev pub forged_at : Keys → List Altered → List Event → Event → Bool

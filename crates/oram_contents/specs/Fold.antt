@@ -1,7 +1,7 @@
 -- What a log says of hand and buckets: a fold over its events. Between slots a path stays open until the next event shows
 -- that nothing more joins the hand.
-use Rattle.std.specs.Prelude.{◌≡◌, ◌+◌, ◌-◌, ◌==◌, ℕ, zero, suc, List, [], ◌∷◌, ◌++◌, length, filter, if◌then◌else◌}
-use Rattle.std.specs.Prelude.{Bool, true, false, Option, None, Some, Result, Ok, Err}
+use Rattle.std.specs.Prelude.{◌+◌, ◌-◌, ◌==◌, ℕ, List, [], ◌∷◌, ◌++◌, filter, if◌then◌else◌}
+use Rattle.std.specs.Prelude.{Bool, false, Option, None, Some, Result, Ok, Err}
 use Rattle.asc_base.specs.declared.block.Entry.{Entry}
 use Rattle.asc_base.specs.declared.block.Message.{Message}
 use Rattle.asc_base.specs.declared.block.Point.{Point}
@@ -67,8 +67,10 @@ hand_after p hand (Err evidence) = hand
 
 abbrev pub read_by : Keys → List Altered → Point → ℕ → Fold → Fold
 read_by keys altered p x f = record {
-  now = record f.now { hand = hand_after p f.now.hand
-    (path_read keys.pads keys.shape x (replies keys.shape.levels f.start x f.now.mirror altered) f.now.hand) };
+  now = record f.now {
+    hand = hand_after p f.now.hand
+        (path_read keys.pads keys.shape x (replies keys.shape.levels f.start x f.now.mirror altered) f.now.hand);
+  };
   start = f.start;
   path = Some (p, x);
 }
@@ -111,8 +113,10 @@ written_ok RanOut moves = writes_run 0 moves - 1
 abbrev pub partly : Keys → ℕ → Fold → Contents
 partly keys w f = elim f.path [
   | None ↦ f.now
-  | Some open_at ↦ record f.now { mirror = sealed keys.pads keys.shape.levels open_at.1 f.now.seed f.now.hand
-      f.now.mirror w }
+  | Some open_at ↦ record f.now {
+    mirror = sealed keys.pads keys.shape.levels open_at.1 f.now.seed f.now.hand
+        f.now.mirror w;
+  }
 ]
 
 -- What a log says, from a start on. `whole` is that of a log that ended between slots.
@@ -123,4 +127,4 @@ abbrev pub contents_of_log : Keys → Fold → LogLists → LogEnd → Contents
 contents_of_log keys first log end =
     let f = fold_events keys log.altered 0 log.events first in
     (if written_ok end log.moves == keys.shape.levels + 1 then (settle keys f).now else partly keys
-        (written_ok end log.moves) f)
+    (written_ok end log.moves) f)

@@ -34,7 +34,7 @@ copies a entries = count_by (is_copy a) entries
 abbrev pub tree_copies : Keys → Option ℕ → List (List ℕ) → ℕ → ℕ
 tree_copies keys path mirror a =
     total (λ b. (if is_open keys.shape.levels path b then 0 else copies a (entries_at keys mirror b)))
-        keys.shape.buckets
+    keys.shape.buckets
 
 -- 1 for a block that is in flight, else 0
 abbrev pub flying : ℕ → Option ℕ → ℕ

@@ -25,7 +25,7 @@ FromOutside keys log e = (reply : Altered) × Has reply log.altered × Stood key
 abbrev pub Came : Keys → LogLists → Entry → Type 0
 Came keys log e = FromOutside keys log e
     ⊎ ((m : Message) × Has (Tagged m) log.events × (m.address.0 ≡ e.address.0) × (m.line.0 ≡ e.line.0)
-        × (tag keys.tags m ≡ e.tag))
+    × (tag keys.tags m ≡ e.tag))
 
 -- the message that an entry is of, under a counter
 abbrev pub message_in : Entry → Counter → Message

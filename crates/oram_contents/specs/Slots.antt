@@ -1,10 +1,9 @@
 -- The parts of a slot, each by what it leaves in the log and in the contents.
-use Rattle.std.specs.Prelude.{◌≡◌, ◌≤◌, ◌<◌, ◌+◌, ◌^◌, ◌⊎◌, ℕ, zero, suc, List, [], ◌∷◌, ◌++◌, length, All, Option}
+use Rattle.std.specs.Prelude.{◌≡◌, ◌<◌, ◌+◌, ◌^◌, ◌⊎◌, ℕ, zero, suc, List, [], ◌∷◌, ◌++◌, length, All, Option}
 use Rattle.std.specs.Prelude.{None, Some}
 use Rattle.asc_base.specs.TreeShape.{parent_of}
 use Rattle.asc_base.specs.declared.block.Counter.{Counter}
 use Rattle.asc_base.specs.declared.block.Entry.{Entry}
-use Rattle.asc_base.specs.declared.block.Leaf.{Leaf}
 use Rattle.asc_base.specs.declared.block.Point.{Point}
 use Rattle.asc_base.specs.declared.block.Point.TheVariants.{Real, Dummy}
 use Rattle.bus_watch.specs.Log.{LogLists}
@@ -19,7 +18,7 @@ use Rattle.oram_contents.specs.Entries.{Keys, real, message_of, entry_of}
 use Rattle.oram_contents.specs.Counts.{Ghost, IsAway, put_at}
 use Rattle.oram_contents.specs.Fold.{with_entry}
 use Rattle.oram_contents.specs.Verdict.{judged}
-use Rattle.oram_contents.specs.Steps.{Adds, accepted, stored}
+use Rattle.oram_contents.specs.Steps.{Adds, accepted}
 
 -- the events of a slot's start
 abbrev pub drawn_events : Keys → ℕ → Option ℕ → Point → List Event

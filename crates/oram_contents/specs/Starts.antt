@@ -1,7 +1,5 @@
 -- The start: nothing is noted, and no block was accessed.
-use Rattle.std.specs.Prelude.{◌≡◌, ℕ, List, [], ◌∷◌, ◌++◌, None, Some}
-use Rattle.asc_base.specs.declared.block.Entry.{Entry}
-use Rattle.asc_base.specs.declared.block.Message.{Message}
+use Rattle.std.specs.Prelude.{ℕ, List, [], ◌∷◌, ◌++◌, None, Some}
 use Rattle.asc_outside.specs.Memory.{zero_buckets}
 use Rattle.bucket_codec.specs.Bucket.{bucket_text}
 use Rattle.bus_watch.specs.Log.{LogLists}
@@ -41,8 +39,13 @@ abbrev pub forged_log : Keys → ℕ → Counter → List ℕ → LogLists
 forged_log keys a c l = record {
   moves = [];
   events = drawn_events keys 0 None (real a c) ++ Accepted (message_of a c l) (entry_of keys a c l).tag ∷ [];
-  altered = record { time = 0; bucket = 0; bytes = bucket_text keys.pads 1
-      (Some (entry_of keys a c l) ∷ None ∷ None ∷ None ∷ []); before = 2 } ∷ [];
+  altered = record {
+    time = 0;
+    bucket = 0;
+    bytes = bucket_text keys.pads 1
+        (Some (entry_of keys a c l) ∷ None ∷ None ∷ None ∷ []);
+    before = 2;
+  } ∷ [];
 }
 
 -- A log with the same altered reply in which nothing is accepted.
