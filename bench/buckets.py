@@ -1,20 +1,22 @@
 #!/usr/bin/env python3
-"""Seals and opens buckets of the tree, and prints how many bytes a second that makes, beside the openssl program's
-ChaCha20 where it is installed.
+"""Seals and opens buckets of the tree, and prints how many bytes that makes in a second of the processor's time, beside
+the openssl program's ChaCha20 over as many bytes as a bucket's pad has, where it is installed.
 
-It builds a program of its own over copies of the crates, in a folder that is removed at the end. `rt` must be on the
-path. The one argument that it takes is the number of buckets, 200000 where there is none.
+Both sides count the user time of a process, and each is the best of three runs. The program is built over copies of the
+crates' sources, in a folder that is removed at the end. `rt` must be on the path. The one argument that it takes is the
+number of buckets, 200000 where there is none.
 """
 import os
+import resource
 import shutil
 import subprocess
 import sys
 import tempfile
-import time
 
 TOP = os.path.dirname(os.path.dirname(os.path.abspath(__file__)))
 CRATES = ("asc_base", "hmac_sha", "bucket_codec")
-BUCKET = 376
+PAD = 368
+RUNS = 3
 
 PROGRAM = """\
 #![tactic(auto)]
@@ -55,7 +57,8 @@ def crate_lines():
 
 def build(folder, count):
     for name in CRATES:
-        shutil.copytree(os.path.join(TOP, "crates", name), os.path.join(folder, "crates", name))
+        crate = os.path.join("crates", name)
+        shutil.copytree(os.path.join(TOP, crate), os.path.join(folder, crate), ignore=shutil.ignore_patterns("out"))
     source = os.path.join(folder, "crates", "bucket_bench", "src")
     os.makedirs(source)
     with open(os.path.join(source, "main.rt"), "w", encoding="utf-8") as main:
@@ -65,26 +68,39 @@ def build(folder, count):
     return os.path.join(folder, "crates", "bucket_bench")
 
 
-def seconds(crate):
-    """The best of three runs of the program, once it is proved and built."""
+def user_seconds(command):
+    """The user time that a command takes."""
+    before = resource.getrusage(resource.RUSAGE_CHILDREN).ru_utime
+    subprocess.run(command, check=True)
+    return resource.getrusage(resource.RUSAGE_CHILDREN).ru_utime - before
+
+
+def codec_rate(crate, count):
+    """The bytes under a pad in a second, once the program is proved and built. A seal is one pad, and so is an open."""
     subprocess.run(["rt", "run"], cwd=crate, check=True, stdout=subprocess.DEVNULL, stderr=subprocess.DEVNULL)
-    times = []
-    for _ in range(3):
-        start = time.monotonic()
-        subprocess.run([os.path.join(crate, "out", "bucket_bench")], check=True)
-        times.append(time.monotonic() - start)
-    return min(times)
+    program = os.path.join(crate, "out", "bucket_bench")
+    return 2 * count * PAD / min(user_seconds([program]) for _ in range(RUNS))
+
+
+def openssl_rate():
+    """The same of openssl's ChaCha20, which prints thousands of bytes in a second of user time."""
+    command = ["openssl", "speed", "-seconds", "1", "-bytes", str(PAD), "-evp", "chacha20"]
+    rates = []
+    for _ in range(RUNS):
+        said = subprocess.run(command, capture_output=True, text=True, check=True).stdout
+        rates.append(1000 * float(said.split()[-1].removesuffix("k")))
+    return max(rates)
 
 
 def main():
     count = int(sys.argv[1]) if len(sys.argv) > 1 else 200_000
     with tempfile.TemporaryDirectory() as folder:
-        spent = seconds(build(folder, count))
-    print(f"{count} buckets sealed and opened in {spent:.2f} seconds: {2 * count * BUCKET / spent / 1e6:.1f} MB a second")
+        rate = codec_rate(build(folder, count), count)
+    print(f"{count} buckets sealed and opened: {rate / 1e6:.1f} million bytes a second of user time")
     if shutil.which("openssl"):
-        command = ["openssl", "speed", "-seconds", "1", "-bytes", "368", "-evp", "chacha20"]
-        said = subprocess.run(command, capture_output=True, text=True, check=True).stdout
-        print("openssl speed -bytes 368 -evp chacha20:", said.strip().splitlines()[-1])
+        print(f"openssl's ChaCha20 on {PAD} bytes at a time: {openssl_rate() / 1e6:.1f} million bytes a second of user time")
+    else:
+        print("openssl: not installed")
 
 
 if __name__ == "__main__":

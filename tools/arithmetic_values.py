@@ -1,7 +1,10 @@
 #!/usr/bin/env python3
 """Prints the rows of the tests of rv32_arithmetic, computed over Python's whole numbers by the rules of the RISC-V
-unprivileged manual (RV32I 2.1 and M 2.0).
+unprivileged manual (RV32I 2.1 and M 2.0). The rows under 'told apart' are operands on which an operation's answer is no
+other operation's.
 """
+import random
+
 WORD = 2**32
 MINUS_1, MINUS_2, MINUS_7 = WORD - 1, WORD - 2, WORD - 7
 LEAST, GREATEST = 2**31, 2**31 - 1
@@ -81,6 +84,55 @@ def shown(value):
     return f"0x{value >> 16:04x}_{value % 2**16:04x}"
 
 
+FORMS = {"Addi": "Add", "Slti": "Slt", "Sltiu": "Sltu", "Xori": "Xor", "Ori": "Or", "Andi": "And", "Slli": "Sll",
+         "Srli": "Srl", "Srai": "Sra"}
+
+# each load, with how many bytes it has and whether their sign is extended
+LOADS = {"Lb": (1, True), "Lh": (2, True), "Lw": (4, False), "Lbu": (1, False), "Lhu": (2, False)}
+STORES = {"Sb": 1, "Sh": 2, "Sw": 4}
+
+# operands that are equal, of which the first is less both ways, neither way, signed alone, and unsigned alone
+BRANCHED = [(5, 5), (MINUS_7, MINUS_7), (4, 5), (5, 4), (MINUS_7, MINUS_2), (LEAST, GREATEST), (GREATEST, LEAST),
+            (MINUS_1, 0), (0, MINUS_1)]
+
+
+def operands(choice):
+    """Any word, one near either end of a reading, or a small one."""
+    near = choice.randrange(2**choice.randrange(5, 20))
+    return choice.choice([choice.randrange(WORD), WORD - 1 - near, LEAST + near, GREATEST - near, near])
+
+
+def told_apart(name, count, second):
+    """The first pairs of operands, of so many, on which the operation answers what no other does."""
+    choice = random.Random(name)
+    while count > 0:
+        x, y = operands(choice), second(choice)
+        answers = {other: operation(x, y % WORD) % WORD for other, operation in REGISTERS.items()}
+        if list(answers.values()).count(answers[name]) == 1:
+            count -= 1
+            yield x, y, answers[name]
+
+
+def all_told_apart():
+    for name in REGISTERS:
+        for x, y, answer in told_apart(name, 3, operands):
+            print(f"(RegOp::{name}, {shown(x)}, {shown(y)}, {shown(answer)}),")
+    for name, form in FORMS.items():
+        least, end = (1, 32) if name in ("Slli", "Srli", "Srai") else (-2048, 2048)
+        for x, immediate, answer in told_apart(form, 3, lambda choice: choice.randrange(least, end)):
+            print(f"(ImmOp::{name}, RegOp::{form}, {shown(x)}, {immediate:_}, {shown(answer)}),")
+    for word in (0x9ABCF0F1, 0x808190FE, 0x7FFF8080):
+        for name, (width, extends) in LOADS.items():
+            loaded = word % 256**width
+            answer = signed(loaded, 8 * width) % WORD if extends else loaded
+            print(f"(LoadOp::{name}, {shown(word)}, {shown(answer)}),")
+        for name, width in STORES.items():
+            print(f"(StoreOp::{name}, {shown(word)}, {shown(word % 256**width)}),")
+    for x, y in BRANCHED:
+        taken = ", ".join(str(is_taken(x, y)).lower() for is_taken in BRANCHES.values())
+        print(f"({shown(x)}, {shown(y)}, [{taken}]),")
+
+
 def registers(names, pairs):
     for name in names:
         for x, y in pairs:
@@ -121,6 +173,8 @@ def main():
     for bits, values in ((8, (0, 0x7F, 0x80, 0xAA, 0xFF)), (16, (0, 0x80, 0x7FFF, 0x8000, 0xAAAA, 0xFFFF))):
         for value in values:
             print(f"(0x{value:0{bits // 4}x}, {shown(signed(value, bits) % WORD)}),")
+    print("told apart")
+    all_told_apart()
 
 
 if __name__ == "__main__":

@@ -1,5 +1,5 @@
 -- What a host means: its count of faults and, where they are told, its files, what it printed and what it was asked.
-use Rattle.std.specs.Prelude.{◌≡◌, ◌≢◌, ℕ, ◌+◌, ◌-◌, ◌^◌, ◌≤◌, ◌<◌, min, length, List, [], ◌∷◌, ◌++◌}
+use Rattle.std.specs.Prelude.{◌≡◌, ◌≢◌, ℕ, ◌<◌, length, List, [], ◌∷◌, ◌++◌}
 use Rattle.std.specs.Prelude.{Option, Some, is_some, option_map, Result, Ok, Err}
 use Rattle.asc_outside.specs.declared.host.HostFault.{HostFault}
 use Rattle.asc_outside.specs.declared.host.HostFault.TheVariants.{Failed, TooLong, NoMemory}
@@ -22,10 +22,6 @@ pub record HostState : Type 0 where
   pub printed : Option (List ℕ)
   -- the calls so far, in order
   pub asked : Option (List HostCall)
-
--- the count rose, or stands at the end of its type
-abbrev pub Rose : ℕ → ℕ → Type 0
-Rose before now = min (before + 1) (2 ^ 64 - 1) ≤ now
 
 -- every answer but want of memory adds the call to a list that is told
 abbrev pub asked_after : {T : Type 0} → Option (List HostCall) → HostCall → Result T HostFault → Option (List HostCall)

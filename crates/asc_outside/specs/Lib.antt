@@ -5,3 +5,4 @@ pub mod NamedFiles
 pub mod Memories
 pub mod MemoriesView
 pub mod Memory
+pub mod Rose

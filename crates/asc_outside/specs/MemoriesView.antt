@@ -2,10 +2,10 @@
 use Rattle.std.specs.Prelude.{◌≡◌, ◌≤◌, ◌==◌, min, vec_capacity, None, Some, if◌then◌else◌, map, vec_len}
 use Rattle.asc_outside.specs.Memory.{Ask}
 use Rattle.asc_outside.specs.Memories.{BucketsState, FaultyState, ScriptedState}
-use Rattle.asc_outside.specs.declared.fakes.Asked.{Asked}
-use Rattle.asc_outside.specs.declared.fakes.HonestMemory.TheInside as honest
-use Rattle.asc_outside.specs.declared.fakes.FaultyMemory.TheInside as faulty
-use Rattle.asc_outside.specs.declared.fakes.ScriptedMemory.TheInside as scripted
+use Rattle.asc_outside.specs.declared.memories.Asked.{Asked}
+use Rattle.asc_outside.specs.declared.memories.HonestMemory.TheInside as honest
+use Rattle.asc_outside.specs.declared.memories.FaultyMemory.TheInside as faulty
+use Rattle.asc_outside.specs.declared.memories.ScriptedMemory.TheInside as scripted
 
 -- the buckets are told where all of them are there
 abbrev pub honest_view : honest.Inside → BucketsState

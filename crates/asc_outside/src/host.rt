@@ -1,6 +1,7 @@
 ghost use Rattle.std.specs.Prelude.{◌≡◌, ◌≤◌, ◌++◌, ◌∷◌, Some, is_some, option_map, vec_len};
 ghost use Rattle.std.specs.Prelude.{IfOk, IfSome, OnOk, IsErrOf};
-ghost use Rattle.asc_outside.specs.Host.{HostState, Reads, Writes, Prints, Rose, asked_after, OthersStay, IsLonger};
+ghost use Rattle.asc_outside.specs.Host.{HostState, Reads, Writes, Prints, asked_after, OthersStay, IsLonger};
+ghost use Rattle.asc_outside.specs.Rose.{Rose};
 
 use std::alloc::Global;
 

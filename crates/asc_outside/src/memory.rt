@@ -1,7 +1,7 @@
 ghost use Rattle.std.specs.Prelude.{◌≡◌, ◌<◌, ◌≤◌, ◌+◌, ◌^◌, Some, None, IfSome, OnOk, OnErr, IsErrOf};
 ghost use Rattle.std.specs.Prelude.{slice_get, slice_set, option_map};
-ghost use Rattle.asc_outside.specs.Host.{Rose};
 ghost use Rattle.asc_outside.specs.Memory.{MemoryState, Adds, Keeps, zero_buckets, read_ask, write_ask, zero_bucket};
+ghost use Rattle.asc_outside.specs.Rose.{Rose};
 
 /// The bytes of a bucket.
 pub const BUCKET_BYTES: usize = 376;

@@ -1,5 +1,5 @@
 ghost use Rattle.std.specs.Prelude.{◌≡◌, ◌≢◌, ◌≤◌, None, IfOk, IfSome, vec_len};
-ghost use Rattle.asc_outside.specs.Host.{Rose};
+ghost use Rattle.asc_outside.specs.Rose.{Rose};
 
 use asc_outside::{Host, HostFault};
 use std::alloc::Global;

@@ -1,6 +1,7 @@
 -- How a command ends, after its steps and the print of a refusal's text.
 use Rattle.std.proofs.Common.{◌≡◌, ◌⊎◌, ℕ, ◌<◌, ◌≤◌, List, ◌++◌, Option, Some, None, Result, Ok, Err, IsSome, option_map, length, take, refl, sym, ap, subst, ◌∙◌, inl, inr, arith, append_assoc, append-nil}
-use Rattle.asc_outside.specs.Host.{HostCall, HostState, Files, Rose, OthersStay}
+use Rattle.asc_outside.specs.Host.{HostCall, HostState, Files, OthersStay}
+use Rattle.asc_outside.specs.Rose.{Rose}
 use Rattle.elf_loader.specs.Faults.{IsFault}
 use Rattle.ascend_top.specs.Command.{Completes, Runs, HasAsked, StepsEnd, Reports, Refuses, CommandEnds, HasOutput, Written, AsksMore, PrintsMore, PrintsText, Unprinted, step_calls, print_calls}
 use Rattle.ascend_top.specs.Endings.{status_of, status_of_ending, status_of_flat}

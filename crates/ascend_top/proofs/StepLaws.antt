@@ -1,6 +1,7 @@
 -- How the steps of a command compose.
 use Rattle.std.proofs.Common.{◌≡◌, ℕ, ◌≤◌, ◌<◌, List, [], ◌∷◌, ◌++◌, Option, Some, None, Result, Err, IfSome, IfErr, take, drop, option_map, zero, suc, refl, sym, ap, subst, ◌∙◌, arith, append_assoc, append-nil}
-use Rattle.asc_outside.specs.Host.{HostCall, Reads, Writes, Prints, HostState, Files, Rose, IsLonger, OthersStay, asked_after}
+use Rattle.asc_outside.specs.Host.{HostCall, Reads, Writes, Prints, HostState, Files, IsLonger, OthersStay, asked_after}
+use Rattle.asc_outside.specs.Rose.{Rose}
 use Rattle.std.specs.Option.{is_some}
 use Rattle.asc_outside.specs.declared.host.HostFault.{HostFault}
 use Rattle.asc_outside.specs.declared.host.HostFault.TheVariants.{Failed, TooLong as TooLongFile, NoMemory as OutOfMemory}

@@ -2,7 +2,8 @@
 -- report.
 use Rattle.std.specs.Prelude.{◌≡◌, ◌⊎◌, ℕ, ◌≤◌, ◌<◌, List, [], ◌∷◌, ◌++◌, length, take, drop, zero, suc}
 use Rattle.std.specs.Prelude.{Option, Some, None, Result, Ok, Err, IfErr, OnOk, IfSome, IsSome, option_map}
-use Rattle.asc_outside.specs.Host.{HostCall, Reads, Writes, Prints, HostState, Files, Rose, IsLonger, OthersStay}
+use Rattle.asc_outside.specs.Host.{HostCall, Reads, Writes, Prints, HostState, Files, IsLonger, OthersStay}
+use Rattle.asc_outside.specs.Rose.{Rose}
 use Rattle.elf_loader.specs.Faults.{IsFaultless, IsFirstFault}
 use Rattle.rv32_core.specs.FlatRun.{FlatRun}
 use Rattle.ascend_top.specs.Endings.{status_of_flat}

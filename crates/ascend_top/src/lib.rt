@@ -11,7 +11,8 @@ mod text;
 mod words;
 
 ghost use Rattle.std.specs.Prelude.{◌≡◌, ◌⊎◌, ℕ, List, Some, Result};
-ghost use Rattle.asc_outside.specs.Host.{Files, Rose};
+ghost use Rattle.asc_outside.specs.Host.{Files};
+ghost use Rattle.asc_outside.specs.Rose.{Rose};
 ghost use Rattle.ascend_top.specs.Command.{CommandEnds, Completes, Refuses, Runs};
 ghost use Rattle.ascend_top.specs.Endings.{status_of, status_of_refusal};
 ghost use Rattle.ascend_top.specs.Words.{RunValues, IsFault, IsRun, texts, run_values};

@@ -2,6 +2,7 @@
 use Rattle.std.proofs.Common.{◌≡◌, ℕ, ◌+◌, ◌*◌, ◌^◌, ◌<◌, ◌==◌, false, List, [], ◌∷◌, ◌++◌, length, take, drop, get_or}
 use Rattle.std.proofs.Common.{flat_map, Option, Some, None, Ok, refl, sym, ap, ◌∙◌, lit<, append-nil, length-append}
 use Rattle.std.proofs.Common.{length-drop, arith}
+use Rattle.std.specs.Int.{w64, to_be_bytes}
 use Rattle.std.proofs.lemmas.List.{drop-drop, take_more}
 use Rattle.std.proofs.lemmas.List.Concat.{flat_map-append}
 use Rattle.asc_base.specs.declared.block.Entry.{Entry}
@@ -9,7 +10,7 @@ use Rattle.asc_base.specs.declared.shape.Shape.{Shape}
 use Rattle.bucket_codec.proofs.Lists.{taken, dropped, placed}
 use Rattle.std.proofs.lemmas.Bool.Decides.{Decides-eqb}
 use Rattle.std.proofs.lemmas.Nat.{from_be_bytes-to_be_bytes_8}
-use Rattle.bucket_codec.proofs.Pads.{length-pad_of, masked-twice}
+use Rattle.bucket_codec.proofs.Pads.{length-pad_of, length-masked, masked-twice}
 use Rattle.bucket_codec.proofs.Slots.{is_false, slot_in-text, slot_of_text, length-slot_text}
 use Rattle.bucket_codec.specs.Pad.{pad_of, masked}
 use Rattle.bucket_codec.specs.Slot.{slot_text, slot_in, IsSlot, IsInRange}
@@ -85,10 +86,10 @@ parts_of a b c d ha hb hc hd =
           ∙ part-first (slot_text d) [] ld;
     }
 
-length-body_text : (a b c d : Option Entry) → IsSlot a → IsSlot b → IsSlot c → IsSlot d
+length-four : (a b c d : Option Entry) → IsSlot a → IsSlot b → IsSlot c → IsSlot d
     → length (body_text (a ∷ b ∷ c ∷ d ∷ [])) ≡ 368
 unfolding body_text
-length-body_text a b c d ha hb hc hd =
+length-four a b c d ha hb hc hd =
     let rd = slot_text d ++ [] in
     let rc = slot_text c ++ rd in
     let rb = slot_text b ++ rc in
@@ -129,7 +130,7 @@ opened_four key shape seed a b c d some below ha hb hc hd ra rb rc rd =
     let test : (seed_in (bucket_text key seed slots) == 0) ≡ false =
     is_false _ (seed_in (bucket_text key seed slots) ≡ 0) (Decides-eqb _ 0)
     (λ zero. absurd (omega (arith, same, zero))) in
-    let body = body_in-bucket key seed slots below (length-body_text a b c d ha hb hc hd) in
+    let body = body_in-bucket key seed slots below (length-four a b c d ha hb hc hd) in
     let parts = parts_of a b c d ha hb hc hd in
     rw (test, body) (slots_in-four shape (body_text slots) a b c d
     (ap (slot_in shape) parts.first ∙ slot_in-text shape a ha ra)
@@ -159,8 +160,8 @@ differs_four key seed a b c d e f g h ha hb hc hd he hf hg hh same =
     let x = body_text (a ∷ b ∷ c ∷ d ∷ []) in
     let y = body_text (e ∷ f ∷ g ∷ h ∷ []) in
     let pad = pad_of key seed in
-    let lx = length-pad_of key seed ∙ sym (length-body_text a b c d ha hb hc hd) in
-    let ly = length-pad_of key seed ∙ sym (length-body_text e f g h he hf hg hh) in
+    let lx = length-pad_of key seed ∙ sym (length-four a b c d ha hb hc hd) in
+    let ly = length-pad_of key seed ∙ sym (length-four e f g h he hf hg hh) in
     let under : masked pad x ≡ masked pad y = ap (drop 8) same in
     let bodies : x ≡ y = sym (masked-twice pad x lx) ∙ ap (masked pad) under ∙ masked-twice pad y ly in
     let p = parts_of a b c d ha hb hc hd in
@@ -201,7 +202,7 @@ four_of (a ∷ b ∷ c ∷ d ∷ []) is = record {
 }
 four_of (a ∷ b ∷ c ∷ d ∷ e ∷ rest) is = absurd (omega (arith, is.four))
 
-pub slots_of_text : (key : List ℕ) (seed : ℕ) (xs ys : List (Option Entry)) → AreSlots xs → AreSlots ys
+slots_of_text : (key : List ℕ) (seed : ℕ) (xs ys : List (Option Entry)) → AreSlots xs → AreSlots ys
     → bucket_text key seed xs ≡ bucket_text key seed ys → xs ≡ ys
 slots_of_text key seed xs ys hx hy same =
     let p = four_of xs hx in
@@ -210,3 +211,25 @@ slots_of_text key seed xs ys hx hy same =
     p.whole
     ∙ differs_four key seed p.a p.b p.c p.d q.a q.b q.c q.d p.is_a p.is_b p.is_c p.is_d q.is_a q.is_b q.is_c q.is_d told
     ∙ sym q.whole
+
+-- four slots have 368 bytes, and their bucket has 376
+length-body_text : (slots : List (Option Entry)) → AreSlots slots → length (body_text slots) ≡ 368
+length-body_text slots is =
+    let p = four_of slots is in
+    ap (λ s. length (body_text s)) p.whole ∙ length-four p.a p.b p.c p.d p.is_a p.is_b p.is_c p.is_d
+
+pub length-bucket_text : (key : List ℕ) (seed : ℕ) (slots : List (Option Entry)) → AreSlots slots
+    → length (bucket_text key seed slots) ≡ 376
+unfolding bucket_text
+length-bucket_text key seed slots is =
+    let pad = pad_of key seed in
+    let body = length-body_text slots is in
+    let under = length-masked pad (body_text slots) (length-pad_of key seed ∙ sym body) in
+    omega (arith, length-append (to_be_bytes w64 seed) (masked pad (body_text slots)), under, body)
+
+-- equal texts have equal seeds and slots
+pub parts_of_text : (key : List ℕ) (m n : ℕ) (xs ys : List (Option Entry)) → m < 2 ^ 64 → n < 2 ^ 64
+    → AreSlots xs → AreSlots ys → bucket_text key m xs ≡ bucket_text key n ys → (m ≡ n) × (xs ≡ ys)
+parts_of_text key m n xs ys hm hn hx hy same =
+    let seeds : m ≡ n = sym (seed_in-bucket key m xs hm) ∙ ap seed_in same ∙ seed_in-bucket key n ys hn in
+    (seeds, slots_of_text key n xs ys hx hy (ap (λ s. bucket_text key s xs) (sym seeds) ∙ same))

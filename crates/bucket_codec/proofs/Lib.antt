@@ -1,5 +1,6 @@
 pub mod Buckets
 pub mod Lists
+pub mod Opened
 pub mod Pads
 pub mod Slots
 pub mod Spelled

@@ -1,10 +1,13 @@
 -- Pads, and bytes under them.
 use Rattle.std.proofs.Common.{◌≡◌, ℕ, zero, suc, ◌+◌, ◌*◌, ◌%◌, ◌^◌, ◌<◌, List, [], ◌∷◌, ◌++◌, length, take, drop}
 use Rattle.std.proofs.Common.{get_or, set, bit_xor, refl, ap, sym, ◌∙◌, arith}
-use Rattle.std.specs.Int.{w32, to_le_bytes}
+use Rattle.std.specs.Int.{w32, to_le_bytes, byte_at}
 use Rattle.std.specs.Int.Bits.{xor_assoc, xor_self, xor_zero_l}
-use Rattle.std.proofs.lemmas.Nat.{xor_comm}
+use Rattle.std.proofs.lemmas.List.Elements.{All-nil, All-cons, All-head, All-tail, All-append}
+use Rattle.std.proofs.lemmas.Nat.{xor_comm, xor_of_8}
 use Rattle.std.proofs.lemmas.Grind.{common_steps}
+use Rattle.asc_base.proofs.Bytes.{byte_at-below}
+use Rattle.asc_base.specs.Bytes.{AreBytes}
 use Rattle.rand_core.specs.Steps.{word_bytes}
 use Rattle.rand_chacha.specs.ChaCha.{ChaCha, next_word, key_of}
 use Rattle.bucket_codec.specs.Pad.{stream_bytes, pad_of, masked}
@@ -69,3 +72,31 @@ masked-twice (p ∷ pad) [] e = absurd (omega arith)
 masked-twice (p ∷ pad) (b ∷ bytes) e =
     ap (λ x. x ∷ masked pad (masked pad bytes)) (xor_twice p b)
     ∙ ap (λ xs. b ∷ xs) (masked-twice pad bytes (omega arith))
+
+-- a pad is made of bytes, and so are bytes under it
+bytes_word : (n : ℕ) → AreBytes (to_le_bytes w32 n)
+bytes_word n =
+    let P = λ (b : ℕ). b < 256 in
+    All-cons P (byte_at 0 n) (byte_at 1 n ∷ byte_at 2 n ∷ byte_at 3 n ∷ []) (byte_at-below 0 n)
+    (All-cons P (byte_at 1 n) (byte_at 2 n ∷ byte_at 3 n ∷ []) (byte_at-below 1 n)
+    (All-cons P (byte_at 2 n) (byte_at 3 n ∷ []) (byte_at-below 2 n)
+    (All-cons P (byte_at 3 n) [] (byte_at-below 3 n) (All-nil P))))
+
+bytes_stream : (key : List ℕ) (stream n : ℕ) → AreBytes (stream_bytes key stream n)
+unfolding stream_bytes
+bytes_stream key stream zero = All-nil (λ b. b < 256)
+bytes_stream key stream (suc n) =
+    All-append (λ b. b < 256) (stream_bytes key stream n) _ (bytes_stream key stream n) (bytes_word _)
+
+pub bytes_pad : (key : List ℕ) (seed : ℕ) → AreBytes (pad_of key seed)
+unfolding pad_of
+bytes_pad key seed = bytes_stream key seed 92
+
+pub bytes_masked : (pad bytes : List ℕ) → AreBytes pad → AreBytes bytes → AreBytes (masked pad bytes)
+unfolding masked
+bytes_masked [] bytes h k = All-nil (λ b. b < 256)
+bytes_masked (p ∷ pad) [] h k = All-nil (λ b. b < 256)
+bytes_masked (p ∷ pad) (b ∷ bytes) h k =
+    let P = λ (x : ℕ). x < 256 in
+    All-cons P (bit_xor p b) (masked pad bytes) (xor_of_8 p b (All-head P p pad h) (All-head P b bytes k))
+    (bytes_masked pad bytes (All-tail P p pad h) (All-tail P b bytes k))

@@ -1,88 +1,41 @@
 -- What is read gives back the bytes that it was read from.
-use Rattle.std.proofs.Common.{◌≡◌, ◌≢◌, ◌↔◌, ℕ, zero, suc, ◌+◌, ◌*◌, ◌/◌, ◌^◌, ◌<◌, ◌≤◌, ◌==◌, Bool, true, false, ◌&&◌}
-use Rattle.std.proofs.Common.{◌⊎◌, List, [], ◌∷◌, ◌++◌, length, take, drop, get_or, All, Option, Some, None, Ok, Err}
+use Rattle.std.proofs.Common.{◌≡◌, ◌≢◌, ◌↔◌, ℕ, ◌+◌, ◌*◌, ◌^◌, ◌<◌, ◌≤◌, ◌==◌, Bool, true, false}
+use Rattle.std.proofs.Common.{◌⊎◌, List, [], ◌∷◌, ◌++◌, length, take, drop, Option, Some, None, Ok, Err}
 use Rattle.std.proofs.Common.{refl, sym, ap, ◌∙◌, subst, inl, inr, lit<, append-nil, below_none, below_more}
 use Rattle.std.proofs.Common.{length-drop, arith}
-use Rattle.std.specs.Int.{w32, w64, to_be_bytes, from_be_bytes, to_le_bytes, byte_at}
+use Rattle.std.specs.Int.{w32, to_be_bytes, from_be_bytes}
 use Rattle.std.specs.Str.{bytes_eq}
-use Rattle.std.proofs.lemmas.Bool.Decides.{Decides-eqb, Decides-ltb}
-use Rattle.std.proofs.lemmas.List.{take-append-drop, drop-drop, get_or-drop, length-take-le, take_all}
-use Rattle.std.proofs.lemmas.List.Elements.{All-head, All-tail, All-cons, All-nil}
-use Rattle.std.proofs.lemmas.Nat.{be_bytes_4, be_bytes_8, xor_of_8, mod_below}
+use Rattle.std.proofs.lemmas.Bool.Decides.{Decides-ltb}
+use Rattle.std.proofs.lemmas.List.{take-append-drop, drop-drop, length-take-le, take_all}
+use Rattle.std.proofs.lemmas.List.Elements.{All-take, All-drop}
+use Rattle.std.proofs.lemmas.Nat.{be_bytes_4}
 use Rattle.std.proofs.lemmas.Slice.Eq.{bytes_eq-Decides}
+use Rattle.asc_base.proofs.Bytes.{byte_of, both}
+use Rattle.asc_base.specs.Bytes.{AreBytes}
 use Rattle.asc_base.specs.declared.block.Entry.{Entry}
 use Rattle.asc_base.specs.declared.shape.Shape.{Shape}
-use Rattle.bucket_codec.proofs.Pads.{length-pad_of, length-masked, masked-twice}
-use Rattle.bucket_codec.proofs.Slots.{is_false, slot_in-text, slot_in-empty, slot_in-no_flag, slot_in-outside}
+use Rattle.bucket_codec.proofs.Slots.{slot_in-text, slot_in-empty, slot_in-no_flag, slot_in-outside}
 use Rattle.bucket_codec.proofs.Slots.{slot_in-entry}
 use Rattle.bucket_codec.proofs.Buckets.{slots_in-four}
-use Rattle.bucket_codec.specs.Bucket.{body_text, bucket_text, seed_in, body_in, part, slot_at, slots_in, opened}
-use Rattle.bucket_codec.specs.Bucket.{IsFirstBad, AreSlots, AreInRange}
+use Rattle.bucket_codec.specs.Bucket.{body_text, seed_in, body_in, part, slot_at, slots_in, opened}
+use Rattle.bucket_codec.specs.Bucket.{IsFirstBad}
 use Rattle.bucket_codec.specs.declared.codec.BadSlot.{BadSlot}
-use Rattle.bucket_codec.specs.Pad.{stream_bytes, pad_of, masked}
 use Rattle.bucket_codec.specs.Slot.{flag, entry_text, empty_text, slot_text, entry_in, is_placed, slot_in, IsEntry}
-use Rattle.bucket_codec.specs.Slot.{IsSlot, IsInRange, Spells}
+use Rattle.bucket_codec.specs.Slot.{IsInRange, Spells}
 
--- every element is a byte
-abbrev pub Bytes : List ℕ → Type 0
-Bytes xs = (i : ℕ) → get_or xs i 0 < 256
-
-pub bytes_of_all : (xs : List ℕ) → All (λ b. b < 256) xs → Bytes xs
-bytes_of_all [] all i = lit< tt
-bytes_of_all (x ∷ xs) all zero = All-head (λ b. b < 256) x xs all
-bytes_of_all (x ∷ xs) all (suc i) = bytes_of_all xs (All-tail (λ b. b < 256) x xs all) i
-
-bytes_none : Bytes []
-bytes_none i = lit< tt
-
-bytes_cons : (x : ℕ) (xs : List ℕ) → x < 256 → Bytes xs → Bytes (x ∷ xs)
-bytes_cons x xs h k zero = h
-bytes_cons x xs h k (suc i) = k i
-
-bytes_append : (xs ys : List ℕ) → Bytes xs → Bytes ys → Bytes (xs ++ ys)
-bytes_append [] ys h k i = k i
-bytes_append (x ∷ xs) ys h k zero = h 0
-bytes_append (x ∷ xs) ys h k (suc i) = bytes_append xs ys (λ j. h (suc j)) k i
-
-bytes_take : (n : ℕ) (xs : List ℕ) → Bytes xs → Bytes (take n xs)
-bytes_take zero xs h i = lit< tt
-bytes_take (suc n) [] h i = lit< tt
-bytes_take (suc n) (x ∷ xs) h zero = h 0
-bytes_take (suc n) (x ∷ xs) h (suc i) = bytes_take n xs (λ j. h (suc j)) i
-
-bytes_drop : (n : ℕ) (xs : List ℕ) → Bytes xs → Bytes (drop n xs)
-bytes_drop n xs h i = rw (get_or-drop n xs i 0) (h (n + i))
-
-bytes_masked : (pad xs : List ℕ) → Bytes pad → Bytes xs → Bytes (masked pad xs)
-unfolding masked
-bytes_masked [] xs h k i = lit< tt
-bytes_masked (p ∷ pad) [] h k i = lit< tt
-bytes_masked (p ∷ pad) (x ∷ xs) h k zero = xor_of_8 p x (h 0) (k 0)
-bytes_masked (p ∷ pad) (x ∷ xs) h k (suc i) = bytes_masked pad xs (λ j. h (suc j)) (λ j. k (suc j)) i
-
-bytes_word : (n : ℕ) → Bytes (to_le_bytes w32 n)
-bytes_word n =
-    bytes_cons (byte_at 0 n) (byte_at 1 n ∷ byte_at 2 n ∷ byte_at 3 n ∷ []) (mod_below n 256 (lit< tt))
-    (bytes_cons (byte_at 1 n) (byte_at 2 n ∷ byte_at 3 n ∷ []) (mod_below (n / 256 ^ 1) 256 (lit< tt))
-    (bytes_cons (byte_at 2 n) (byte_at 3 n ∷ []) (mod_below (n / 256 ^ 2) 256 (lit< tt))
-    (bytes_cons (byte_at 3 n) [] (mod_below (n / 256 ^ 3) 256 (lit< tt)) bytes_none)))
-
-bytes_stream : (key : List ℕ) (stream n : ℕ) → Bytes (stream_bytes key stream n)
-unfolding stream_bytes
-bytes_stream key stream zero = bytes_none
-bytes_stream key stream (suc n) = bytes_append (stream_bytes key stream n) _ (bytes_stream key stream n) (bytes_word _)
-
-pub bytes_pad : (key : List ℕ) (seed : ℕ) → Bytes (pad_of key seed)
-unfolding pad_of
-bytes_pad key seed = bytes_stream key seed 92
+-- a part of a list of bytes is one
+bytes_part : (n place : ℕ) (text : List ℕ) → AreBytes text → AreBytes (take n (drop place text))
+bytes_part n place text bytes =
+    All-take (λ b. b < 256) n (drop place text) (All-drop (λ b. b < 256) place text bytes)
 
 -- four bytes are a number's
-number_back : (place : ℕ) (text : List ℕ) → length text ≡ 92 → place < 89 → Bytes text
+number_back : (place : ℕ) (text : List ℕ) → length text ≡ 92 → place < 89 → AreBytes text
     → to_be_bytes w32 (from_be_bytes w32 (take 4 (drop place text))) ≡ take 4 (drop place text)
 number_back place text long h bytes =
     let enough : 4 ≤ length (drop place text) = omega (arith, length-drop place text) in
+    let part = bytes_part 4 place text bytes in
     be_bytes_4 (take 4 (drop place text)) _ (length-take-le 4 (drop place text) enough)
-    (bytes_take 4 (drop place text) (bytes_drop place text bytes)) refl
+    (λ i. byte_of (take 4 (drop place text)) i part) refl
 
 -- the rest of a list, a part before what follows it
 parted : (place n next : ℕ) (text : List ℕ) → place + n ≡ next
@@ -92,7 +45,7 @@ parted place n next text e =
     ∙ ap (λ t. take n (drop place text) ++ t) (drop-drop n place text ∙ ap (λ k. drop k text) e)
 
 -- an entry's bytes are those that it was read from
-entry_back : (text : List ℕ) → length text ≡ 92 → Bytes text → take 4 text ≡ flag → entry_text (entry_in text) ≡ text
+entry_back : (text : List ℕ) → length text ≡ 92 → AreBytes text → take 4 text ≡ flag → entry_text (entry_in text) ≡ text
 unfolding entry_text entry_in
 entry_back text long bytes flagged =
     let tail : take 16 (drop 76 text) ≡ drop 76 text =
@@ -110,34 +63,29 @@ entry_back text long bytes flagged =
     ∙ sym (parted 4 4 8 text refl) in
     ap (λ t. flag ++ t) address ∙ ap (λ t. t ++ drop 4 text) (sym flagged) ∙ take-append-drop 4 text
 
-number_bound : (bs : List ℕ) → Bytes bs → from_be_bytes w32 bs < 2 ^ 32
-number_bound bs h = omega (arith, h 0, h 1, h 2, h 3)
+number_bound : (bs : List ℕ) → AreBytes bs → from_be_bytes w32 bs < 2 ^ 32
+number_bound bs h = omega (arith, byte_of bs 0 h, byte_of bs 1 h, byte_of bs 2 h, byte_of bs 3 h)
 
-entry_is : (text : List ℕ) → length text ≡ 92 → Bytes text → IsEntry (entry_in text)
+entry_is : (text : List ℕ) → length text ≡ 92 → AreBytes text → IsEntry (entry_in text)
 unfolding entry_in
 entry_is text long bytes = record {
-  address = number_bound (take 4 (drop 4 text)) (bytes_take 4 (drop 4 text) (bytes_drop 4 text bytes));
-  leaf = number_bound (take 4 (drop 8 text)) (bytes_take 4 (drop 8 text) (bytes_drop 8 text bytes));
+  address = number_bound (take 4 (drop 4 text)) (bytes_part 4 4 text bytes);
+  leaf = number_bound (take 4 (drop 8 text)) (bytes_part 4 8 text bytes);
   line = length-take-le 64 (drop 12 text) (omega (arith, length-drop 12 text));
   tag = length-take-le 16 (drop 76 text) (omega (arith, length-drop 76 text));
 }
 
 -- a test, either way
-decided : (b : Bool) → (b ≡ true) ⊎ (b ≡ false)
+pub decided : (b : Bool) → (b ≡ true) ⊎ (b ≡ false)
 decided true = inl refl
 decided false = inr refl
 
-both : (p q : Bool) → (p && q) ≡ true → (p ≡ true) × (q ≡ true)
-both true true e = (refl, refl)
-both true false e = absurd (cc)
-both false q e = absurd (cc)
-
-placed_range : (shape : Shape) (entry : Entry) → is_placed shape entry ≡ true → IsInRange shape (Some entry)
+pub placed_range : (shape : Shape) (entry : Entry) → is_placed shape entry ≡ true → IsInRange shape (Some entry)
 placed_range shape entry e =
     let tests = both _ _ e in
     ((Decides-ltb entry.address.0 shape.total).0 tests.0, (Decides-ltb entry.leaf.0 (2 ^ shape.levels)).0 tests.1)
 
-pub slot_spells : (shape : Shape) (text : List ℕ) (slot : Option Entry) → length text ≡ 92 → Bytes text
+pub slot_spells : (shape : Shape) (text : List ℕ) (slot : Option Entry) → length text ≡ 92 → AreBytes text
     → slot_in shape text ≡ Some slot → Spells shape slot text
 slot_spells shape text slot long bytes e =
     elim (decided (bytes_eq text empty_text)) [
@@ -191,18 +139,18 @@ bad_3 : (shape : Shape) (body : List ℕ) (a b c : Option Entry) → slot_at sha
 bad_3 shape body a b c ea eb ec e = rw (ea, eb, ec, e) refl
 
 -- four slots that were read
-record Read (shape : Shape) (body : List ℕ) : Type 0 where
-  a : Option Entry
-  b : Option Entry
-  c : Option Entry
-  d : Option Entry
-  is_a : slot_at shape body 0 ≡ Some a
-  is_b : slot_at shape body 1 ≡ Some b
-  is_c : slot_at shape body 2 ≡ Some c
-  is_d : slot_at shape body 3 ≡ Some d
+pub record Read (shape : Shape) (body : List ℕ) : Type 0 where
+  pub a : Option Entry
+  pub b : Option Entry
+  pub c : Option Entry
+  pub d : Option Entry
+  pub is_a : slot_at shape body 0 ≡ Some a
+  pub is_b : slot_at shape body 1 ≡ Some b
+  pub is_c : slot_at shape body 2 ≡ Some c
+  pub is_d : slot_at shape body 3 ≡ Some d
 
 -- the answer's cases
-Answer : Shape → List ℕ → Type 0
+unfoldable pub Answer : Shape → List ℕ → Type 0
 Answer shape body =
     ((r : Read shape body) × (slots_in shape body ≡ Ok (r.a ∷ r.b ∷ r.c ∷ r.d ∷ [])))
     ⊎ ((slot : ℕ) × (slots_in shape body ≡ Err (record { slot = slot })) × IsFirstBad shape body slot)
@@ -210,7 +158,7 @@ Answer shape body =
 there : {X : Type 0} (o : Option X) (x : X) → o ≡ Some x → o ≢ None
 there o x e none = absurd (let told = sym none ∙ e in cc)
 
-answer : (shape : Shape) (body : List ℕ) → Answer shape body
+pub answer : (shape : Shape) (body : List ℕ) → Answer shape body
 unfolding Answer
 answer shape body =
     let P = λ (k : ℕ). slot_at shape body k ≢ None in
@@ -270,29 +218,19 @@ opened_first_bad key shape bytes bad e =
     ]
 
 -- the bytes of four slots that were read
-part_spells : (shape : Shape) (body : List ℕ) (place : ℕ) (slot : Option Entry) → length body ≡ 368
-    → Bytes body → place < 4 → slot_at shape body place ≡ Some slot → Spells shape slot (part body place)
+pub part_spells : (shape : Shape) (body : List ℕ) (place : ℕ) (slot : Option Entry) → length body ≡ 368
+    → AreBytes body → place < 4 → slot_at shape body place ≡ Some slot → Spells shape slot (part body place)
 unfolding slot_at
 part_spells shape body place slot long bytes h e =
     let enough : 92 ≤ length (drop (92 * place) body) = omega (arith, length-drop (92 * place) body) in
     slot_spells shape (part body place) slot (length-take-le 92 (drop (92 * place) body) enough)
-    (bytes_take 92 (drop (92 * place) body) (bytes_drop (92 * place) body bytes)) e
+    (bytes_part 92 (92 * place) body bytes) e
 
--- four slots that were read are slots of these bytes
-record Whole (shape : Shape) (body : List ℕ) (slots : List (Option Entry)) : Type 0 where
-  spelled : body_text slots ≡ body
-  are : AreSlots slots
-  range : AreInRange shape slots
-
-all_four : (P : Option Entry → Type 0) (a b c d : Option Entry) → P a → P b → P c → P d → All P (a ∷ b ∷ c ∷ d ∷ [])
-all_four P a b c d ha hb hc hd =
-    All-cons P a (b ∷ c ∷ d ∷ []) ha
-    (All-cons P b (c ∷ d ∷ []) hb (All-cons P c (d ∷ []) hc (All-cons P d [] hd (All-nil P))))
-
-whole_of : (shape : Shape) (body : List ℕ) (r : Read shape body) → length body ≡ 368 → Bytes body
-    → Whole shape body (r.a ∷ r.b ∷ r.c ∷ r.d ∷ [])
+-- four slots that were read have these bytes
+pub spelled_of : (shape : Shape) (body : List ℕ) (r : Read shape body) → length body ≡ 368 → AreBytes body
+    → body_text (r.a ∷ r.b ∷ r.c ∷ r.d ∷ []) ≡ body
 unfolding body_text
-whole_of shape body r long bytes =
+spelled_of shape body r long bytes =
     let a = part_spells shape body 0 r.a long bytes (lit< tt) r.is_a in
     let b = part_spells shape body 1 r.b long bytes (lit< tt) r.is_b in
     let c = part_spells shape body 2 r.c long bytes (lit< tt) r.is_c in
@@ -307,52 +245,10 @@ whole_of shape body r long bytes =
     ap (λ t. slot_text r.c ++ t) sd ∙ ap (λ t. t ++ drop 276 body) c.spelled ∙ sym (parted 184 92 276 body refl) in
     let sb : tb ≡ drop 92 body =
     ap (λ t. slot_text r.b ++ t) sc ∙ ap (λ t. t ++ drop 184 body) b.spelled ∙ sym (parted 92 92 184 body refl) in
-    let sa : slot_text r.a ++ tb ≡ body =
-    ap (λ t. slot_text r.a ++ t) sb ∙ ap (λ t. t ++ drop 92 body) a.spelled ∙ sym (parted 0 92 92 body refl) in
-    record {
-      spelled = sa;
-      are = record { four = refl; each = all_four IsSlot r.a r.b r.c r.d a.is b.is c.is d.is };
-      range = all_four (IsInRange shape) r.a r.b r.c r.d a.range b.range c.range d.range;
-    }
-
-whole_slots : (shape : Shape) (body : List ℕ) (slots : List (Option Entry)) → length body ≡ 368 → Bytes body
-    → slots_in shape body ≡ Ok slots → Whole shape body slots
-unfolding Answer
-whole_slots shape body slots long bytes e =
-    elim (answer shape body) [
-      | inl r ↦ (
-          let same : r.0.a ∷ r.0.b ∷ r.0.c ∷ r.0.d ∷ [] ≡ slots = let told = sym r.1 ∙ e in cc in
-          subst (λ (s : List (Option Entry)). Whole shape body s) same (whole_of shape body r.0 long bytes)
-          )
-      | inr n ↦ (let told = sym n.1 ∙ e in absurd (cc))
-    ]
-
--- what is read from a bucket with a seed gives the bucket back
-pub opened_spelled : (key : List ℕ) (shape : Shape) (bytes : List ℕ) (slots : List (Option Entry)) → length bytes ≡ 376
-    → All (λ b. b < 256) bytes → seed_in bytes ≢ 0 → opened key shape bytes ≡ Ok slots
-    → (bucket_text key (seed_in bytes) slots ≡ bytes) × AreSlots slots × AreInRange shape slots
-unfolding opened body_in seed_in bucket_text
-opened_spelled key shape bytes slots long all some e =
-    let each = bytes_of_all bytes all in
-    let pad = pad_of key (seed_in bytes) in
-    let test : (seed_in bytes == 0) ≡ false = is_false _ (seed_in bytes ≡ 0) (Decides-eqb _ 0) some in
-    let rest : length (drop 8 bytes) ≡ 368 = omega (arith, length-drop 8 bytes) in
-    let same : length pad ≡ length (drop 8 bytes) = length-pad_of key (seed_in bytes) ∙ sym rest in
-    let body_long : length (masked pad (drop 8 bytes)) ≡ 368 = length-masked pad (drop 8 bytes) same ∙ rest in
-    let body_bytes = bytes_masked pad (drop 8 bytes) (bytes_pad key (seed_in bytes)) (bytes_drop 8 bytes each) in
-    let whole = whole_slots shape (masked pad (drop 8 bytes)) slots body_long body_bytes (rw test at e) in
-    let enough : 8 ≤ length bytes = omega (arith, long) in
-    let seed : to_be_bytes w64 (seed_in bytes) ≡ take 8 bytes =
-    be_bytes_8 (take 8 bytes) _ (length-take-le 8 bytes enough) (bytes_take 8 bytes each) refl in
-    let body : masked pad (body_text slots) ≡ drop 8 bytes =
-    ap (masked pad) whole.spelled ∙ masked-twice pad (drop 8 bytes) same in (
-      ap (λ t. t ++ masked pad (body_text slots)) seed ∙ ap (λ t. take 8 bytes ++ t) body ∙ take-append-drop 8 bytes,
-      whole.are,
-      whole.range,
-    )
+    ap (λ t. slot_text r.a ++ t) sb ∙ ap (λ t. t ++ drop 92 body) a.spelled ∙ sym (parted 0 92 92 body refl)
 
 -- a slot's bytes are in the form exactly as they are spelled
-pub spells_both : (shape : Shape) (text : List ℕ) (slot : Option Entry) → length text ≡ 92 → All (λ b. b < 256) text
+pub spells_both : (shape : Shape) (text : List ℕ) (slot : Option Entry) → length text ≡ 92 → AreBytes text
     → (slot_in shape text ≡ Some slot) ↔ Spells shape slot text
 spells_both shape text slot long all =
-    (slot_spells shape text slot long (bytes_of_all text all), slot_spelled shape text slot)
+    (slot_spells shape text slot long all, slot_spelled shape text slot)

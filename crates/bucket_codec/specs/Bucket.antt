@@ -1,6 +1,7 @@
 -- Buckets: which 376 bytes stand for which seed and four slots under a key of pads.
 use Rattle.std.specs.Prelude.{◌≡◌, ◌≢◌, ℕ, ◌<◌, ◌+◌, ◌*◌, ◌==◌, List, [], ◌∷◌, ◌++◌, take, drop, length, map, flat_map}
 use Rattle.std.specs.Prelude.{Option, Some, None, Result, Ok, Err, All, if◌then◌else◌}
+use Rattle.std.specs.Option.{option_to_list}
 use Rattle.std.specs.Int.{w64, to_be_bytes, from_be_bytes}
 use Rattle.asc_base.specs.declared.block.Entry.{Entry}
 use Rattle.asc_base.specs.declared.shape.Shape.{Shape}
@@ -47,10 +48,26 @@ slot_at shape body slot = slot_in shape (part body slot)
 abbrev pub slots_in : Shape → List ℕ → Result (List (Option Entry)) BadSlot
 slots_in shape body = in_order 0 (map (slot_at shape body) (0 ∷ 1 ∷ 2 ∷ 3 ∷ []))
 
+-- the slots of a bucket that was never written
+abbrev pub empty_slots : List (Option Entry)
+empty_slots = None ∷ None ∷ None ∷ None ∷ []
+
 -- the slots of a bucket: four empty ones where its seed is 0, whatever follows
 unfoldable pub opened : List ℕ → Shape → List ℕ → Result (List (Option Entry)) BadSlot
 opened key shape bytes =
-    if seed_in bytes == 0 then Ok (None ∷ None ∷ None ∷ None ∷ []) else slots_in shape (body_in key bytes)
+    if seed_in bytes == 0 then Ok empty_slots else slots_in shape (body_in key bytes)
+
+-- the entries in slots, in order
+abbrev pub slot_entries : List (Option Entry) → List Entry
+slot_entries slots = flat_map option_to_list slots
+
+-- The bucket of these bytes has a slot in the form with this entry, whatever its other slots are. One whose seed is 0
+-- has none.
+pub record Holds (key : List ℕ) (shape : Shape) (bytes : List ℕ) (entry : Entry) : Type 0 where
+  pub written : seed_in bytes ≢ 0
+  pub slot : ℕ
+  pub below : slot < 4
+  pub found : slot_at shape (body_in key bytes) slot ≡ Some (Some entry)
 
 -- four slots, whose entries' numbers and bytes are those of their types
 pub record AreSlots (slots : List (Option Entry)) : Type 0 where

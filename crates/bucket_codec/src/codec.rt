@@ -1,7 +1,7 @@
 ghost use Rattle.std.specs.Prelude.{◌≡◌, ◌<◌, ◌++◌, IfOk, IfErr, OnErr};
 ghost use Rattle.std.specs.Int.{w64, to_be_bytes};
 ghost use Rattle.bucket_codec.specs.Pad.{pad_key};
-ghost use Rattle.bucket_codec.specs.Bucket.{body_text, seed_in, part, slot_at, slots_in, body_in};
+ghost use Rattle.bucket_codec.specs.Bucket.{AreSlots, body_text, seed_in, part, slot_at, slots_in, body_in};
 
 use crate::pad::{BODY, blank, mask, pad_of};
 use crate::slot::{SLOT, slot_in, slot_text};
@@ -34,7 +34,7 @@ impl Model for Codec {
 }
 
 impl Codec {
-    ghost use Rattle.bucket_codec.specs.Bucket.{bucket_text, opened};
+    ghost use Rattle.bucket_codec.specs.Bucket.{bucket_text, opened, AreInRange};
 
     /// The buckets of a master key.
     #[tactic(auto, unfolding(crate::specs::Pad::pad_key))]
@@ -50,7 +50,8 @@ impl Codec {
     #[tactic(auto, unfolding(crate::specs::Bucket::bucket_text))]
     pub fn seal(&self, seed: u64, slots: &[Option<Entry>; 4], into: &mut [u8; 376])
         requires { 0 < seed }
-        ensures { into.new ≡ bucket_text self.now seed slots.now }
+        ensures text { into.new ≡ bucket_text self.now seed slots.now }
+        ensures slots { AreSlots slots.now }
     {
         let mut body = body_of(slots);
         mask(&mut body, &pad_of(&self.key, seed));
@@ -63,7 +64,9 @@ impl Codec {
     /// 01 00 00 00, an address below `shape.total` and a leaf below `2 ^ shape.levels`.
     #[tactic(auto, unfolding(crate::specs::Bucket::opened))]
     pub fn open(&self, bytes: &[u8; 376], shape: &Shape) -> Result<[Option<Entry>; 4], BadSlot>
-        ensures { result ≡ opened self.now shape.now bytes.now }
+        ensures slots { result ≡ opened self.now shape.now bytes.now }
+        ensures typed { IfOk result AreSlots }
+        ensures range { IfOk result (AreInRange shape.now) }
     {
         if seed_of(bytes) == 0 {
             return Ok([None; 4]);
@@ -103,11 +106,12 @@ fn opened_body(key: &[u8; 32], bytes: &[u8; 376]) -> [u8; BODY]
 
 // The bytes of four slots.
 fn body_of(slots: &[Option<Entry>; 4]) -> [u8; BODY]
-    ensures { result ≡ body_text slots.now }
+    ensures text { result ≡ body_text slots.now }
+    ensures slots { AreSlots slots.now }
 {
     let mut body = blank();
     for place in 0..4 {
-        body[SLOT * place..SLOT * place + SLOT].copy_from_slice(&slot_text(&slots[place]));
+        body[SLOT * place..SLOT * place + SLOT].copy_from_slice(&slot_text(slots[place]));
     }
     body
 }

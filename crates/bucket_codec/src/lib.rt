@@ -8,8 +8,9 @@ mod slot;
 
 pub use codec::{BadSlot, Codec};
 pub use laws::{
-    first_bad_slot_named, opens_what_was_sealed, seals_what_was_opened, slots_read_as_spelled,
-    texts_tell_slots,
+    buckets_hold_their_entries, first_bad_slot_named, opened_slots_are_of_shape,
+    opens_what_was_sealed, seals_what_was_opened, slots_read_as_spelled, texts_have_376_bytes,
+    texts_tell_seeds_and_slots, unwritten_buckets_are_empty,
 };
 
 #[cfg(test)]

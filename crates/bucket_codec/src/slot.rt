@@ -1,6 +1,6 @@
 ghost use Rattle.std.specs.Prelude.{◌≡◌, ◌^◌, ◌<◌, ◌↔◌, IsTrue, length, take, drop};
 ghost use Rattle.std.specs.Int.{w32, from_be_bytes};
-ghost use Rattle.bucket_codec.specs.Slot.{slot_text, slot_in, entry_text, entry_in, empty_text};
+ghost use Rattle.bucket_codec.specs.Slot.{slot_text, slot_in, entry_text, entry_in, empty_text, IsSlot};
 
 use asc_base::{Address, Entry, Leaf, Line, Shape};
 
@@ -10,12 +10,13 @@ pub(crate) const SLOT: usize = 92;
 /// The four bytes before an entry.
 const FLAG: [u8; 4] = [1, 0, 0, 0];
 
-/// The bytes of a slot.
-pub(crate) fn slot_text(slot: &Option<Entry>) -> [u8; SLOT]
-    ensures { result ≡ slot_text slot.now }
+/// The bytes of a slot, whose numbers and bytes are those of its types.
+pub(crate) fn slot_text(slot: Option<Entry>) -> [u8; SLOT]
+    ensures text { result ≡ slot_text slot }
+    ensures typed { IsSlot slot }
 {
     match slot {
-        Some(entry) => entry_text(entry),
+        Some(entry) => entry_text(&entry),
         None => empty_text(),
     }
 }

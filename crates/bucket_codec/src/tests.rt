@@ -1,40 +1,22 @@
-ghost use Rattle.std.specs.Prelude.{◌<◌};
+ghost use Rattle.std.specs.Prelude.{◌≡◌, ◌<◌};
+ghost use Rattle.bucket_codec.specs.Bucket.{AreInRange};
 
-use crate::{BadSlot, Codec};
+use crate::{BadSlot, Codec, opens_what_was_sealed};
 use asc_base::{Address, Entry, Leaf, Line, Shape};
 use hmac_sha::hmac;
-
-const DIGITS: [u8; 16] = *b"0123456789abcdef";
-
-// Bytes in hexadecimal.
-fn hex(bytes: &[u8; 32]) -> [u8; 64] {
-    let mut text = [0u8; 64];
-    for place in 0..32 {
-        text[2 * place] = DIGITS[(bytes[place] / 16) as usize];
-        text[2 * place + 1] = DIGITS[(bytes[place] % 16) as usize];
-    }
-    text
-}
-
-// Bytes that count up.
-fn counting<const N: usize>(first: u8) -> [u8; N] {
-    let mut bytes = [0u8; N];
-    for place in 0..N {
-        bytes[place] = first.wrapping_add((place % 256) as u8);
-    }
-    bytes
-}
+use std::array;
+use std::test::Fail;
 
 fn codec() -> Codec {
-    Codec::new(&counting::<32>(0))
+    Codec::new(&array::from_fn(|place| (place % 256) as u8))
 }
 
 fn full() -> Option<Entry> {
     Some(Entry {
         address: Address(5),
         leaf: Leaf(9),
-        line: Line(counting::<64>(0)),
-        tag: counting::<16>(200),
+        line: Line(array::from_fn(|place| (place % 256) as u8)),
+        tag: array::from_fn(|place| 200 + (place % 16) as u8),
     })
 }
 
@@ -55,6 +37,23 @@ fn sealed(seed: u64, slots: &[Option<Entry>; 4]) -> [u8; 376]
     bucket
 }
 
+// What was sealed is opened again, as the clauses of both calls and their law prove.
+fn reopened(
+    seed: u64,
+    slots: &[Option<Entry>; 4],
+    shape: &Shape,
+) -> Result<[Option<Entry>; 4], BadSlot>
+    requires seed { 0 < seed }
+    requires range { AreInRange shape.now slots.now }
+    ensures { result ≡ Ok slots.now }
+{
+    let codec = codec();
+    let mut bucket = [0u8; 376];
+    codec.seal(seed, slots, &mut bucket);
+    opens_what_was_sealed();
+    codec.open(&bucket, shape)
+}
+
 // The number of the first slot that isn't in the form, or 4.
 fn outcome(bucket: &[u8; 376], shape: &Shape) -> u32 {
     match codec().open(bucket, shape) {
@@ -66,37 +65,40 @@ fn outcome(bucket: &[u8; 376], shape: &Shape) -> u32 {
 // The codes of the buckets under the zero key are those of the openssl program and Python's hmac module, as
 // tools/bucket_vectors.py prints them.
 #[test]
-fn bytes_of_buckets(rt: HostRuntime) {
+fn bytes_of_buckets(rt: HostRuntime) -> Result<(), Fail> {
     let shape = Shape::new(64, 16).expect(&rt, "a shape of 66 blocks and 5 levels");
     let rows = [
         (
             1,
             [None, None, None, None],
-            b"57755af0b56cbf916d0059091e5a6cae116f702f622de51b65dc493db7a680b8",
+            "57755af0b56cbf916d0059091e5a6cae116f702f622de51b65dc493db7a680b8",
         ),
         (
             1,
             [full(), None, None, None],
-            b"30ec78b3b51e02cf549bad5446488af864b2e6f986d35ea65680a32d7e94319e",
+            "30ec78b3b51e02cf549bad5446488af864b2e6f986d35ea65680a32d7e94319e",
         ),
         (
             1,
             [full(), None, last(65, 31), None],
-            b"51ed675512a0300e7090d8cf386c827677d56f746a5fca3053ae27a9c7b9102b",
+            "51ed675512a0300e7090d8cf386c827677d56f746a5fca3053ae27a9c7b9102b",
         ),
         (
             0xffff_ffff_ffff_ffff,
             [full(), None, last(65, 31), None],
-            b"a3755284b0ca3d9ce022335b8e844b37272f0d6ff447567e660f4048b2d03485",
+            "a3755284b0ca3d9ce022335b8e844b37272f0d6ff447567e660f4048b2d03485",
         ),
     ];
     for (seed, slots, expected) in rows {
         if seed > 0 {
             let bucket = sealed(seed, &slots);
-            assert!(rt; hex(&hmac(&[0; 32], &bucket)).as_slice() == expected.as_slice());
+            let code = hmac(&[0; 32], &bucket);
+            assert_eq!(rt; hex::encode(rt.alloc(), &code[..])?.as_str(), expected);
             assert!(rt; codec().open(&bucket, &shape) == Ok(slots));
         }
     }
+    assert!(rt; reopened(1, &[None; 4], &shape) == Ok([None; 4]));
+    Ok(())
 }
 
 // Each byte of a bucket with two entries changed by its lowest bit, and by its highest: from the last row's place up to

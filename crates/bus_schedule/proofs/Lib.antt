@@ -1,10 +1,14 @@
+pub mod AskedLaws
 pub mod ChoiceLaws
 pub mod CodeLaws
+pub mod Digits
 pub mod Epochs
 pub mod PublicParts
 pub mod Rising
 pub mod ScheduleLaws
 pub mod ScheduledLaws
+pub mod ScheduledRows
 pub mod SlotMoves
 pub mod TimetableLaws
+pub mod TimetableParts
 pub mod Windows

@@ -2,6 +2,7 @@
 //! states a law in its contract.
 
 ghost use Rattle.std.specs.Prelude.{◌≡◌, ℕ, suc, ◌+◌, ◌-◌, ◌*◌, ◌/◌, ◌^◌, ◌<◌, ◌≤◌, ◌↔◌, true, false, All, List, [], ◌∷◌, ◌++◌, length, slice_index};
+ghost use Rattle.std.specs.List.Sorted.{IsStrictlyIncreasing};
 ghost use Rattle.asc_base.specs.TreeShape.{olat_of};
 ghost use Rattle.asc_base.specs.Settings.{IsPowerTo, IsConfig};
 ghost use Rattle.asc_base.specs.declared.settings.Config.{Config};
@@ -35,9 +36,11 @@ pub fn timetables_go_on()
 /// that of the end before it, and where fewer choices have fallen than are allowed. The rate that it takes is in force
 /// from there on, and stays where no choice falls; the digits of the code are the choices, the least first.
 pub fn choices_fall()
-    ensures epoch { (epoch time i : ℕ) → 1 ≤ epoch → epoch * (2 ^ i - 1) ≤ time → time < epoch * (2 ^ (i + 1) - 1)
-        → epoch_at epoch time ≡ i }
-    ensures falls { (p : Public) (code n : ℕ) → (falls_next p (beat_at p code n) ≡ true)
+    ensures epoch { (epoch time i : ℕ) → 1 ≤ epoch → time < 2 ^ 40 → epoch * (2 ^ i - 1) ≤ time
+        → time < epoch * (2 ^ (i + 1) - 1) → epoch_at epoch time ≡ i }
+    ensures in_epoch { (epoch time : ℕ) → 1 ≤ epoch → time < 2 ^ 40
+        → (epoch * (2 ^ epoch_at epoch time - 1) ≤ time) × (time < epoch * (2 ^ (epoch_at epoch time + 1) - 1)) }
+    ensures falls { (p : Public) (code n : ℕ) → 1 ≤ p.epoch → (falls_next p (beat_at p code n) ≡ true)
         ↔ ((epoch_at p.epoch (end_at p code n) < epoch_at p.epoch (end_at p code (suc n)))
         × ((beat_at p code n).choices < choices_of p)) }
     ensures chosen { (p : Public) (code n : ℕ) → falls_next p (beat_at p code n) ≡ true
@@ -67,6 +70,9 @@ pub fn timetable_rows()
         ≡ 64 ∷ 304 ∷ 608 ∷ 912 ∷ 1216 ∷ 1520 ∷ 1824 ∷ 2128 ∷ [] }
     ensures four { starts (record { levels = 1; rates = 64 ∷ 128 ∷ 256 ∷ 512 ∷ []; first = 1; epoch = 400; leak = 1 }) 3 5
         ≡ 128 ∷ 432 ∷ 736 ∷ 1040 ∷ 1344 ∷ [] }
+    ensures late { timetable (record { levels = 5; rates = 256 ∷ 1024 ∷ 4096 ∷ 16384 ∷ []; first = 0; epoch = 4096; leak = 2 }) 3 25000
+        ≡ 256 ∷ 1008 ∷ 1760 ∷ 2512 ∷ 3264 ∷ 4016 ∷ 20896 ∷ [] }
+    ensures count { length (timetable (record { levels = 5; rates = 256 ∷ 1024 ∷ 4096 ∷ 16384 ∷ []; first = 0; epoch = 32768; leak = 2 }) 3 200000) ≡ 53 }
     ensures alone { starts (record { levels = 5; rates = 256 ∷ []; first = 0; epoch = 65536; leak = 0 }) 0 8
         ≡ 256 ∷ 1008 ∷ 1760 ∷ 2512 ∷ 3264 ∷ 4016 ∷ 4768 ∷ 5520 ∷ [] }
 {}
@@ -97,16 +103,14 @@ pub fn timetables_are_few()
         → (other : ℕ) × (other < 2 ^ p.leak) × (timetable p other end ≡ timetable p code end) }
 {}
 
-/// The public part of a configuration has 1, 2, 4, 8 or 16 rates, the first rate is among them, and epoch 0 isn't
-/// empty.
+/// The public part of a configuration has 1, 2, 4, 8 or 16 rates, which rise, the first rate is among them, and epoch 0
+/// isn't empty.
 pub fn public_parts()
-    ensures count { (config : Config) → IsConfig config → length config.rates.list ≡ 16
-        → count_of (public_of config) ≡ config.rates.count }
-    ensures power { (config : Config) → IsConfig config → length config.rates.list ≡ 16
-        → IsPowerTo 4 (count_of (public_of config)) }
-    ensures first { (config : Config) → IsConfig config → length config.rates.list ≡ 16
-        → (public_of config).first < count_of (public_of config) }
+    ensures count { (config : Config) → IsConfig config → count_of (public_of config) ≡ config.rates.count }
+    ensures power { (config : Config) → IsConfig config → IsPowerTo 4 (count_of (public_of config)) }
+    ensures first { (config : Config) → IsConfig config → (public_of config).first < count_of (public_of config) }
     ensures epoch { (config : Config) → IsConfig config → 1 ≤ (public_of config).epoch }
+    ensures rise { (config : Config) → IsConfig config → IsStrictlyIncreasing (public_of config).rates }
 {}
 
 /// The code of digits is the number that has them, the least first; and a digit at a place above those of a code leaves

@@ -1,6 +1,10 @@
 pub mod Honest
 pub mod Log
 pub mod Made
+pub mod Path
+pub mod Prepared
+pub mod Ready
 pub mod Recorder
 pub mod RunEnd
 pub mod Same
+pub mod Tied

@@ -1,110 +1,46 @@
 -- What a run of bus calls leaves of a memory and a tap.
-use Rattle.std.specs.Prelude.{◌≡◌, ◌+◌, ◌≤◌, ◌⊎◌, ℕ, Bool, if◌then◌else◌, Option, None, Some}
-use Rattle.std.specs.Prelude.{List, [], ◌∷◌, ◌++◌, length, map, slice_set}
-use Rattle.std.specs.List.{flat_map}
-use Rattle.asc_outside.specs.Memory.{MemoryState, Ask, zero_buckets}
-use Rattle.bus_watch.specs.declared.log.Move.{Move}
+use Rattle.std.specs.Prelude.{◌≡◌, ◌+◌, ◌≤◌, ℕ, List, ◌++◌, length, All}
+use Rattle.asc_outside.specs.Memory.{MemoryState}
+use Rattle.asc_outside.specs.Rose.{Rose}
+use Rattle.bus_watch.specs.declared.bus.Bus.{Bus}
 use Rattle.bus_watch.specs.declared.log.Altered.{Altered}
+use Rattle.bus_watch.specs.declared.log.Event.{Event}
+use Rattle.bus_watch.specs.declared.log.Move.{Move}
 use Rattle.bus_watch.specs.Honest.{StaysHonest}
-use Rattle.bus_watch.specs.Log.{TapState, is_bucket}
-use Rattle.bus_watch.specs.RunEnd.{RunEnd, Whole, MoveFailed, RanOut}
+use Rattle.bus_watch.specs.Log.{LogLists, TapState}
+use Rattle.bus_watch.specs.RunEnd.{RunEnd, MoveFailed}
+use Rattle.bus_watch.specs.Same.{IsSameBus}
+use Rattle.bus_watch.specs.Tied.{Tied, TiedAt}
 
--- a move with its answer: of a write the bytes that an Ok wrote, of a read the bytes that an Ok gave
-pub record Exchange : Type 0 where
-  pub time : ℕ
-  pub write : Bool
-  pub bucket : ℕ
-  pub bytes : Option (List ℕ)
+-- These replies were noted as altered, each while the log had at least the events before the run, and at most those
+-- after it.
+pub record GainsAltered (log log' : LogLists) : Type 0 where
+  pub altered : List Altered
+  pub gained : log'.altered ≡ log.altered ++ altered
+  pub before : All (λ (a : Altered). (length log.events ≤ a.before) × (a.before ≤ length log'.events)) altered
 
--- the move by itself
-abbrev pub move_of : Exchange → Move
-move_of x = record { time = x.time; write = x.write; bucket = x.bucket }
-
--- what the memory was asked
-abbrev pub ask_of : Exchange → Ask
-ask_of x = record { time = x.time; write = x.write; bucket = x.bucket; bytes = if x.write then x.bytes else None }
-
--- what it answered to a read
-abbrev pub said_of : Exchange → List (Option (List ℕ))
-said_of x = if x.write then [] else x.bytes ∷ []
-
--- the buckets after a write with these bytes
-abbrev pub after : List (List ℕ) → ℕ → Option (List ℕ) → List (List ℕ)
-after buckets number None = buckets
-after buckets number (Some text) = slice_set buckets number text
-
--- the buckets after an exchange
-abbrev pub written_by : List (List ℕ) → Exchange → List (List ℕ)
-written_by buckets x = if x.write then after buckets x.bucket x.bytes else buckets
-
--- the buckets after the Ok writes among these
-abbrev pub written : List (List ℕ) → List Exchange → List (List ℕ)
-written buckets [] = buckets
-written buckets (x ∷ xs) = written (written_by buckets x) xs
-
--- a reply, by its time, its bucket and its bytes
-abbrev pub Reply : Type 0
-Reply = ℕ × (ℕ × List ℕ)
-
--- the reply that is noted as altered
-abbrev pub reply_of : Altered → Reply
-reply_of a = (a.time, (a.bucket, a.bytes))
-
--- the reply that differs from these buckets, if there is one
-abbrev pub unlike : List (List ℕ) → ℕ → ℕ → Option (List ℕ) → List Reply
-unlike buckets at number None = []
-unlike buckets at number (Some text) = if is_bucket buckets number text then [] else (at, (number, text)) ∷ []
-
--- the reply of an exchange, where it differs from these buckets
-abbrev pub unlike_of : List (List ℕ) → Exchange → List Reply
-unlike_of buckets x = if x.write then [] else unlike buckets x.time x.bucket x.bytes
-
--- the Ok replies that differ from the last Ok write of their bucket before them, or from these buckets
-abbrev pub differing : List (List ℕ) → List Exchange → List Reply
-differing buckets [] = []
-differing buckets (x ∷ xs) = unlike_of buckets x ++ differing (written_by buckets x) xs
-
--- These exchanges are what the memory tells of its moves and answers since the start.
-pub record Tells (start memory : MemoryState) (xs : List Exchange) : Type 0 where
-  pub seen : (all : List Ask) → memory.seen ≡ Some all
-      → (before : List Ask) × (start.seen ≡ Some before) × (all ≡ before ++ map ask_of xs)
-  pub said : (all : List (Option (List ℕ))) → memory.said ≡ Some all
-      → (before : List (Option (List ℕ))) × (start.said ≡ Some before) × (all ≡ before ++ flat_map said_of xs)
-
--- Some exchanges are what the memory tells since the start; the log has their moves in order, the mirror each bucket's
--- last Ok write by them, and the altered replies are those that differ from it.
-pub record Tied (start memory : MemoryState) (tap : TapState) : Type 0 where
-  pub exchanges : List Exchange
-  pub told : Tells start memory exchanges
-  pub moves : tap.log.moves ≡ map move_of exchanges
-  pub mirror : tap.mirror ≡ written (zero_buckets (length tap.mirror)) exchanges
-  pub altered : map reply_of tap.log.altered ≡ differing (zero_buckets (length tap.mirror)) exchanges
-
--- the same, where memory ran out in the last move: mirror and altered replies are left as they were before it
-pub record TiedButLast (start memory : MemoryState) (tap : TapState) : Type 0 where
-  pub exchanges : List Exchange
-  pub last : Exchange
-  pub told : Tells start memory (exchanges ++ last ∷ [])
-  pub moves : tap.log.moves ≡ map move_of (exchanges ++ last ∷ [])
-  pub mirror : tap.mirror ≡ written (zero_buckets (length tap.mirror)) exchanges
-  pub altered : map reply_of tap.log.altered ≡ differing (zero_buckets (length tap.mirror)) exchanges
-
--- how memory and tap are tied at this end
-abbrev pub TiedAt : RunEnd → MemoryState → MemoryState → TapState → Type 0
-TiedAt Whole start memory tap = Tied start memory tap
-TiedAt MoveFailed start memory tap = Tied start memory tap
-TiedAt RanOut start memory tap = Tied start memory tap ⊎ TiedButLast start memory tap
-
--- These moves were made, in this order: each was noted, each was asked of the memory once, and nothing else was.
-pub record Made (end : RunEnd) (moves : List Move) (memory memory' : MemoryState) (tap tap' : TapState) : Type 0 where
-  pub noted : tap'.log.moves ≡ tap.log.moves ++ moves
+-- These moves were made and these events noted, each in this order: each move was noted, each was asked of the memory
+-- once, and nothing else was. A run ends by a failed move only where the count of faults rose in it.
+pub record Made (end : RunEnd) (moves : List Move) (events : List Event)
+    (memory memory' : MemoryState) (tap tap' : TapState) : Type 0 where
+  pub moves_are : tap'.log.moves ≡ tap.log.moves ++ moves
+  pub events_are : tap'.log.events ≡ tap.log.events ++ events
+  pub replies : GainsAltered tap.log tap'.log
   pub asked : memory'.moved ≡ memory.moved + length moves
   pub prepared : memory'.count ≡ memory.count
   pub linked : memory'.link ≡ memory.link
   pub later : memory.faults ≤ memory'.faults
+  pub cause : end ≡ MoveFailed → Rose memory.faults memory'.faults
   pub mirrored : length tap'.mirror ≡ length tap.mirror
   pub room : tap.spare_moves ≤ tap'.spare_moves + length moves
-  -- each event that is noted takes at most one of the spare events
-  pub event_room : tap.spare_events + length tap.log.events ≤ tap'.spare_events + length tap'.log.events
-  pub tied : (start : MemoryState) → Tied start memory tap → TiedAt end start memory' tap'
+  pub event_room : tap.spare_events ≤ tap'.spare_events + length events
+  pub tied : (start : MemoryState) (buckets : List (List ℕ)) → Tied start buckets memory tap
+      → TiedAt end start buckets memory' tap'
   pub honest : StaysHonest end memory memory' tap tap'
+
+-- the same of a bus, by what its memory and its tap mean; the bus is still over the two
+pub record Ran {M W : Type 0} (memory_of : M → MemoryState) (tap_of : W → TapState)
+    (end : RunEnd) (moves : List Move) (events : List Event) (old new : Bus M W) : Type 0 where
+  pub same : IsSameBus old new
+  pub made : Made end moves events (memory_of old.memory.now) (memory_of new.memory.now)
+      (tap_of old.tap.now) (tap_of new.tap.now)

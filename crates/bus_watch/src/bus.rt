@@ -1,9 +1,7 @@
-ghost use Rattle.std.specs.Prelude.{◌≡◌, ◌<◌, ◌≤◌, ◌+◌, ◌*◌, ◌^◌, ◌⊎◌, OnOk, OnErr, IsErrOf};
-ghost use Rattle.std.specs.Prelude.{length, slice_set, option_map, [], ◌∷◌};
-ghost use Rattle.asc_outside.specs.Host.{Rose};
-ghost use Rattle.asc_outside.specs.Memory.{MemoryState, Keeps, zero_buckets};
+ghost use Rattle.std.specs.Prelude.{◌≡◌, ◌<◌, ◌≤◌, ◌+◌, ◌^◌, OnOk, OnErr, length, slice_set, [], ◌∷◌};
 ghost use Rattle.bus_watch.specs.Log.{read_move, write_move, with_move, with_reply, with_event};
-ghost use Rattle.bus_watch.specs.Made.{Made, Tied};
+ghost use Rattle.bus_watch.specs.Made.{Ran};
+ghost use Rattle.bus_watch.specs.Prepared.{IsPrepared};
 ghost use Rattle.bus_watch.specs.RunEnd.{Whole, end_of};
 ghost use Rattle.bus_watch.specs.Same.{IsSameBus};
 
@@ -47,37 +45,18 @@ impl<'b, M: UntrustedMemory, W: Watch> Bus<'b, M, W> {
     /// Prepares memory and tap, once: buckets of zero bytes, and room for the moves and events of so many accesses,
     /// which are `2 * (levels + 1)` and 6 of each.
     ///
-    /// `Device` only where the memory's count of faults rose. After a refusal of the memory's own, the buckets that it
-    /// told are as before, or are told no more. Where it was the tap that had no memory, they are of zero bytes.
+    /// `Device` only where the memory's count of faults rose, or stands at its type's end. After a refusal of the
+    /// memory's own, the buckets that it told are as before, or are told no more. Where it was the tap that had no
+    /// memory, they are of zero bytes.
     pub fn prepare(&mut self, buckets: u32, levels: u32, accesses: u64) -> Result<(), BusStop>
         requires fresh { (M.state self.old.memory.now).count ≡ 0 }
         requires some { 0 < buckets }
         requires levels { levels ≤ 20 }
         requires accesses { accesses < 2 ^ 40 }
         ensures same { IsSameBus self.old self.new }
-        ensures count { (M.state self.new.memory.now).count ≡ buckets }
-        ensures link { (M.state self.new.memory.now).link ≡ (M.state self.old.memory.now).link }
-        ensures moved { (M.state self.new.memory.now).moved ≡ (M.state self.old.memory.now).moved }
-        ensures seen { (M.state self.new.memory.now).seen ≡ (M.state self.old.memory.now).seen }
-        ensures said { (M.state self.new.memory.now).said ≡ (M.state self.old.memory.now).said }
-        ensures told { OnOk result ((M.state self.new.memory.now).told
-            ≡ option_map (λ _. (W.state self.new.tap.now).mirror) (M.state self.old.memory.now).told) }
-        ensures told_device { IsErrOf result BusStop.Device
-            → Keeps (M.state self.old.memory.now).told (M.state self.new.memory.now).told }
-        ensures told_err { OnErr result (Keeps (M.state self.old.memory.now).told (M.state self.new.memory.now).told
-            ⊎ ((M.state self.new.memory.now).told
-            ≡ option_map (λ _. zero_buckets buckets) (M.state self.old.memory.now).told)) }
-        ensures later { (M.state self.old.memory.now).faults ≤ (M.state self.new.memory.now).faults }
-        ensures log { (W.state self.new.tap.now).log ≡ (W.state self.old.tap.now).log }
-        ensures mirror { OnOk result ((W.state self.new.tap.now).mirror ≡ zero_buckets buckets) }
-        ensures err { OnErr result (W.state self.new.tap.now ≡ W.state self.old.tap.now) }
-        ensures moves { OnOk result (2 * (levels + 1) * accesses ≤ (W.state self.new.tap.now).spare_moves) }
-        ensures events { OnOk result (6 * accesses ≤ (W.state self.new.tap.now).spare_events) }
-        ensures tied { (W.state self.old.tap.now).log.moves ≡ [] → (start : MemoryState)
-            → Tied start (M.state self.old.memory.now) (W.state self.old.tap.now)
-            → Tied start (M.state self.new.memory.now) (W.state self.new.tap.now) }
-        ensures cause { IsErrOf result BusStop.Device
-            → Rose (M.state self.old.memory.now).faults (M.state self.new.memory.now).faults }
+        ensures prepared { IsPrepared result buckets levels accesses
+            (M.state self.old.memory.now) (M.state self.new.memory.now)
+            (W.state self.old.tap.now) (W.state self.new.tap.now) }
     {
         match self.memory.prepare(buckets) {
             Ok(()) => {}
@@ -94,10 +73,10 @@ impl<'b, M: UntrustedMemory, W: Watch> Bus<'b, M, W> {
         }
     }
 
-    /// Reads a bucket, at this time in cycles. The move is noted on every answer, before the memory is asked.
+    /// Reads a bucket, at this time in cycles. On every answer the move is noted, and the memory was asked once.
     ///
     /// An Ok gives the reply, which the tap notes where it isn't the bucket of the mirror. `Device` only where the
-    /// memory's count of faults rose.
+    /// memory's count of faults rose, or stands at its type's end.
     pub fn read(
         &mut self,
         time: u64,
@@ -108,10 +87,7 @@ impl<'b, M: UntrustedMemory, W: Watch> Bus<'b, M, W> {
         requires mirrored { bucket < length (W.state self.old.tap.now).mirror }
         requires asked { (M.state self.old.memory.now).moved < 2 ^ 63 }
         requires room { 0 < (W.state self.old.tap.now).spare_moves }
-        ensures same { IsSameBus self.old self.new }
-        ensures made { Made (end_of result) (read_move time bucket ∷ [])
-            (M.state self.old.memory.now) (M.state self.new.memory.now)
-            (W.state self.old.tap.now) (W.state self.new.tap.now) }
+        ensures ran { Ran M.state W.state (end_of result) (read_move time bucket ∷ []) [] self.old self.new }
         ensures mirror { (W.state self.new.tap.now).mirror ≡ (W.state self.old.tap.now).mirror }
         ensures events { (W.state self.new.tap.now).spare_events ≡ (W.state self.old.tap.now).spare_events }
         ensures log { OnOk result ((W.state self.new.tap.now).log
@@ -119,8 +95,6 @@ impl<'b, M: UntrustedMemory, W: Watch> Bus<'b, M, W> {
             (W.state self.old.tap.now).mirror time bucket into.new) }
         ensures log_err { OnErr result ((W.state self.new.tap.now).log
             ≡ with_move (W.state self.old.tap.now).log (read_move time bucket)) }
-        ensures cause { IsErrOf result BusStop.Device
-            → Rose (M.state self.old.memory.now).faults (M.state self.new.memory.now).faults }
     {
         let read = Move {
             time,
@@ -138,9 +112,10 @@ impl<'b, M: UntrustedMemory, W: Watch> Bus<'b, M, W> {
         }
     }
 
-    /// Writes a bucket, at this time in cycles. The move is noted on every answer, before the memory is asked.
+    /// Writes a bucket, at this time in cycles. On every answer the move is noted, and the memory was asked once.
     ///
-    /// An Ok changes this one bucket of the mirror. `Device` only where the memory's count of faults rose.
+    /// An Ok changes this one bucket of the mirror. `Device` only where the memory's count of faults rose, or stands at
+    /// its type's end.
     pub fn write(
         &mut self,
         time: u64,
@@ -151,18 +126,13 @@ impl<'b, M: UntrustedMemory, W: Watch> Bus<'b, M, W> {
         requires mirrored { bucket < length (W.state self.old.tap.now).mirror }
         requires asked { (M.state self.old.memory.now).moved < 2 ^ 63 }
         requires room { 0 < (W.state self.old.tap.now).spare_moves }
-        ensures same { IsSameBus self.old self.new }
-        ensures made { Made (end_of result) (write_move time bucket ∷ [])
-            (M.state self.old.memory.now) (M.state self.new.memory.now)
-            (W.state self.old.tap.now) (W.state self.new.tap.now) }
+        ensures ran { Ran M.state W.state (end_of result) (write_move time bucket ∷ []) [] self.old self.new }
         ensures mirror { OnOk result ((W.state self.new.tap.now).mirror
             ≡ slice_set (W.state self.old.tap.now).mirror bucket bytes.now) }
         ensures mirror_err { OnErr result ((W.state self.new.tap.now).mirror ≡ (W.state self.old.tap.now).mirror) }
         ensures events { (W.state self.new.tap.now).spare_events ≡ (W.state self.old.tap.now).spare_events }
         ensures log { (W.state self.new.tap.now).log
             ≡ with_move (W.state self.old.tap.now).log (write_move time bucket) }
-        ensures cause { IsErrOf result BusStop.Device
-            → Rose (M.state self.old.memory.now).faults (M.state self.new.memory.now).faults }
     {
         let write = Move {
             time,
@@ -184,9 +154,7 @@ impl<'b, M: UntrustedMemory, W: Watch> Bus<'b, M, W> {
     /// Notes an event.
     pub fn note(&mut self, event: Event)
         requires { 0 < (W.state self.old.tap.now).spare_events }
-        ensures same { IsSameBus self.old self.new }
-        ensures made { Made Whole [] (M.state self.old.memory.now) (M.state self.new.memory.now)
-            (W.state self.old.tap.now) (W.state self.new.tap.now) }
+        ensures ran { Ran M.state W.state Whole [] (event ∷ []) self.old self.new }
         ensures memory { self.new.memory.now ≡ self.old.memory.now }
         ensures mirror { (W.state self.new.tap.now).mirror ≡ (W.state self.old.tap.now).mirror }
         ensures log { (W.state self.new.tap.now).log ≡ with_event (W.state self.old.tap.now).log event }

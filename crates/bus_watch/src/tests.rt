@@ -1,8 +1,15 @@
 //! What the tap notes of moves over the memories of tests.
 
-ghost use Rattle.std.specs.Prelude.{◌≡◌, ◌<◌, IsOk, length, vec_len};
+ghost use Rattle.std.specs.Prelude.{◌≡◌, ◌<◌, ◌≤◌, ◌+◌, ◌*◌, ◌^◌, ℕ, false, [], OnOk, OnErr, IsErrOf};
+ghost use Rattle.asc_base.specs.Shape.{IsShape};
+ghost use Rattle.asc_outside.specs.Rose.{Rose};
+ghost use Rattle.bus_watch.specs.Made.{Ran};
+ghost use Rattle.bus_watch.specs.Path.{along, reads};
+ghost use Rattle.bus_watch.specs.Ready.{IsReady};
+ghost use Rattle.bus_watch.specs.RunEnd.{Whole, end_of};
 
-use crate::{Bus, BusStop, Move, Recorder};
+use crate::{Bus, BusStop, Move, Recorder, Watch};
+use asc_base::{Leaf, MOVE_CYCLES, Shape};
 use asc_outside::{
     BUCKET_BYTES, FaultyMemory, HonestMemory, ScriptedMemory, UntrustedMemory, empty_bucket,
 };
@@ -112,5 +119,77 @@ fn largest_tree_is_prepared(rt: HostRuntime) -> Result<(), Fail> {
     let answers = make_moves(&mut memory, &mut tap, 262_143)?;
     assert_eq!(rt; answers, [Ok(()), Ok(()), Ok(())]);
     assert!(rt; tap.log().altered.is_empty());
+    Ok(())
+}
+
+// Reads the buckets along the path of a leaf, from the root down.
+fn read_along<M: UntrustedMemory, W: Watch>(
+    bus: &mut Bus<'_, M, W>,
+    shape: &Shape,
+    start: u64,
+    leaf: Leaf,
+) -> Result<(), BusStop>
+    requires shape { IsShape shape.now }
+    requires leaf { leaf.0 < 2 ^ shape.now.levels }
+    requires small { shape.now.levels ≤ 20 }
+    requires start { start < 2 ^ 39 }
+    requires ready { IsReady shape.now.buckets (shape.now.levels + 1) 0
+        (M.state bus.old.memory.now) (W.state bus.old.tap.now) }
+    ensures read { OnOk result
+        (Ran M.state W.state Whole (reads shape.now.levels start leaf.0) [] bus.old bus.new) }
+    ensures cut { OnErr result ((level : ℕ) × (level ≤ shape.now.levels)
+        × Ran M.state W.state (end_of result) (along shape.now.levels false start leaf.0 (level + 1)) [] bus.old bus.new) }
+    ensures cause { IsErrOf result BusStop.Device
+        → Rose (M.state bus.old.memory.now).faults (M.state bus.new.memory.now).faults }
+{
+    let mut bytes = empty_bucket();
+    for level in 0..shape.levels + 1 {
+        let at = start + MOVE_CYCLES * u64::from(level);
+        match bus.read(at, shape.bucket_on(leaf, level), &mut bytes) {
+            Ok(()) => {}
+            Err(stop) => return Err(stop),
+        }
+    }
+    Ok(())
+}
+
+// Prepares a bus for a slot, and reads a path.
+fn read_first_path<M: UntrustedMemory, W: Watch>(
+    bus: &mut Bus<'_, M, W>,
+    shape: &Shape,
+    leaf: Leaf,
+) -> Result<(), BusStop>
+    requires fresh { (M.state bus.old.memory.now).count ≡ 0 }
+    requires moved { (M.state bus.old.memory.now).moved < 2 ^ 62 }
+    requires shape { IsShape shape.now }
+    requires leaf { leaf.0 < 2 ^ shape.now.levels }
+    requires small { shape.now.levels ≤ 20 }
+{
+    bus.prepare(shape.buckets, shape.levels, 1)?;
+    read_along(bus, shape, 64, leaf)
+}
+
+#[test]
+fn path_is_read_from_the_root_down(rt: HostRuntime) -> Result<(), Fail> {
+    let mut memory = HonestMemory::new(rt.alloc());
+    let mut tap = Recorder::new(rt.alloc());
+    let shape = Shape::new(20, 4).ok_or("shape")?;
+    assert_eq!(rt; shape.levels, 3);
+    let mut bus = Bus::new(&mut memory, &mut tap);
+    assert_eq!(rt; read_first_path(&mut bus, &shape, Leaf(5)), Ok(()));
+    let mut seen = Vec::new(rt.alloc());
+    for at in &tap.log().moves {
+        seen.push((at.time, at.write, at.bucket))?;
+    }
+    assert_eq!(rt;
+        seen.as_slice(),
+        [
+            (64, false, 0),
+            (104, false, 2),
+            (144, false, 5),
+            (184, false, 12)
+        ]
+        .as_slice()
+    );
     Ok(())
 }

@@ -1,7 +1,9 @@
 pub mod Choices
 pub mod Facts
+pub mod FirstSlot
 pub mod FollowLaws
 pub mod HeardLaws
 pub mod Nearest
 pub mod RuleLaws
+pub mod StandLaws
 pub mod Steps

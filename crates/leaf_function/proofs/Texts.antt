@@ -1,27 +1,13 @@
 -- Points and their texts.
-use Rattle.std.proofs.Common.{◌≡◌, ℕ, ◌^◌, ◌<◌, Bool, true, false, take, drop, ◌==◌, ◌&&◌, refl, sym, ap, ◌∙◌}
-use Rattle.std.specs.Int.{w16, w32, w64, to_be_bytes, from_be_bytes}
-use Rattle.std.proofs.lemmas.Nat.{from_be_bytes-to_be_bytes_2, from_be_bytes-to_be_bytes_4, from_be_bytes-to_be_bytes_8}
+use Rattle.std.proofs.Common.{◌≡◌, true, take, drop, ◌==◌, ◌&&◌, refl, ap, ◌∙◌}
 use Rattle.std.proofs.lemmas.Bool.{eqb-true, eq-eqb}
+use Rattle.asc_base.proofs.Bytes.{number_of_2, number_of_4, number_of_8, both}
 use Rattle.asc_base.specs.declared.block.Address.{Address}
 use Rattle.asc_base.specs.declared.block.Counter.{Counter}
 use Rattle.asc_base.specs.declared.block.Point.{Point}
 use Rattle.asc_base.specs.declared.block.Point.TheVariants.{Real, Dummy}
 use Rattle.leaf_function.specs.Leaf.{point_text, IsPoint}
 use Rattle.leaf_function.specs.Table.{same_point}
-
--- numbers with the same bytes, of four, eight and two of them
-number_of_4 : (m n : ℕ) → m < 2 ^ 32 → n < 2 ^ 32 → to_be_bytes w32 m ≡ to_be_bytes w32 n → m ≡ n
-number_of_4 m n h k e =
-    sym (from_be_bytes-to_be_bytes_4 m h) ∙ ap (from_be_bytes w32) e ∙ from_be_bytes-to_be_bytes_4 n k
-
-number_of_8 : (m n : ℕ) → m < 2 ^ 64 → n < 2 ^ 64 → to_be_bytes w64 m ≡ to_be_bytes w64 n → m ≡ n
-number_of_8 m n h k e =
-    sym (from_be_bytes-to_be_bytes_8 m h) ∙ ap (from_be_bytes w64) e ∙ from_be_bytes-to_be_bytes_8 n k
-
-number_of_2 : (m n : ℕ) → m < 2 ^ 16 → n < 2 ^ 16 → to_be_bytes w16 m ≡ to_be_bytes w16 n → m ≡ n
-number_of_2 m n h k e =
-    sym (from_be_bytes-to_be_bytes_2 m h) ∙ ap (from_be_bytes w16) e ∙ from_be_bytes-to_be_bytes_2 n k
 
 -- a block under a counter, by its three numbers
 same_real : (a b : Address) (c d : Counter) → a.0 ≡ b.0 → c.group ≡ d.group → c.own ≡ d.own → Real a c ≡ Real b d
@@ -39,12 +25,6 @@ point_of_text (Real a c) (Real b d) h k e =
 point_of_text (Real a c) (Dummy n) h k e = absurd (cc)
 point_of_text (Dummy m) (Real b d) h k e = absurd (cc)
 point_of_text (Dummy m) (Dummy n) h k e = ap Dummy (number_of_8 m n h k (ap (drop 1) e))
-
--- two tests that hold together
-both : (p q : Bool) → (p && q) ≡ true → (p ≡ true) × (q ≡ true)
-both true true e = (refl, refl)
-both true false e = absurd (cc)
-both false q e = absurd (cc)
 
 -- the search's test holds of one point
 pub point_of_test : (x y : Point) → same_point x y ≡ true → x ≡ y

@@ -25,6 +25,10 @@ leaf_key master = derive master (codes "ascend leaf")
 unfoldable pub leaf : List ℕ → ℕ → Point → ℕ
 leaf key levels point = from_be_bytes w32 (take 4 (hmac key (point_text point))) % 2 ^ levels
 
+-- every value is one of the leaves of a tree with so many levels below the root
+abbrev pub AreLeaves : ℕ → (Point → ℕ) → Type 0
+AreLeaves levels leaf_of = (point : Point) → leaf_of point < 2 ^ levels
+
 -- what is seen of a keyed leaf function: its derived key, and the levels of its tree below the root
 pub record Keyed : Type 0 where
   pub key : List ℕ

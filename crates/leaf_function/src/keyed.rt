@@ -5,16 +5,16 @@ ghost use Rattle.hmac_sha.specs.Hmac.{hmac};
 
 use crate::leaf_fn::LeafFn;
 use asc_base::{Address, Counter, Leaf, Point};
-use hmac_sha::{derive, hmac};
+use hmac_sha::{HmacKey, derive};
 use std::marker::Model;
 
 /// Leaves by a key: the first four bytes of the authentication code of a point's text, modulo the number of leaves.
 ///
-/// It is seen as its key, which the master key gives under the label `ascend leaf`, and its levels. No call takes
-/// memory.
+/// It is seen as its key, which the master key gives under the label `ascend leaf`, and its levels. The key's hashers are
+/// kept, so that a leaf takes two compressions of SHA-256. No call takes memory.
 #[derive(Drop)]
 pub struct KeyedLeaf {
-    key: [u8; 32],
+    key: HmacKey,
     levels: u32,
 }
 
@@ -38,7 +38,7 @@ impl KeyedLeaf {
         ensures { result ≡ record { key = leaf_key master.now; levels = levels } }
     {
         KeyedLeaf {
-            key: derive(master, b"ascend leaf"),
+            key: HmacKey::new(&derive(master, b"ascend leaf")),
             levels,
         }
     }
@@ -54,15 +54,17 @@ impl LeafFn for KeyedLeaf {
         let code = code_of(&self.key, point);
         Leaf(leaf_number(&code, self.levels))
     }
+
+    fn gives_leaves(&self) {}
 }
 
 // The code of a point's text.
-fn code_of(key: &[u8; 32], point: Point) -> [u8; 32]
+fn code_of(key: &HmacKey, point: Point) -> [u8; 32]
     ensures { result ≡ hmac key.now (point_text point) }
 {
     match point {
-        Point::Real(address, counter) => hmac(key, &real_text(address, counter)),
-        Point::Dummy(number) => hmac(key, &dummy_text(number)),
+        Point::Real(address, counter) => key.code(&real_text(address, counter)),
+        Point::Dummy(number) => key.code(&dummy_text(number)),
     }
 }
 

@@ -1,5 +1,6 @@
 ghost use Rattle.std.specs.Prelude.{◌≡◌, ℕ, ◌^◌, ◌<◌};
 ghost use Rattle.asc_base.specs.declared.block.Point.{Point};
+ghost use Rattle.leaf_function.specs.Leaf.{AreLeaves};
 
 use asc_base::{Leaf, Point};
 
@@ -18,4 +19,8 @@ pub trait LeafFn: Drop {
     fn leaf(&self, point: Point) -> Leaf
         ensures value { result.0 ≡ leaf_of self.now point }
         ensures below { result.0 < 2 ^ levels self.now };
+
+    /// Every leaf that the function gives is one of the tree's. The call does nothing: it states a law in its contract.
+    fn gives_leaves(&self)
+        ensures { AreLeaves (levels self.now) (leaf_of self.now) };
 }

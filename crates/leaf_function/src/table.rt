@@ -58,6 +58,10 @@ impl LeafFn for TableLeaf {
             None => self.rest,
         }
     }
+
+    fn gives_leaves(&self) {
+        let _rest = &self.rest;
+    }
 }
 
 // The leaf of the first pair that has the point.

@@ -1,8 +1,17 @@
+ghost use Rattle.std.specs.Prelude.{◌≡◌};
+ghost use Rattle.leaf_function.specs.Leaf.{AreLeaves};
+
 use crate::{KeyedLeaf, LeafFn, TableLeaf};
 use asc_base::{Address, Counter, Leaf, Point};
+use std::array;
 use std::test::Fail;
 
-fn leaf_by<L: LeafFn>(leaves: &L, point: Point) -> u32 {
+// A caller of any leaf function knows the leaf of the point that it asks for, and where all the others are.
+fn leaf_by<L: LeafFn>(leaves: &L, point: Point) -> u32
+    ensures value { result ≡ L.leaf_of leaves.now point }
+    ensures leaves { AreLeaves (L.levels leaves.now) (L.leaf_of leaves.now) }
+{
+    leaves.gives_leaves();
     leaves.leaf(point).0
 }
 
@@ -10,18 +19,10 @@ fn real(address: u32, group: u64, own: u16) -> Point {
     Point::Real(Address(address), Counter { group, own })
 }
 
-fn counting_key() -> [u8; 32] {
-    let mut key = [0u8; 32];
-    for place in 0..32 {
-        key[place] = place as u8;
-    }
-    key
-}
-
 // The values are those of Python's hmac module, as tools/hmac_vectors.py prints them.
 #[test]
 fn keyed_leaves(rt: HostRuntime) {
-    let key = counting_key();
+    let key: [u8; 32] = array::from_fn(|place| (place % 256) as u8);
     let small = KeyedLeaf::new(&key, 3);
     let large = KeyedLeaf::new(&key, 20);
     let rows = [

@@ -1,2 +1,3 @@
-pub mod Laws
-pub mod Places
+pub mod Apart
+pub mod Held
+pub mod Kept

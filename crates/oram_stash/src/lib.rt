@@ -1,20 +1,30 @@
 //! The entries that stay in the processor, in order of arrival.
 #![tactic(auto)]
 
-ghost use Rattle.std.specs.Prelude.{◌≡◌, ◌+◌, ◌≤◌, ◌<◌, ◌↔◌, [], ◌∷◌, ◌++◌, List, length, slice_get, position, IsOk, IsErr, IsSome, IfNone, OnSome, OnOk, OnErr};
-ghost use Rattle.std.specs.Option.{option_copied};
-ghost use Rattle.oram_stash.specs.Entries.{is_of, held, without};
+ghost use Rattle.std.specs.Prelude.{◌≡◌, ◌+◌, ◌≤◌, ◌<◌, ◌↔◌, [], ◌∷◌, ◌++◌, List, length, position, is_none};
+ghost use Rattle.std.specs.Prelude.{IsOk, IsErr, IsSome, IfNone, OnSome, OnOk, OnErr, vec_capacity};
+ghost use Rattle.oram_stash.specs.Entries.{is_of, held, without, AreApart};
+ghost use Rattle.path_evict.specs.Placed.{kept};
 
 use asc_base::{Address, Entry, NoMemory};
 use std::alloc::Global;
 use std::marker::Model;
 
+mod iteration;
+mod laws;
+
+pub use iteration::Entries;
+pub use laws::{
+    addresses_find_entries, last_entry_is_found, others_are_left, placed_entries_are_found,
+    two_entries_are_apart,
+};
+
 /// An entry of the address is there already.
 #[derive(Clone, Copy, Debug, PartialEq, Eq)]
 pub struct Doubled;
 
-/// Entries in order of arrival, which `put` adds and `take` takes out by address, and the number of further entries
-/// that are sure to find room.
+/// Entries in order of arrival, no two of one address, which `put` adds and `take` takes out by address, and the number
+/// of further entries that are sure to find room.
 #[derive(Drop)]
 pub struct Stash {
     entries: Vec<Entry>,
@@ -22,11 +32,17 @@ pub struct Stash {
 
 impl Model for Stash {
     ghost use Rattle.std.specs.Prelude.{◌-◌, vec_len, vec_capacity};
+    ghost use Rattle.oram_stash.specs.Entries.{AreApart};
     ghost use Rattle.oram_stash.specs.Stash.{StashState};
 
     ghost Value = { StashState };
 
-    ghost view = { λ stash. record { entries = stash.entries.items; spare = vec_capacity stash.entries - vec_len stash.entries } };
+    ghost view = { λ stash. record {
+      entries = stash.entries.items;
+      spare = vec_capacity stash.entries - vec_len stash.entries;
+    } };
+
+    ghost invariant = { λ stash. AreApart stash.entries.items };
 }
 
 /// Where the first entry of the address is.
@@ -34,6 +50,22 @@ fn place_of(entries: &[Entry], address: Address) -> Option<usize>
     ensures { result ≡ position (is_of address) entries.now }
 {
     entries.iter().position(|entry| entry.address == address)
+}
+
+/// Keeps the entries that have no place, in order.
+fn keep_unplaced(entries: &mut Vec<Entry>, places: &[Option<u32>])
+    requires { length places.now ≡ length entries.old.items }
+    ensures items { entries.new.items ≡ kept places.now entries.old.items }
+    ensures capacity { vec_capacity entries.new ≡ vec_capacity entries.old }
+{
+    let mut kept = 0;
+    for at in 0..places.len() {
+        if places[at].is_none() {
+            entries[kept] = entries[at];
+            kept += 1;
+        }
+    }
+    entries.truncate(kept);
 }
 
 impl Stash {
@@ -66,6 +98,7 @@ impl Stash {
         ensures ok { OnOk result (self.new.entries ≡ self.old.entries ++ entry ∷ []) }
         ensures spare { self.old.spare ≤ self.new.spare + 1 }
         ensures err { OnErr result (self.new ≡ self.old) }
+        ensures apart { AreApart self.new.entries }
     {
         if place_of(&self.entries, entry.address).is_some() {
             return Err(Doubled);
@@ -82,23 +115,44 @@ impl Stash {
         ensures others { self.new.entries ≡ without self.old.entries address }
         ensures spare { OnSome result (self.new.spare ≡ self.old.spare + 1) }
         ensures none { IfNone result (self.new ≡ self.old) }
+        ensures apart { AreApart self.new.entries }
     {
         let place = place_of(&self.entries, address)?;
         Some(self.entries.remove(place))
     }
 
+    /// Takes out the entries that have a place: those of a path that was written. Those that stay keep their order.
+    /// `places` has a place, or None, for each entry.
+    pub fn keep_unplaced(&mut self, places: &[Option<u32>])
+        requires { length places.now ≡ length self.old.entries }
+        ensures entries { self.new.entries ≡ kept places.now self.old.entries }
+        ensures spare { self.new.spare + length self.new.entries ≡ self.old.spare + length self.old.entries }
+        ensures apart { AreApart self.new.entries }
+    {
+        keep_unplaced(&mut self.entries, places);
+    }
+
     /// How many entries are there.
     pub fn len(&self) -> usize
-        ensures { result ≡ length self.now.entries }
+        ensures len { result ≡ length self.now.entries }
+        ensures apart { AreApart self.now.entries }
     {
         self.entries.len()
     }
 
-    /// The entry at this place in order of arrival, from 0 on; None past the last.
-    pub fn get(&self, at: usize) -> Option<&Entry>
-        ensures { option_copied result ≡ slice_get self.now.entries at }
+    /// How many more entries are sure to find room.
+    pub fn spare(&self) -> usize
+        ensures { result ≡ self.now.spare }
     {
-        self.entries.get(at)
+        self.entries.capacity() - self.entries.len()
+    }
+
+    /// The entries in order of arrival.
+    pub fn iter(&self) -> Entries<'_>
+        ensures entries { result ≡ self.now.entries }
+        ensures apart { AreApart self.now.entries }
+    {
+        Entries::over(&self.entries)
     }
 }
 

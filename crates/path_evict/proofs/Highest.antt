@@ -1,6 +1,9 @@
 -- The rest is the greatest excess, and a search through the depths in order finds the least that reaches it.
-use Rattle.std.proofs.Common.{◌≡◌, ℕ, zero, suc, ◌+◌, ◌≤◌, ◌<◌, List, Option, Some, None, IfSome, IfNone, arith, inl, inr, subst, sym}
+use Rattle.std.proofs.Common.{◌≡◌, ℕ, zero, suc, ◌+◌, ◌≤◌, ◌<◌, List, Option, Some, None, IfSome, IfNone, arith, inl}
+use Rattle.std.proofs.Common.{inr, subst, sym}
+use Rattle.std.proofs.Common.{length, nat_le}
 use Rattle.std.proofs.lemmas.Bool.Decides.{leb_tells}
+use Rattle.std.proofs.lemmas.List.Sums.{count_by-le-length}
 use Rattle.path_evict.specs.Rest.{excess, rest, IsLeastWitness}
 
 le_here : (excess-of : ℕ → ℕ) (level k r : ℕ) → k ≡ suc level → excess-of (suc level) ≤ r → excess-of k ≤ r
@@ -14,7 +17,8 @@ excess-le-rest depths zero k h =
     subst P e (omega arith)
 excess-le-rest depths (suc level) k h =
     elim (leb_tells k level) [
-      | inl below ↦ let sooner : excess depths k ≤ rest depths level = excess-le-rest depths level k below.1 in omega arith
+      | inl below ↦ let sooner : excess depths k ≤ rest depths level = excess-le-rest depths level k below.1 in
+          omega arith
       | inr above ↦ le_here (excess depths) level k _ (omega arith) (omega arith)
     ]
 
@@ -29,7 +33,8 @@ rest-le depths (suc level) m h =
 -- what a search through the depths below `n` knows: the most, and the least depth that reaches it
 pub record Searched (depths : List ℕ) (n most : ℕ) (witness : Option ℕ) : Type 0 where
   pub bound : (k : ℕ) → k < n → excess depths k ≤ most
-  pub found : IfSome witness (λ k. (k < n) × (0 < most) × (excess depths k ≡ most) × ((j : ℕ) → j < k → excess depths j < most))
+  pub found : IfSome witness
+      (λ k. (k < n) × (0 < most) × (excess depths k ≡ most) × ((j : ℕ) → j < k → excess depths j < most))
   pub none : IfNone witness (most ≡ 0)
 
 below_next : (f : ℕ → ℕ) (n r : ℕ) → ((k : ℕ) → k < n → f k ≤ r) → f n ≤ r → (k : ℕ) → k < n + 1 → f k ≤ r
@@ -39,32 +44,42 @@ below_next f n r before here k h =
       | inr below ↦ before k below.1
     ]
 
-pub searched_higher : (depths : List ℕ) (n most beyond : ℕ) (witness : Option ℕ) → Searched depths n most witness → beyond ≡ excess depths n → most < beyond → Searched depths (n + 1) beyond (Some n)
+pub searched_higher : (depths : List ℕ) (n most beyond : ℕ) (witness : Option ℕ) → Searched depths n most witness
+    → beyond ≡ excess depths n → most < beyond → Searched depths (n + 1) beyond (Some n)
 searched_higher depths n most beyond witness s e h = record {
-  bound = below_next (excess depths) n beyond (λ k below. let b : excess depths k ≤ most = s.bound k below in omega arith) (omega arith);
+  bound = below_next (excess depths) n beyond (λ k below. let b : excess depths k ≤ most = s.bound k below in omega
+      arith) (omega arith);
   found = (omega arith, omega arith, sym e, λ j below. let b : excess depths j ≤ most = s.bound j below in omega arith);
   none = tt;
 }
 
-still_found : (depths : List ℕ) (n most : ℕ) (witness : Option ℕ) → IfSome witness (λ k. (k < n) × (0 < most) × (excess depths k ≡ most) × ((j : ℕ) → j < k → excess depths j < most)) → IfSome witness (λ k. (k < n + 1) × (0 < most) × (excess depths k ≡ most) × ((j : ℕ) → j < k → excess depths j < most))
+still_found : (depths : List ℕ) (n most : ℕ) (witness : Option ℕ)
+    → IfSome witness (λ k. (k < n) × (0 < most) × (excess depths k ≡ most) × ((j : ℕ) → j < k
+    → excess depths j < most))
+    → IfSome witness (λ k. (k < n + 1) × (0 < most) × (excess depths k ≡ most) × ((j : ℕ) → j < k
+    → excess depths j < most))
 still_found depths n most None s = tt
 still_found depths n most (Some k) s = (let h : k < n = s.0 in omega arith, s.1, s.2, s.3)
 
-pub searched_on : (depths : List ℕ) (n most beyond : ℕ) (witness : Option ℕ) → Searched depths n most witness → beyond ≡ excess depths n → beyond ≤ most → Searched depths (n + 1) most witness
+pub searched_on : (depths : List ℕ) (n most beyond : ℕ) (witness : Option ℕ) → Searched depths n most witness
+    → beyond ≡ excess depths n → beyond ≤ most → Searched depths (n + 1) most witness
 searched_on depths n most beyond witness s e h = record {
   bound = below_next (excess depths) n most s.bound (omega arith);
   found = still_found depths n most witness s.found;
   none = s.none;
 }
 
-searched-le : (depths : List ℕ) (levels most : ℕ) (witness : Option ℕ) → Searched depths (levels + 1) most witness → most ≤ rest depths levels
+searched-le : (depths : List ℕ) (levels most : ℕ) (witness : Option ℕ) → Searched depths (levels + 1) most witness
+    → most ≤ rest depths levels
 searched-le depths levels most None s = let e : most ≡ 0 = s.none in omega arith
 searched-le depths levels most (Some k) s =
     let e : excess depths k ≡ most = s.found.2 in
-    let h : excess depths k ≤ rest depths levels = excess-le-rest depths levels k (let b : k < levels + 1 = s.found.0 in omega arith) in
+    let h : excess depths k ≤ rest depths levels =
+    excess-le-rest depths levels k (let b : k < levels + 1 = s.found.0 in omega arith) in
     omega arith
 
-pub searched_rest : (depths : List ℕ) (n levels most : ℕ) (witness : Option ℕ) → Searched depths n most witness → n ≡ levels + 1 → most ≡ rest depths levels
+pub searched_rest : (depths : List ℕ) (n levels most : ℕ) (witness : Option ℕ) → Searched depths n most witness
+    → n ≡ levels + 1 → most ≡ rest depths levels
 searched_rest depths n levels most witness s e =
     let P : ℕ → Type 0 = λ i. Searched depths i most witness in
     let all : Searched depths (levels + 1) most witness = subst P e s in
@@ -72,7 +87,8 @@ searched_rest depths n levels most witness s e =
     let below : most ≤ rest depths levels = searched-le depths levels most witness all in
     omega arith
 
-pub searched_witness : (depths : List ℕ) (n levels most : ℕ) (witness : Option ℕ) → Searched depths n most witness → n ≡ levels + 1 → IfSome witness (IsLeastWitness depths levels)
+pub searched_witness : (depths : List ℕ) (n levels most : ℕ) (witness : Option ℕ) → Searched depths n most witness
+    → n ≡ levels + 1 → IfSome witness (IsLeastWitness depths levels)
 searched_witness depths n levels most None s e = tt
 searched_witness depths n levels most (Some k) s e =
     let same : most ≡ rest depths levels = searched_rest depths n levels most (Some k) s e in
@@ -86,9 +102,19 @@ searched_witness depths n levels most (Some k) s e =
       least = λ j h. let b : excess depths j < most = s.found.3 j h in omega arith;
     }
 
-pub searched_none : (depths : List ℕ) (n levels most : ℕ) (witness : Option ℕ) → Searched depths n most witness → n ≡ levels + 1 → IfNone witness (rest depths levels ≡ 0)
+pub searched_none : (depths : List ℕ) (n levels most : ℕ) (witness : Option ℕ) → Searched depths n most witness
+    → n ≡ levels + 1 → IfNone witness (rest depths levels ≡ 0)
 searched_none depths n levels most None s e =
     let same : most ≡ rest depths levels = searched_rest depths n levels most None s e in
     let none : most ≡ 0 = s.none in
     omega arith
 searched_none depths n levels most (Some k) s e = tt
+
+-- no more must stay than there are
+excess-le-length : (depths : List ℕ) (k : ℕ) → excess depths k ≤ length depths
+excess-le-length depths k = omega (arith, count_by-le-length (λ depth. nat_le depth k) depths)
+
+pub rest-le-length : (depths : List ℕ) (levels : ℕ) → rest depths levels ≤ length depths
+unfolding rest
+rest-le-length depths zero = excess-le-length depths 0
+rest-le-length depths (suc level) = omega (arith, rest-le-length depths level, excess-le-length depths (suc level))

@@ -3,7 +3,8 @@ pub mod Counts
 pub mod Highest
 pub mod Leaves
 pub mod Room
-pub mod Tally
 pub mod Steps
+pub mod OnPaths
+pub mod Placed
 pub mod Planned
 pub mod Fitting

@@ -1,3 +1,4 @@
 pub mod Eviction
+pub mod Placed
 pub mod Placement
 pub mod Rest

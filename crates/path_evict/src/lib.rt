@@ -9,6 +9,12 @@ ghost use Rattle.path_evict.specs.Rest.{excess, rest, IsLeastWitness};
 
 use asc_base::NoMemory;
 
+mod laws;
+
+pub use laws::{
+    entries_are_on_their_paths, items_are_placed, laws_have_instances, rest_is_some_of_all,
+};
+
 /// The entries that a bucket holds.
 const SLOTS: usize = 4;
 
@@ -26,6 +32,7 @@ pub fn remainder(depths: &[u32], levels: u32) -> (usize, Option<u32>)
     ensures rest { result.0 ≡ rest depths.now levels }
     ensures witness { IfSome result.1 (IsLeastWitness depths.now levels) }
     ensures none { IfNone result.1 (rest depths.now levels ≡ 0) }
+    ensures few { result.0 ≤ length depths.now }
     ensures fewest { (places : List (Option ℕ)) → IsPlacement depths.now places → result.0 ≤ left places }
 {
     let mut most = 0;

@@ -1,6 +1,7 @@
 ghost use Rattle.std.specs.Prelude.{◌≤◌, ◌↔◌, IsTrue, All};
 
 use super::*;
+use asc_base::{Entry, Leaf};
 use std::alloc::{AllocError, Global};
 use std::test::Fail;
 
@@ -130,4 +131,9 @@ fn leaves_the_fewest_of_all_placements(rt: HostRuntime) -> Result<(), Fail> {
         }
     }
     Ok(())
+}
+
+#[test]
+fn items_of_any_type() {
+    items_are_placed::<Entry, Leaf>();
 }

@@ -1,7 +1,8 @@
 -- What every tag has.
-use Rattle.std.proofs.Common.{◌≡◌, ℕ, ◌≤◌, ◌<◌, List, length, All, arith}
+use Rattle.std.proofs.Common.{◌≡◌, ℕ, ◌≤◌, ◌<◌, List, length, arith}
 use Rattle.std.proofs.lemmas.List.{length-take-le}
 use Rattle.std.proofs.lemmas.List.Elements.{All-take}
+use Rattle.asc_base.specs.Bytes.{AreBytes}
 use Rattle.asc_base.specs.declared.block.Message.{Message}
 use Rattle.hmac_sha.specs.Hmac.{hmac}
 use Rattle.hmac_sha.proofs.Codes.{length-hmac, bytes-hmac}
@@ -16,7 +17,7 @@ length-tag key message =
     length-take-le 16 code enough
 
 -- each below 256
-pub bytes-tag : (key : List ℕ) (message : Message) → All (λ b. b < 256) (tag key message)
+pub bytes-tag : (key : List ℕ) (message : Message) → AreBytes (tag key message)
 unfolding tag
 bytes-tag key message =
     All-take (λ b. b < 256) 16 (hmac key (message_text message)) (bytes-hmac key (message_text message))

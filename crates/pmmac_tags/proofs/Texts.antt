@@ -1,22 +1,8 @@
 -- Messages and their texts.
-use Rattle.std.proofs.Common.{◌≡◌, ℕ, ◌^◌, ◌<◌, List, take, drop, sym, ap, ◌∙◌}
-use Rattle.std.specs.Int.{w16, w32, w64, to_be_bytes, from_be_bytes}
-use Rattle.std.proofs.lemmas.Nat.{from_be_bytes-to_be_bytes_2, from_be_bytes-to_be_bytes_4, from_be_bytes-to_be_bytes_8}
+use Rattle.std.proofs.Common.{◌≡◌, ℕ, List, take, drop, ap, ◌∙◌}
+use Rattle.asc_base.proofs.Bytes.{number_of_2, number_of_4, number_of_8}
 use Rattle.asc_base.specs.declared.block.Message.{Message}
 use Rattle.pmmac_tags.specs.Tag.{message_text, IsMessage}
-
--- numbers with the same bytes, of four, eight and two of them
-number_of_4 : (m n : ℕ) → m < 2 ^ 32 → n < 2 ^ 32 → to_be_bytes w32 m ≡ to_be_bytes w32 n → m ≡ n
-number_of_4 m n h k e =
-    sym (from_be_bytes-to_be_bytes_4 m h) ∙ ap (from_be_bytes w32) e ∙ from_be_bytes-to_be_bytes_4 n k
-
-number_of_8 : (m n : ℕ) → m < 2 ^ 64 → n < 2 ^ 64 → to_be_bytes w64 m ≡ to_be_bytes w64 n → m ≡ n
-number_of_8 m n h k e =
-    sym (from_be_bytes-to_be_bytes_8 m h) ∙ ap (from_be_bytes w64) e ∙ from_be_bytes-to_be_bytes_8 n k
-
-number_of_2 : (m n : ℕ) → m < 2 ^ 16 → n < 2 ^ 16 → to_be_bytes w16 m ≡ to_be_bytes w16 n → m ≡ n
-number_of_2 m n h k e =
-    sym (from_be_bytes-to_be_bytes_2 m h) ∙ ap (from_be_bytes w16) e ∙ from_be_bytes-to_be_bytes_2 n k
 
 -- a message of its numbers and its bytes
 abbrev message_of : ℕ → ℕ → ℕ → List ℕ → Message

@@ -1,7 +1,8 @@
 //! Laws of tags and of the texts that they are computed from. The functions do nothing: each states a law in its
 //! contract.
 
-ghost use Rattle.std.specs.Prelude.{◌≡◌, ℕ, ◌<◌, List, All, length};
+ghost use Rattle.std.specs.Prelude.{◌≡◌, ℕ, List, length};
+ghost use Rattle.asc_base.specs.Bytes.{AreBytes};
 ghost use Rattle.asc_base.specs.declared.block.Message.{Message};
 ghost use Rattle.pmmac_tags.specs.Tag.{message_text, tag, IsMessage};
 
@@ -14,5 +15,5 @@ pub fn texts_tell_messages()
 /// Every tag has 16 bytes, each below 256, whatever the key and the message.
 pub fn tags_have_16_bytes()
     ensures number { (key : List ℕ) (message : Message) → length (tag key message) ≡ 16 }
-    ensures bytes { (key : List ℕ) (message : Message) → All (λ b. b < 256) (tag key message) }
+    ensures bytes { (key : List ℕ) (message : Message) → AreBytes (tag key message) }
 {}

@@ -2,15 +2,16 @@ ghost use Rattle.std.specs.Prelude.{◌≡◌, ◌↔◌, IsTrue, take};
 ghost use Rattle.pmmac_tags.specs.Tag.{message_text, tag, tag_key};
 
 use asc_base::Message;
-use hmac_sha::{derive, hmac};
+use hmac_sha::{HmacKey, derive};
 use std::marker::Model;
 
 /// Gives messages their tags: the first 16 bytes of the authentication code of a message's text.
 ///
-/// It is seen as its key, which the master key gives under the label `ascend tag`.
+/// It is seen as its key, which the master key gives under the label `ascend tag`. The key's hashers are kept, so that a
+/// tag takes three compressions of SHA-256.
 #[derive(Drop)]
 pub struct Tagger {
-    key: [u8; 32],
+    key: HmacKey,
 }
 
 impl Model for Tagger {
@@ -28,7 +29,7 @@ impl Tagger {
         ensures { result ≡ tag_key master.now }
     {
         Tagger {
-            key: derive(master, b"ascend tag"),
+            key: HmacKey::new(&derive(master, b"ascend tag")),
         }
     }
 
@@ -37,7 +38,7 @@ impl Tagger {
     pub fn tag(&self, message: &Message) -> [u8; 16]
         ensures { result ≡ tag self.now message.now }
     {
-        let code = hmac(&self.key, &text_of(message));
+        let code = self.key.code(&text_of(message));
         first_half(&code)
     }
 

@@ -1,8 +1,10 @@
 -- Digits and the numbers that they make, in any base.
-use Rattle.std.proofs.Common.{◌≡◌, ℕ, zero, suc, ◌+◌, ◌-◌, ◌*◌, ◌/◌, ◌%◌, ◌^◌, ◌<◌, ◌≤◌, List, [], ◌∷◌, ◌++◌, length, get_or, refl, sym, ap, ◌∙◌, arith, zero-add}
+use Rattle.std.proofs.Common.{◌≡◌, ℕ, zero, suc, ◌+◌, ◌-◌, ◌*◌, ◌/◌, ◌%◌, ◌^◌, ◌<◌, ◌≤◌, List, [], ◌∷◌, ◌++◌, length}
+use Rattle.std.proofs.Common.{get_or, refl, sym, ap, ◌∙◌, arith, zero-add}
 use Rattle.std.specs.Int.Digits.{number_from_digits, number_from_digits_after}
 use Rattle.std.proofs.lemmas.Nat.{div-mul-add, mod-mul-add, mod_below, mul-add-lt, pow-add}
-use Rattle.std.proofs.Math.Nat.{pow-suc, pow-zero, mul_assoc, mul_comm, add-mul, div-div-eq-div-mul, mul-add-div_right, mul-add-mod_self_right, one-le-pow}
+use Rattle.std.proofs.Math.Nat.{pow-suc, pow-zero, mul_assoc, mul_comm, add-mul, div-div-eq-div-mul, mul-add-div_right}
+use Rattle.std.proofs.Math.Nat.{mul-add-mod_self_right, one-le-pow}
 use lib.Arith.{mod-mul}
 use Rattle.posmap_counters.specs.Digits.{digits}
 
@@ -23,7 +25,8 @@ spread n b d p =
     ∙ ap (λ x. x + d * p) (mul_assoc n b p ∙ ap (λ x. n * x) (mul_comm b p))
 
 -- the number of digits after those of n
-pub number_after : (b n : ℕ) (ds : List ℕ) → number_from_digits_after b n ds ≡ n * b ^ length ds + number_from_digits b ds
+pub number_after : (b n : ℕ) (ds : List ℕ) → number_from_digits_after b n ds
+    ≡ n * b ^ length ds + number_from_digits b ds
 number_after b n [] = rw (pow-zero b) (omega arith)
 number_after b n (d ∷ ds) =
     let here = number_after b (n * b + d) ds in
@@ -37,9 +40,11 @@ pub number_below : (b : ℕ) (ds : List ℕ) → Below b ds → number_from_digi
 number_below b [] below = rw (pow-zero b) (omega arith)
 number_below b (d ∷ ds) below =
     let later : number_from_digits b ds < b ^ length ds = number_below b ds (Below-tail b d ds below) in
-    let first : number_from_digits_after b (0 * b + d) ds ≡ (0 * b + d) * b ^ length ds + number_from_digits b ds = number_after b (0 * b + d) ds in
+    let first : number_from_digits_after b (0 * b + d) ds ≡ (0 * b + d) * b ^ length ds + number_from_digits b ds =
+    number_after b (0 * b + d) ds in
     let narrow = spread 0 b d (b ^ length ds) in
-    rw (pow-suc b (length ds)) (below_next d b (b ^ length ds) (number_from_digits b ds) _ (below 0) later (omega (arith, first, narrow)))
+    rw (pow-suc b (length ds)) (below_next d b (b ^ length ds) (number_from_digits b ds) _ (below 0) later
+    (omega (arith, first, narrow)))
   where
     below_next : (d b p low x : ℕ) → d < b → low < p → x ≡ d * p + low → x < p * b
     below_next d b p low x under less is = rw is (mul-add-lt d p low b under less)
@@ -56,19 +61,22 @@ digits_below b (suc k) n some zero = mod_below (n / b ^ k) b some
 digits_below b (suc k) n some (suc i) = digits_below b k n some i
 
 -- the digits of the number of digits
-pub digits-number_after : (b n : ℕ) (ds : List ℕ) → 0 < b → Below b ds → digits b (length ds) (number_from_digits_after b n ds) ≡ ds
+pub digits-number_after : (b n : ℕ) (ds : List ℕ) → 0 < b → Below b ds
+    → digits b (length ds) (number_from_digits_after b n ds) ≡ ds
 unfolding digits
 digits-number_after b n [] some below = refl
 digits-number_after b n (d ∷ ds) some below =
     let tail = Below-tail b d ds below in
     let whole : number_from_digits_after b (n * b + d) ds / b ^ length ds ≡ n * b + d =
-    rw (number_after b (n * b + d) ds) (div-mul-add (n * b + d) (b ^ length ds) (number_from_digits b ds) (number_below b ds tail)) in
+    rw (number_after b (n * b + d) ds) (div-mul-add (n * b + d) (b ^ length ds) (number_from_digits b ds)
+    (number_below b ds tail)) in
     let first : number_from_digits_after b (n * b + d) ds / b ^ length ds % b ≡ d =
     rw whole (mod-mul-add n b d (below 0)) in
     ap (λ x. x ∷ digits b (length ds) (number_from_digits_after b (n * b + d) ds)) first
     ∙ ap (λ rest. d ∷ rest) (digits-number_after b (n * b + d) ds some tail)
 
-pub digits-number : (b k : ℕ) (ds : List ℕ) → 0 < b → Below b ds → length ds ≡ k → digits b k (number_from_digits b ds) ≡ ds
+pub digits-number : (b k : ℕ) (ds : List ℕ) → 0 < b → Below b ds → length ds ≡ k
+    → digits b k (number_from_digits b ds) ≡ ds
 digits-number b k ds some below long = rw (← long) (digits-number_after b 0 ds some below)
 
 -- the number of the digits of a number
@@ -80,16 +88,19 @@ number-digits b (suc k) n some =
     let first = number_after b (0 * b + q) (digits b k n) in
     let later = number-digits b k n some in
     let split : n % (b * b ^ k) ≡ (n / b ^ k % b) * b ^ k + n % b ^ k = mod-mul n some (pow_above b k some) in
-    rw (pow-suc b k, mul_comm (b ^ k) b, split) (first ∙ rw (length-digits b k n, later) (omega (arith, spread 0 b q (b ^ k))))
+    rw (pow-suc b k, mul_comm (b ^ k) b, split) (first
+    ∙ rw (length-digits b k n, later) (omega (arith, spread 0 b q (b ^ k))))
 
 -- a multiple of a greater power, as a multiple of the next power
 higher : (b k e n m : ℕ) → suc k ≤ e → n * b ^ e + m ≡ n * b ^ (e - suc k) * b * b ^ k + m
 higher b k e n m within =
     let parts : e ≡ (e - suc k) + 1 + k = omega arith in
     let power : b ^ e ≡ b ^ (e - suc k) * b * b ^ k =
-    ap (λ x. b ^ x) parts ∙ pow-add b ((e - suc k) + 1) k ∙ ap (λ x. x * b ^ k) (pow-add b (e - suc k) 1 ∙ ap (λ x. b ^ (e - suc k) * x) (one_power b)) in
+    ap (λ x. b ^ x) parts ∙ pow-add b ((e - suc k) + 1) k
+    ∙ ap (λ x. x * b ^ k) (pow-add b (e - suc k) 1 ∙ ap (λ x. b ^ (e - suc k) * x) (one_power b)) in
     ap (λ x. n * x + m) power
-    ∙ ap (λ x. x + m) (sym (mul_assoc n (b ^ (e - suc k) * b) (b ^ k)) ∙ ap (λ x. x * b ^ k) (sym (mul_assoc n (b ^ (e - suc k)) b)))
+    ∙ ap (λ x. x + m) (sym (mul_assoc n (b ^ (e - suc k) * b) (b ^ k))
+    ∙ ap (λ x. x * b ^ k) (sym (mul_assoc n (b ^ (e - suc k)) b)))
   where
     one_power : (b : ℕ) → b ^ 1 ≡ b
     one_power b = pow-suc b 0 ∙ ap (λ x. x * b) (pow-zero b) ∙ omega arith
@@ -108,9 +119,11 @@ low_digits b (suc k) e n m some within =
     ∙ ap (λ rest. m / b ^ k % b ∷ rest) (low_digits b k e n m some (omega arith))
 
 -- digits in two parts
-pub digits-append : (b j k n m : ℕ) → 0 < b → m < b ^ k → digits b (j + k) (n * b ^ k + m) ≡ digits b j n ++ digits b k m
+pub digits-append : (b j k n m : ℕ) → 0 < b → m < b ^ k
+    → digits b (j + k) (n * b ^ k + m) ≡ digits b j n ++ digits b k m
 unfolding digits
-digits-append b zero k n m some low = ap (λ x. digits b x (n * b ^ k + m)) (zero-add k) ∙ low_digits b k k n m some (omega arith)
+digits-append b zero k n m some low = ap (λ x. digits b x (n * b ^ k + m)) (zero-add k)
+    ∙ low_digits b k k n m some (omega arith)
 digits-append b (suc j) k n m some low =
     let more : suc j + k ≡ suc (j + k) = omega arith in
     let whole : (n * b ^ k + m) / b ^ (j + k) ≡ n / b ^ j =

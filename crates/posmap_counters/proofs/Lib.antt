@@ -1,5 +1,12 @@
 pub mod DigitLaws
 pub mod LineLaws
 pub mod PieceLaws
-pub mod CounterLaws
+pub mod Order
+pub mod ChangeLaws
+pub mod FamilyLaws
+pub mod MoveLaws
+pub mod FamilyLines
 pub mod AskedLaws
+pub mod RootLaws
+pub mod BoundLaws
+pub mod Rows

@@ -1,10 +1,12 @@
-ghost use Rattle.std.specs.Prelude.{◌≡◌, ◌+◌, ◌-◌, ◌^◌, ◌%◌, ◌<◌, ◌≤◌, ◌↔◌, ℕ};
-ghost use Rattle.std.specs.Prelude.{List, [], ◌∷◌, slice_index, slice_set, replicate, take, drop, length};
+ghost use Rattle.std.specs.Prelude.{◌≡◌, ◌-◌, ◌^◌, ◌<◌, ◌≤◌, ◌↔◌};
+ghost use Rattle.std.specs.Prelude.{slice_index, replicate, take, length};
 ghost use Rattle.std.specs.Int.Digits.{number_from_digits};
 ghost use Rattle.posmap_counters.specs.Digits.{digits};
-ghost use Rattle.posmap_counters.specs.Group.{AreOwn, AreBytes, line_of, group_of, own_of};
+ghost use Rattle.posmap_counters.specs.Group.{AreOwn, IsGroup, line_of, line_in, group_of, own_of, group_in};
+ghost use Rattle.posmap_counters.specs.Group.{child_counter, stepped_group, moved_group, asked_group};
 
 use asc_base::{Counter, Line};
+use std::marker::Model;
 
 /// The counters of the blocks under one position-map block.
 #[derive(Clone, Copy, Debug, PartialEq, Eq)]
@@ -13,7 +15,18 @@ pub struct Group {
     pub group: u64,
     /// The own count of each child, from child 0 on: below 16,384.
     pub own: [u16; 32],
-    ghost in_range: { AreOwn own },
+}
+
+impl Model for Group {
+    ghost use Rattle.posmap_counters.specs.Group.{GroupState, AreOwn};
+
+    ghost Value = { GroupState };
+
+    ghost view = { λ g. record { group = g.group; own = g.own } };
+
+    ghost invariant = { λ g. AreOwn g.own };
+
+    ghost inverse = { λ g. record { group = g.group; own = g.own } };
 }
 
 /// What an access makes of a child's counter.
@@ -28,8 +41,8 @@ pub enum Step {
 impl Group {
     /// The counters in a line. Every line has some.
     pub fn read(line: &Line) -> Group
-        ensures group { result.group ≡ group_of line.now.0 }
-        ensures own { result.own ≡ own_of line.now.0 }
+        ensures group { result ≡ group_in line.now.0 }
+        ensures whole { IsGroup result }
     {
         Group {
             group: group_count(&line.0),
@@ -40,7 +53,8 @@ impl Group {
     /// The line that has these counters: the group counter in 8 bytes, highest byte first, then the own counts in 14
     /// bits each, child 0 first and highest bit first, without gaps.
     pub fn write(&self) -> Line
-        ensures { result.0 ≡ line_of self.now.group self.now.own }
+        ensures line { result.0 ≡ line_in self.now }
+        ensures whole { IsGroup self.now }
     {
         Line(line_bytes(self.group, &self.own))
     }
@@ -48,8 +62,7 @@ impl Group {
     /// The counter of a child, 0 to 31.
     pub fn counter(&self, child: u32) -> Counter
         requires { child < 32 }
-        ensures group { result.group ≡ self.now.group }
-        ensures own { result.own ≡ slice_index self.now.own child }
+        ensures { result ≡ child_counter self.now child }
     {
         Counter {
             group: self.group,
@@ -64,10 +77,7 @@ impl Group {
         requires ic_from { 2 ≤ ic }
         requires ic_to { ic ≤ 14 }
         ensures must_move { (result ≡ Step.MustMove) ↔ (2 ^ ic - 1 ≤ slice_index self.old.own child) }
-        ensures stays { result ≡ Step.MustMove → self.new ≡ self.old }
-        ensures group { self.new.group ≡ self.old.group }
-        ensures own { result ≡ Step.Stepped
-            → self.new.own ≡ slice_set self.old.own child (slice_index self.old.own child + 1) }
+        ensures group { self.new ≡ stepped_group ic self.old child }
     {
         let own = self.own[child as usize];
         if own >= (1 << ic) - 1 {
@@ -77,10 +87,26 @@ impl Group {
         Step::Stepped
     }
 
+    /// The counters after an access to a child, 0 to 31, that is asked for, where own counts have `ic` bits, 2 to 14:
+    /// where a step answers `MustMove`, all children move first.
+    pub fn asked(&self, child: u32, ic: u32) -> Group
+        requires child { child < 32 }
+        requires ic_from { 2 ≤ ic }
+        requires ic_to { ic ≤ 14 }
+        ensures { result ≡ asked_group ic self.now child }
+    {
+        let mut stepped = *self;
+        if stepped.step(child, ic) == Step::Stepped {
+            return stepped;
+        }
+        let mut moved = self.moved();
+        moved.step(child, ic);
+        moved
+    }
+
     /// The counters after a group move: the next group counter, after the greatest 0, and own counts of 0.
     pub fn moved(&self) -> Group
-        ensures group { result.group ≡ (self.now.group + 1) % 2 ^ 64 }
-        ensures own { result.own ≡ replicate 32 0 }
+        ensures { result ≡ moved_group self.now }
     {
         Group {
             group: self.group.wrapping_add(1),

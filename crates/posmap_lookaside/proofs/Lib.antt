@@ -1,2 +1,4 @@
 pub mod AddressLaws
+pub mod HeldLaws
 pub mod Places
+pub mod Wholes

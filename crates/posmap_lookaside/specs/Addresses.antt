@@ -1,13 +1,12 @@
 -- A list of addresses of position-map blocks, the most recent first.
-use Rattle.std.specs.Prelude.{ℕ, List, [], ◌∷◌, nat_eq, if◌then◌else◌}
-use Rattle.std.specs.List.{list_any}
-
--- the list without the first place of an address
-unfoldable pub without_address : List ℕ → ℕ → List ℕ
-without_address [] address = []
-without_address (first ∷ list) address = (if nat_eq first address then list else (first ∷ without_address list address))
+use Rattle.std.specs.Prelude.{ℕ, ◌≤◌, nat_eq, List}
+use Rattle.std.specs.List.{count_by}
+use Rattle.asc_base.specs.Lookup.{promoted_first}
 
 -- the list with an address in front, where it has it
-unfoldable pub used : List ℕ → ℕ → List ℕ
-used list address =
-    (if list_any (λ held. nat_eq held address) list then (address ∷ without_address list address) else list)
+abbrev pub used : List ℕ → ℕ → List ℕ
+used list address = promoted_first (λ held. nat_eq held address) list
+
+-- no address is there twice
+abbrev pub AreDistinct : List ℕ → Type 0
+AreDistinct list = (address : ℕ) → count_by (λ held. nat_eq held address) list ≤ 1

@@ -1,32 +1,34 @@
--- Held blocks, the most recent first. Of several with one address the first counts; a caller keeps the addresses
--- distinct by inserting only a block whose address isn't held.
-use Rattle.std.specs.Prelude.{ℕ, ◌==◌, Bool, List, [], ◌∷◌, map, find, Option, take, slice_get, if◌then◌else◌}
-use Rattle.std.specs.Option.{option_map_or}
+-- Held blocks, the most recent first. Of several with one address the first counts; a caller keeps the addresses distinct
+-- by inserting only a block whose address isn't held.
+use Rattle.std.specs.Prelude.{ℕ, nat_eq, Bool, List, ◌∷◌, map, find, Option, take, slice_get}
+use Rattle.asc_base.specs.Lookup.{changed_first, promoted_first}
 use Rattle.asc_base.specs.declared.block.Address.{Address}
+use Rattle.asc_base.specs.declared.block.Counter.{Counter}
+use Rattle.posmap_counters.specs.Group.{GroupState}
 use Rattle.posmap_lookaside.specs.declared.held.Held.{Held}
 
 -- whether a block is that of this address
 abbrev pub is_of : Address → Held → Bool
-is_of address held = held.address.0 == address.0
+is_of address held = nat_eq held.address.0 address.0
 
 -- the block of this address
-unfoldable pub held_at : List Held → Address → Option Held
+abbrev pub held_at : List Held → Address → Option Held
 held_at list address = find (is_of address) list
 
--- the list without the block of this address; those after it move up
-unfoldable pub without : List Held → Address → List Held
-without [] address = []
-without (held ∷ list) address = (if is_of address held then list else (held ∷ without list address))
-
 -- the list with the block of this address in front, where it is there at all
-unfoldable pub promoted : List Held → Address → List Held
-promoted list address = option_map_or (λ held. held ∷ without list address) (held_at list address) list
+abbrev pub promoted : List Held → Address → List Held
+promoted list address = promoted_first (is_of address) list
 
 -- the list with the block of this address changed in its place
-unfoldable pub changed : (Held → Held) → List Held → Address → List Held
-changed change [] address = []
-changed change (held ∷ list) address =
-    (if is_of address held then (change held ∷ list) else (held ∷ changed change list address))
+abbrev pub changed : (Held → Held) → List Held → Address → List Held
+changed change list address = changed_first change (is_of address) list
+
+-- a block with this group, and one with this counter
+abbrev pub with_group : GroupState → Held → Held
+with_group group held = record held { group = group }
+
+abbrev pub with_counter : Counter → Held → Held
+with_counter counter held = record held { counter = counter }
 
 -- the list with one block more in front, as far as there is room
 abbrev pub inserted : ℕ → Held → List Held → List Held

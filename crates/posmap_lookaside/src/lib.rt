@@ -6,7 +6,7 @@ mod laws;
 mod lookaside;
 
 pub use held::Held;
-pub use laws::addresses_follow;
+pub use laws::{addresses_follow, addresses_stay_distinct, held_blocks_keep_values};
 pub use lookaside::Lookaside;
 
 #[cfg(test)]

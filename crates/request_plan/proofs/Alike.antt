@@ -1,6 +1,6 @@
 -- Plans that ask the same.
 use Rattle.std.proofs.Common.{◌≡◌, Result, Ok, Err, refl, sym, subst, inl, inr}
-use Rattle.request_plan.specs.Plan.{Plan, Done, Ask, Ends, Stops, bind, through, Asks, Alike}
+use Rattle.request_plan.specs.Plan.{Plan, Done, Ask, Ends, Stops, bind, through, Asks, Outcomes, Alike}
 
 -- The first parts are related, and the second are the same.
 abbrev pub SameBeside : {H H' A : Type 0} → (H → H' → Type 0) → H × A → H' × A → Type 0
@@ -36,6 +36,14 @@ pub Asks-bind : {Q X B C A D : Type 0} (P : Q → Type 0) (put : B → C) (p : P
     → Asks P p → ((a : A) → Asks P (next a)) → Asks P (bind put p next)
 Asks-bind P put (Done a) next first each = each a
 Asks-bind P put (Ask q b k) next first each = (first.0, λ x. Asks-bind P put (k x) next (first.1 x) each)
+
+-- the same, where the second plan's requests rest on what each outcome of the first has
+pub Asks-bind-where : {Q X B C A D : Type 0} (P : Q → Type 0) (Out : A → Type 0) (put : B → C) (p : Plan Q X B A)
+    (next : A → Plan Q X C D)
+    → Asks P p → Outcomes Out p → ((a : A) → Out a → Asks P (next a)) → Asks P (bind put p next)
+Asks-bind-where P Out put (Done a) next first out each = each a out
+Asks-bind-where P Out put (Ask q b k) next first out each =
+    (first.0, λ x. Asks-bind-where P Out put (k x) next (first.1 x) (out x) each)
 
 -- each request of a layer's plans has P, and so each of a plan through it
 pub Asks-through : {H Q X R Y C : Type 0} (P : R → Type 0) (serve : H → Q → Plan R Y C (H × X))

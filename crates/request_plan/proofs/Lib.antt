@@ -6,3 +6,4 @@ pub mod Served
 pub mod Told
 pub mod Courses
 pub mod Plays
+pub mod PressLaws

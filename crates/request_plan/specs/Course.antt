@@ -31,6 +31,13 @@ abbrev pub course : {N Q X B A : Type 0} → (Q → Source N X) → Plan Q X B A
 course source (Done a) items = Finished a items
 course source (Ask q b k) items = after_source q b (λ x rest. course source (k x) rest) (source q) items
 
+-- how a course goes on into the next plan: what is left by a stop in the first is put as the next has it
+abbrev pub after_course : {N Q B C A D : Type 0}
+    → (B → C) → (A → List N → Course N Q C D) → Course N Q B A → Course N Q C D
+after_course put go (Finished a items) = go a items
+after_course put go (Starved q b) = Starved q (put b)
+after_course put go Astray = Astray
+
 -- An answer is the known one and nothing is noted; or one item more is noted, from which the answer is read.
 abbrev pub Notes : {N X : Type 0} → Source N X → List N → X → List N → Type 0
 Notes (Known y) before x after = (after ≡ before) × (x ≡ y)

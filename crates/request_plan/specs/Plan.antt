@@ -60,6 +60,17 @@ abbrev pub Asks : {Q X B A : Type 0} → (Q → Type 0) → Plan Q X B A → Typ
 Asks P (Done a) = Unit {0}
 Asks {Q} {X} P (Ask q b k) = P q × ((x : X) → Asks P (k x))
 
+-- Whatever is answered, each outcome of the plan has P.
+abbrev pub Outcomes : {Q X B A : Type 0} → (A → Type 0) → Plan Q X B A → Type 0
+Outcomes P (Done a) = P a
+Outcomes {Q} {X} P (Ask q b k) = (x : X) → Outcomes P (k x)
+
+-- What a plan over such a layer that holds nothing comes to: it gives an answer; or it ends with a refusal, or is stopped.
+abbrev pub ComesTo : {S P Y X E : Type 0} → (S → P → Result Y E → S → Type 0)
+    → Plan P Y (Unit {0}) (Reply E (Unit {0}) X) → S → Result X E → S → Type 0
+ComesTo step plan old (Ok x) new = Ends step plan old new (Gives tt x)
+ComesTo step plan old (Err e) new = Ends step plan old new (Refuses e) ⊎ Stops step plan old new e tt
+
 -- Two plans ask the same, and what they leave and their outcomes are related, whatever answers come that are Fine.
 abbrev pub Alike : {Q X B C A D : Type 0}
     → (Q → X → Type 0) → (B → C → Type 0) → (A → D → Type 0) → Plan Q X B A → Plan Q X C D → Type 0

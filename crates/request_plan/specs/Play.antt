@@ -42,13 +42,12 @@ play serve (Ask q b k) held =
     let rest = play serve (k (turn.answer)) (turn.held) in
     record { records = marked b (turn.records) ++ rest.records; held = rest.held; outcome = rest.outcome }
 
--- A play cut by a stop in one of its records: those up to that one were made, and left is what the plan leaves there.
-pub record IsHalt {R H B A : Type 0} (whole : Played R H B A) (made : List R) (left : B) : Type 0 where
+-- A play cut by a stop in one of its records: these were made before that one, and left is what the plan leaves there.
+pub record IsHalt {R H B A : Type 0} (whole : Played R H B A) (done : List R) (cut : R) (left : B) : Type 0 where
   pub before : List (R × B)
-  pub cut : R
   pub later : List (R × B)
   pub parts : whole.records ≡ before ++ (cut, left) ∷ later
-  pub kept : made ≡ bare before ++ cut ∷ []
+  pub are : done ≡ bare before
 
 -- what the last record leaves, or this where there is none
 abbrev pub last_left : {R B : Type 0} → B → List (R × B) → B

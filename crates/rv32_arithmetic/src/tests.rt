@@ -5,6 +5,8 @@ use rv32_table::{BranchOp, ImmOp, LoadOp, RegOp, StoreOp};
 use std::process::Abort;
 use std::test::Fail;
 
+mod told_apart;
+
 /// The operation of each row answers the row's last word for the two before.
 fn answers(rt: &impl Abort, rows: &[(RegOp, u32, u32, u32)]) {
     for (op, x, y, answer) in rows {

@@ -113,7 +113,7 @@ write_of-fine machine =
     fine-if machine ((register core 10 == 1) || (register core 10 == 2)) chosen (Answers bad_file)
     (λ _. fine-if machine (is_buffer core address count) write (Answers bad_buffer)
     (λ fits. fine-if machine room (Writes address count) (Traps OutputLimit)
-    (λ fit. (is_buffer-front core address count count fits (omega arith), grind (arith, nat_tests))) (λ _. tt)) (λ _. tt))
+    (λ fit. (is_buffer-front core address count count fits (omega arith), grind (arith, nat_tests))) (λ _ e. absurd (cc))) (λ _. tt))
     (λ _. tt)
 
 break_of-fine : (machine : Machine) → IsEffect machine (break_of machine.core)
@@ -134,7 +134,7 @@ call_of-fine machine =
 
 jump_to-fine : (machine : Machine) (index target : ℕ) → index < 32 → IsEffect machine (jump_to index target)
 jump_to-fine machine index target low =
-    fine-if machine (target % 4 == 0) (Jumps index target) (Traps FetchMisaligned) (λ aligned. (low, grind (arith, nat_tests))) (λ _. tt)
+    fine-if machine (target % 4 == 0) (Jumps index target) (Traps FetchMisaligned) (λ aligned. (low, grind (arith, nat_tests))) (λ _ e. absurd (cc))
 
 branch_of-fine : (machine : Machine) (op : BranchOp) (rs1 rs2 : ℕ) (offset : ℤ) → IsEffect machine (branch_of machine.core op rs1 rs2 offset)
 branch_of-fine machine op rs1 rs2 offset =
@@ -148,7 +148,7 @@ load_from-fine machine op index address low =
     let load : Effect = if inside then Loads op index address else Traps LoadFault in
     fine-if machine (address % load_width op == 0) load (Traps LoadMisaligned)
     (λ aligned. fine-if machine inside (Loads op index address) (Traps LoadFault)
-    (λ fits. (low, grind (arith, nat_tests), grind (arith, nat_tests))) (λ _. tt)) (λ _. tt)
+    (λ fits. (low, grind (arith, nat_tests), grind (arith, nat_tests))) (λ _ e. absurd (cc))) (λ _ e. absurd (cc))
 
 store_at-fine : (machine : Machine) (op : StoreOp) (address value : ℕ) → IsEffect machine (store_at machine.core op address value)
 store_at-fine machine op address value =
@@ -156,7 +156,7 @@ store_at-fine machine op address value =
     let store : Effect = if inside then Stores op address value else Traps StoreFault in
     fine-if machine (address % store_width op == 0) store (Traps StoreMisaligned)
     (λ aligned. fine-if machine inside (Stores op address value) (Traps StoreFault)
-    (λ fits. (grind (arith, nat_tests), grind (arith, nat_tests))) (λ _. tt)) (λ _. tt)
+    (λ fits. (grind (arith, nat_tests), grind (arith, nat_tests))) (λ _ e. absurd (cc))) (λ _ e. absurd (cc))
 
 -- the register that an instruction names for its result is one that there is
 abbrev pub HasRegister : Instr → Type 0
@@ -205,7 +205,7 @@ register-fine machine (Op op rd rs1 rs2) low = low
 register-fine machine (Fence rest) low = tt
 register-fine machine (FenceI rest) low = tt
 register-fine machine Ecall low = call_of-fine machine
-register-fine machine Ebreak low = tt
+register-fine machine Ebreak low = λ e. absurd (cc)
 
 -- every effect of an instruction that fits is one that the machine can have
 pub effect_of-fine : (machine : Machine) (instr : Instr) → Fits instr → IsEffect machine (effect_of machine instr)
@@ -222,7 +222,7 @@ found-fine : (machine : Machine) (word : ℕ) (found : Option Row) → find (is_
 found-fine machine word (Some r) e =
     register-fine machine (instruction_of r.form word)
     (find-each (λ (x : Row). HasRegister (instruction_of x.form word)) word table r (rows-register word) e)
-found-fine machine word None e = tt
+found-fine machine word None e = λ same. absurd (cc)
 
 -- and so is every effect of a word, and of any number
 pub effect_of_word-fine : (machine : Machine) (word : ℕ) → IsEffect machine (effect_of_word machine word)

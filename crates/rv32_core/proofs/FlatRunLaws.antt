@@ -2,7 +2,7 @@
 use Rattle.std.proofs.Common.{◌≡◌, ℕ, ◌+◌, ◌-◌, ◌<◌, ◌≤◌, List, refl, sym, ap, subst, ◌∙◌, arith, zero, suc}
 use Rattle.rv32_core.specs.Machine.{Machine}
 use Rattle.rv32_core.specs.FlatMachine.{FlatStep, flat_step}
-use Rattle.rv32_core.specs.FlatRun.{Exited, Trapped, Budget, FlatRun, finished_before, run_from, flat_run}
+use Rattle.rv32_core.specs.FlatRun.{FlatEnding, Exited, Trapped, Budget, FlatRun, finished_before, run_from, flat_run, gone_on_from, gone_on}
 use Rattle.rv32_core.specs.declared.outcome.Ended.{Ended}
 use Rattle.rv32_core.specs.declared.outcome.Ended.TheVariants.{No, Exit, Trap}
 use Rattle.rv32_core.specs.declared.outcome.TrapKind.{TrapKind}
@@ -33,7 +33,7 @@ flat_run-step n i machine memory step left e =
     flat_run-next n i machine memory left ∙ ap (λ (s : FlatStep). run_from (flat_run (n - (i + 1))) s (s.done.ended)) e
 
 -- so many before, and one more
-finished_before-one : (i : ℕ) (run : FlatRun) → finished_before i (finished_before 1 run) ≡ finished_before (i + 1) run
+pub finished_before-one : (i : ℕ) (run : FlatRun) → finished_before i (finished_before 1 run) ≡ finished_before (i + 1) run
 finished_before-one i run =
     ap (λ (k : ℕ). let r : FlatRun = record run { instructions = k } in r) (let e : i + (1 + run.instructions) ≡ (i + 1) + run.instructions = omega arith in e)
 
@@ -106,3 +106,63 @@ flat_run-instructions (suc n) machine memory =
     at_most n rest each step No = omega (arith, each step.machine step.memory)
     at_most n rest each step (Exit status) = omega arith
     at_most n rest each step (Trap kind pc) = omega arith
+
+-- ---- runs in parts
+-- none before
+finished_before-none : (run : FlatRun) → finished_before 0 run ≡ run
+finished_before-none run =
+    ap (λ (k : ℕ). let r : FlatRun = record run { instructions = k } in r) (let e : 0 + run.instructions ≡ run.instructions = omega arith in e)
+
+-- so many before, and so many more
+finished_before-twice : (i k : ℕ) (run : FlatRun) → finished_before i (finished_before k run) ≡ finished_before (i + k) run
+finished_before-twice i k run =
+    ap (λ (n : ℕ). let r : FlatRun = record run { instructions = n } in r)
+    (let e : i + (k + run.instructions) ≡ (i + k) + run.instructions = omega arith in e)
+
+-- one before a run that goes on
+gone_on-one : (more : ℕ) (run : FlatRun) (ending : FlatEnding)
+    → finished_before 1 (gone_on_from more run ending) ≡ gone_on_from more (finished_before 1 run) ending
+gone_on-one more run Budget = finished_before-twice 1 run.instructions (flat_run more run.machine run.memory)
+gone_on-one more run (Exited status) = refl
+gone_on-one more run (Trapped kind pc) = refl
+
+-- the run from a step on
+gone_on-from : (n more : ℕ) (step : FlatStep) (ended : Ended)
+    → flat_run (n + more) step.machine step.memory ≡ gone_on more (flat_run n step.machine step.memory)
+    → run_from (flat_run (n + more)) step ended ≡ gone_on more (run_from (flat_run n) step ended)
+gone_on-from n more step No later =
+    ap (finished_before 1) later
+    ∙ gone_on-one more (flat_run n step.machine step.memory) ((flat_run n step.machine step.memory).ending)
+gone_on-from n more step (Exit status) later = refl
+gone_on-from n more step (Trap kind pc) later = refl
+
+-- the run of n instructions and of k more is that of n + k
+pub flat_run-goes_on : (n more : ℕ) (machine : Machine) (memory : List ℕ)
+    → flat_run (n + more) machine memory ≡ gone_on more (flat_run n machine memory)
+flat_run-goes_on zero more machine memory =
+    ap (λ k. flat_run k machine memory) (let e : 0 + more ≡ more = omega arith in e)
+    ∙ sym (finished_before-none (flat_run more machine memory))
+    ∙ ap (gone_on more) (sym (flat_run-zero machine memory))
+flat_run-goes_on (suc n) more machine memory =
+    let step : FlatStep = flat_step machine memory in
+    ap (λ k. flat_run k machine memory) (let e : suc n + more ≡ suc (n + more) = omega arith in e)
+    ∙ flat_run-suc (n + more) machine memory
+    ∙ gone_on-from n more step step.done.ended (flat_run-goes_on n more step.machine step.memory)
+    ∙ ap (gone_on more) (sym (flat_run-suc n machine memory))
+
+-- with Budget all its instructions finished
+budget-from : (n : ℕ) (step : FlatStep) (ended : Ended)
+    → ((flat_run n step.machine step.memory).ending ≡ Budget → (flat_run n step.machine step.memory).instructions ≡ n)
+    → (run_from (flat_run n) step ended).ending ≡ Budget → (run_from (flat_run n) step ended).instructions ≡ suc n
+budget-from n step No later budget = let all : (flat_run n step.machine step.memory).instructions ≡ n = later budget in omega arith
+budget-from n step (Exit status) later budget = absurd (cc)
+budget-from n step (Trap kind pc) later budget = absurd (cc)
+
+pub flat_run-budget : (n : ℕ) (machine : Machine) (memory : List ℕ) → (flat_run n machine memory).ending ≡ Budget
+    → (flat_run n machine memory).instructions ≡ n
+flat_run-budget zero machine memory budget = ap (λ (r : FlatRun). r.instructions) (flat_run-zero machine memory)
+flat_run-budget (suc n) machine memory budget =
+    let step : FlatStep = flat_step machine memory in
+    subst (λ (r : FlatRun). r.instructions ≡ suc n) (sym (flat_run-suc n machine memory))
+    (budget-from n step step.done.ended (flat_run-budget n step.machine step.memory)
+    (ap (λ (r : FlatRun). r.ending) (sym (flat_run-suc n machine memory)) ∙ budget))

@@ -6,7 +6,7 @@ use Rattle.std.proofs.lemmas.List.Elements.{All-nil, All-cons, All-append}
 use Rattle.std.proofs.lemmas.List.Kept.{AllPairs-cons}
 use Rattle.asc_base.specs.Memory.{IsMemory}
 use Rattle.rv32_table.specs.Meaning.{load_width, store_width}
-use Rattle.rv32_core.specs.Machine.{CoreState, Machine, is_inside, effect_of_word, cost_of_word}
+use Rattle.rv32_core.specs.Machine.{CoreState, Machine, IsEffect, is_inside, effect_of_word, cost_of_word}
 use Rattle.rv32_core.specs.FlatMachine.{FlatStep, bytes_at, effected, flat_step}
 use Rattle.rv32_core.specs.FlatRun.{FlatEnding, Exited, Trapped, Budget, FlatRun, finished_before, run_from, flat_run}
 use Rattle.rv32_core.specs.LineList.{LineKind, Read, Write, WholeWrite, LineUse, LineItem, line_of, lines_from, lines_of, used, data_lines, word_lines, fetch_line, step_lines, items_after, items_from, run_items, image_items, cost_after}
@@ -16,8 +16,10 @@ use Rattle.rv32_core.specs.declared.outcome.Done.{Done}
 use Rattle.rv32_core.specs.declared.outcome.Ended.{Ended}
 use Rattle.rv32_core.specs.declared.outcome.Ended.TheVariants.{No, Exit, Trap}
 use Rattle.rv32_core.specs.declared.outcome.TrapKind.TheVariants.{FetchFault}
+use Rattle.rv32_core.proofs.FlatRunLaws.{flat_run-zero, flat_run-suc}
 use Rattle.rv32_core.proofs.LineLaws.{lines_of-some, lines_from-more, lines_from-none}
-use Rattle.rv32_core.proofs.StepLines.{IsPlace, IsPlaced, effect_of_word-placed, load_width-some, store_width-some, is_inside-place}
+use Rattle.rv32_core.proofs.EffectLaws.{effect_of_word-fine}
+use Rattle.rv32_core.proofs.StepLines.{IsPlace, is_inside-place, load-place, store-place, is_buffer-place}
 
 -- ---- a run's items step by step
 pub run_items-none : (cost : ℕ) (machine : Machine) (memory : List ℕ) → run_items 0 cost machine memory ≡ []
@@ -66,16 +68,6 @@ cost_after-suc : (n cost : ℕ) (machine : Machine) (memory : List ℕ)
 unfolding cost_after
 cost_after-suc n cost machine memory = refl
 
-flat_run-none : (machine : Machine) (memory : List ℕ)
-    → flat_run 0 machine memory ≡ record { instructions = 0; machine = machine; memory = memory; ending = Budget }
-unfolding flat_run
-flat_run-none machine memory = refl
-
-flat_run-more : (n : ℕ) (machine : Machine) (memory : List ℕ)
-    → flat_run (suc n) machine memory ≡ run_from (flat_run n) (flat_step machine memory) ((flat_step machine memory).done.ended)
-unfolding flat_run
-flat_run-more n machine memory = refl
-
 -- the items of a run from its end on, after so many cycles
 abbrev items_beyond : ℕ → ℕ → FlatRun → List LineItem
 items_beyond more cost run = run_items more cost run.machine run.memory
@@ -103,18 +95,18 @@ run_items-beyond : (n more cost : ℕ) (machine : Machine) (memory : List ℕ) �
 run_items-beyond zero more cost machine memory budget =
     ap (λ n. run_items n cost machine memory) (let e : 0 + more ≡ more = omega arith in e)
     ∙ ap (λ n. run_items more n machine memory) (sym (cost_after-none cost machine memory))
-    ∙ ap (λ (run : FlatRun). items_beyond more (cost_after 0 cost machine memory) run) (sym (flat_run-none machine memory))
+    ∙ ap (λ (run : FlatRun). items_beyond more (cost_after 0 cost machine memory) run) (sym (flat_run-zero machine memory))
     ∙ ap (λ l. l ++ items_beyond more (cost_after 0 cost machine memory) (flat_run 0 machine memory)) (sym (run_items-none cost machine memory))
 run_items-beyond (suc n) more cost machine memory budget =
     let step : FlatStep = flat_step machine memory in
     let front : List LineItem = items_after cost (step_lines machine memory) in
     let whole : (run_from (flat_run n) step (step.done.ended)).ending ≡ Budget =
-    ap (λ (run : FlatRun). run.ending) (sym (flat_run-more n machine memory)) ∙ budget in
+    ap (λ (run : FlatRun). run.ending) (sym (flat_run-suc n machine memory)) ∙ budget in
     ap (λ k. run_items k cost machine memory) (let e : suc n + more ≡ suc (n + more) = omega arith in e)
     ∙ run_items-suc (n + more) cost machine memory
     ∙ parts_from n more front step (step.done.ended) (run_items-beyond n more step.done.cost step.machine step.memory) whole
     ∙ ap (λ (run : FlatRun). (front ++ items_from (run_items n) step (step.done.ended)) ++ items_beyond more (cost_after n step.done.cost step.machine step.memory) run)
-    (sym (flat_run-more n machine memory))
+    (sym (flat_run-suc n machine memory))
     ∙ ap (λ k. (front ++ items_from (run_items n) step (step.done.ended)) ++ items_beyond more k (flat_run (suc n) machine memory))
     (sym (cost_after-suc n cost machine memory))
     ∙ ap (λ l. l ++ items_beyond more (cost_after (suc n) cost machine memory) (flat_run (suc n) machine memory)) (sym (run_items-suc n cost machine memory))
@@ -209,19 +201,23 @@ lines_of-inside core kind address (suc n) lines place =
     subst (λ l. All (InMemory core.size) (used kind l)) (sym (lines_of-some core address (suc n) (omega arith)))
     (lines_from-inside core.size kind (line_of core address) (line_of core (address + suc n - 1) + 1 - line_of core address) (omega arith))
 
-data_lines-inside : (core : CoreState) (effect : Effect) → core.size % 64 ≡ 0 → IsPlaced core effect
-    → All (InMemory core.size) (data_lines core effect)
-data_lines-inside core Passes lines h = All-nil (InMemory core.size)
-data_lines-inside core (Sets index value) lines h = All-nil (InMemory core.size)
-data_lines-inside core (Jumps index target) lines h = All-nil (InMemory core.size)
-data_lines-inside core (Loads op index address) lines h = lines_of-inside core Read address (load_width op) lines (h.1)
-data_lines-inside core (Stores op address value) lines h = lines_of-inside core Write address (store_width op) lines (h.1)
-data_lines-inside core (Answers value) lines h = All-nil (InMemory core.size)
-data_lines-inside core (Breaks value) lines h = All-nil (InMemory core.size)
-data_lines-inside core (Reads address count) lines h = lines_of-inside core Write address count lines h
-data_lines-inside core (Writes address count) lines h = lines_of-inside core Read address count lines h
-data_lines-inside core (Exits status) lines h = All-nil (InMemory core.size)
-data_lines-inside core (Traps kind) lines h = All-nil (InMemory core.size)
+data_lines-inside : (machine : Machine) (effect : Effect) → machine.core.size % 64 ≡ 0 → IsEffect machine effect
+    → All (InMemory machine.core.size) (data_lines machine.core effect)
+data_lines-inside machine Passes lines h = All-nil (InMemory machine.core.size)
+data_lines-inside machine (Sets index value) lines h = All-nil (InMemory machine.core.size)
+data_lines-inside machine (Jumps index target) lines h = All-nil (InMemory machine.core.size)
+data_lines-inside machine (Loads op index address) lines h =
+    lines_of-inside machine.core Read address (load_width op) lines (load-place machine op index address h)
+data_lines-inside machine (Stores op address value) lines h =
+    lines_of-inside machine.core Write address (store_width op) lines (store-place machine op address value h)
+data_lines-inside machine (Answers value) lines h = All-nil (InMemory machine.core.size)
+data_lines-inside machine (Breaks value) lines h = All-nil (InMemory machine.core.size)
+data_lines-inside machine (Reads address count) lines h =
+    lines_of-inside machine.core Write address count lines (is_buffer-place machine.core address count (h.0))
+data_lines-inside machine (Writes address count) lines h =
+    lines_of-inside machine.core Read address count lines (is_buffer-place machine.core address count (h.0))
+data_lines-inside machine (Exits status) lines h = All-nil (InMemory machine.core.size)
+data_lines-inside machine (Traps kind) lines h = All-nil (InMemory machine.core.size)
 
 size-lines : (base size : ℕ) → IsMemory base size → size % 64 ≡ 0
 size-lines base size memory = let pages : size % 4096 ≡ 0 = memory.size_pages in omega arith
@@ -243,7 +239,7 @@ step_lines-inside machine memory fits =
     let lines : core.size % 64 ≡ 0 = size-lines core.base core.size fits in
     let word : ℕ = from_le_bytes w32 (bytes_at machine memory core.pc 4) in
     step_lines-if core (word_lines machine word) (is_inside core core.pc 4) lines (is_inside-place core core.pc 4)
-    (data_lines-inside core (effect_of_word machine word) lines (effect_of_word-placed machine word))
+    (data_lines-inside machine (effect_of_word machine word) lines (effect_of_word-fine machine word))
 
 items_after-inside : (size cost : ℕ) (lines : List LineUse) → All (InMemory size) lines
     → All (λ (item : LineItem). item.use_of.line < size / 64) (items_after cost lines)
@@ -282,7 +278,7 @@ effected-size machine memory cost (Exits status) = refl
 effected-size machine memory cost (Traps kind) = refl
 
 -- what holds of both steps that a test chooses from
-step-if : (P : FlatStep → Type 0) (test : Bool) (first other : FlatStep) → P first → P other → P (if test then first else other)
+pub step-if : (P : FlatStep → Type 0) (test : Bool) (first other : FlatStep) → P first → P other → P (if test then first else other)
 step-if P true first other h g = h
 step-if P false first other h g = g
 

@@ -4,7 +4,10 @@ pub mod EffectPlans
 pub mod FlatRunLaws
 pub mod ItemLaws
 pub mod LineLaws
+pub mod OutputLaws
 pub mod PlanLaws
+pub mod LineRows
+pub mod RunLaws
 pub mod Served
 pub mod StepLines
 pub mod TransferLaws

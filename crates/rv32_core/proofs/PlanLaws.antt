@@ -70,7 +70,7 @@ Asks-loads_within base size (suc most) address (suc n) so_far fits above below =
     )
 
 -- how many bytes a store has
-length-stored_bytes : (op : StoreOp) (value : ℕ) → length (stored_bytes op value) ≡ store_width op
+pub length-stored_bytes : (op : StoreOp) (value : ℕ) → length (stored_bytes op value) ≡ store_width op
 length-stored_bytes Sb value = refl
 length-stored_bytes Sh value = refl
 length-stored_bytes Sw value = refl
@@ -208,7 +208,8 @@ module _ {S E : Type 0} (step : S → Access → Result (List ℕ) E → S → T
   Ends-fetch_keeps machine true is s t end h =
       let word : ℕ = from_le_bytes w32 (h.0) in
       Ends-effect_keeps machine (cost_of_word machine word) (effect_of_word machine word) (effect_of_word-fine machine word) is (h.1) t end (h.3)
-  Ends-fetch_keeps machine false is s t end h = Ends-effect_keeps machine 0 (Traps FetchFault) tt is s t end h
+  Ends-fetch_keeps machine false is s t end h =
+      subst (λ (e : Machine × Done). IsSameMemory machine.core ((e.0).core)) (sym h.0) (record { is = is; base = refl; size = refl })
 
   -- Whatever is answered, the core after a step is one of the same memory.
   pub Ends-step_keeps : (machine : Machine) → IsCore machine.core → (s t : S) (end : Machine × Done)

@@ -90,6 +90,10 @@ pub FlatAccess-answers : (E : Type 0) (old new : FlatState) (access : Access) (b
 FlatAccess-answers E old new (Load address count) bytes h = h.2
 FlatAccess-answers E old new (Store address stored) bytes h = h.1
 
+-- they are as many as are told
+pub FlatAccess-told : (state : FlatState) (memory : List ℕ) → Some state.bytes ≡ Some memory → length memory ≡ length state.bytes
+FlatAccess-told state memory e = let same : state.bytes ≡ memory = cc in ap length (sym same)
+
 -- what their list says of a load
 pub FlatAccess-load : (E : Type 0) (old new : FlatState) (address count : ℕ) (bytes : List ℕ)
     → FlatAccess {E = E} old (Load address count) (Ok bytes) new

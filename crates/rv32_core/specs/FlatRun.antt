@@ -37,6 +37,19 @@ flat_run zero machine memory = record { instructions = 0; machine = machine; mem
 flat_run (suc n) machine memory =
     let step = flat_step machine memory in run_from (flat_run n) step step.done.ended
 
+-- A run that may go on: where its instructions finished with Budget, so many more from there; one that ended stays as it is.
+abbrev pub gone_on_from : ℕ → FlatRun → FlatEnding → FlatRun
+gone_on_from more run Budget = finished_before run.instructions (flat_run more run.machine run.memory)
+gone_on_from more run (Exited status) = run
+gone_on_from more run (Trapped kind pc) = run
+
+abbrev pub gone_on : ℕ → FlatRun → FlatRun
+gone_on more run = gone_on_from more run run.ending
+
+-- The greatest length of a program's output, in bytes.
+abbrev pub output_limit : ℕ
+output_limit = 1048576
+
 -- The start: the core's, and of the input nothing was read, and nothing was written.
 abbrev pub machine_at_start : (entry base size heap : ℕ) (input : List ℕ) (limit : ℕ) → Machine
 machine_at_start entry base size heap input limit = record {

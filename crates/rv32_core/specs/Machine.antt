@@ -1,5 +1,5 @@
 -- The state of a machine without its memory, and what an instruction does.
-use Rattle.std.specs.Prelude.{◌≡◌, ℕ, ℤ, ◌+◌, ◌-◌, ◌%◌, ◌^◌, ◌<◌, ◌≤◌, nat_le, min, Bool, true, false, IsTrue, ◌&&◌, ◌||◌, ◌==◌, if◌then◌else◌, List, length, replicate, slice_index, slice_set, Option, Some, None}
+use Rattle.std.specs.Prelude.{◌≡◌, ◌≢◌, ℕ, ℤ, ◌+◌, ◌-◌, ◌%◌, ◌^◌, ◌<◌, ◌≤◌, nat_le, min, Bool, true, false, IsTrue, ◌&&◌, ◌||◌, ◌==◌, if◌then◌else◌, List, length, replicate, slice_index, slice_set, Option, Some, None}
 use Rattle.asc_base.specs.Memory.{IsMemory}
 use Rattle.rv32_table.specs.Meaning.{register_meaning, immediate_meaning, branch_meaning, target_of, jump_target, auipc_value, address_of, load_width, store_width}
 use Rattle.rv32_table.specs.Table.{decoded}
@@ -11,7 +11,7 @@ use Rattle.rv32_table.specs.declared.instruction.StoreOp.{StoreOp}
 use Rattle.cycle_table.specs.Costs.{cost_of}
 use Rattle.rv32_core.specs.declared.effect.Effect.{Effect}
 use Rattle.rv32_core.specs.declared.effect.Effect.TheVariants.{Passes, Sets, Jumps, Loads, Stores, Answers, Breaks, Reads, Writes, Exits, Traps}
-use Rattle.rv32_core.specs.declared.outcome.TrapKind.TheVariants.{Illegal, FetchMisaligned, LoadMisaligned, StoreMisaligned, LoadFault, StoreFault, Breakpoint, OutputLimit}
+use Rattle.rv32_core.specs.declared.outcome.TrapKind.TheVariants.{FetchFault, Illegal, FetchMisaligned, LoadMisaligned, StoreMisaligned, LoadFault, StoreFault, Breakpoint, OutputLimit}
 
 -- The program counter, the 32 registers, where the memory begins and how long it is, the first break and the break.
 pub record CoreState : Type 0 where
@@ -221,7 +221,7 @@ abbrev pub cost_of_word : Machine → ℕ → ℕ
 cost_of_word machine word = cost_of_decoded (decoded word) (effect_of_word machine word)
 
 -- An effect names a register that there is, a target that is aligned, bytes that lie in the memory, and bytes that there are
--- or room that there is.
+-- or room that there is; and none is a fault of its fetch.
 abbrev pub IsEffect : Machine → Effect → Type 0
 IsEffect machine Passes = Unit {0}
 IsEffect machine (Sets index value) = index < 32
@@ -237,4 +237,4 @@ IsEffect machine (Reads address count) =
 IsEffect machine (Writes address count) =
     IsTrue (is_buffer machine.core address count) × (length machine.files.output + count ≤ machine.files.limit)
 IsEffect machine (Exits status) = Unit {0}
-IsEffect machine (Traps kind) = Unit {0}
+IsEffect machine (Traps kind) = kind ≢ FetchFault

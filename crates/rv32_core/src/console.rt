@@ -12,6 +12,9 @@ use asc_base::NoMemory;
 use std::alloc::Global;
 use std::marker::Model;
 
+/// The greatest length of a program's output, in bytes: `output_limit` of `specs/FlatRun.antt`.
+pub const OUTPUT_LIMIT: usize = 1_048_576;
+
 /// A program's input, how far it was read, and its output, which has a greatest length.
 #[derive(Debug, Drop)]
 pub struct Files {

@@ -49,6 +49,7 @@ impl Bytes for FlatBytes {
       FlatAccess-base,
       FlatAccess-size,
       FlatAccess-answers,
+      FlatAccess-told,
       FlatAccess-load,
       FlatAccess-store,
     };
@@ -81,6 +82,8 @@ impl Bytes for FlatBytes {
     ghost keeps_size = { λ old new access answer h. FlatAccess-size old new access answer h };
 
     ghost answers = { λ old new access bytes h. FlatAccess-answers Never old new access bytes h };
+
+    ghost told_size = { λ bytes memory told. FlatAccess-told bytes memory told };
 
     ghost tells_load = { λ old new address count bytes h. FlatAccess-load Never old new address count bytes h };
 

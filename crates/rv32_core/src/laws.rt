@@ -1,16 +1,18 @@
 //! Laws of the line list: which lines a step asks for, in which order, and how a run's items are those of its steps. The calls
 //! do nothing.
 
-ghost use Rattle.std.specs.Prelude.{◌≡◌, ◌≢◌, ℕ, suc, ◌+◌, ◌/◌, ◌<◌, true, false, List, [], ◌∷◌, ◌++◌, map, All, AllPairs};
+ghost use Rattle.std.specs.Prelude.{◌≡◌, ◌≢◌, ℕ, suc, ◌+◌, ◌/◌, ◌<◌, ◌≤◌, length, true, false, List, [], ◌∷◌, ◌++◌, map, All, AllPairs};
 ghost use Rattle.std.specs.Int.{from_le_bytes, w32};
 ghost use Rattle.asc_base.specs.Memory.{IsMemory};
-ghost use Rattle.request_plan.specs.Plan.{Plan, Done as Outcome, Ask, bind};
-ghost use Rattle.rv32_core.specs.Access.{Access, Load, access_bytes};
-ghost use Rattle.rv32_core.specs.Machine.{CoreState, Machine, is_inside};
+ghost use Rattle.request_plan.specs.Plan.{Plan, Done as Outcome, Ask, bind, Asks, Outcomes};
+ghost use Rattle.request_plan.specs.Play.{served};
+ghost use Rattle.rv32_core.specs.Access.{Access, Load, IsAccess, access_bytes};
+ghost use Rattle.rv32_core.specs.Machine.{CoreState, Machine, IsCore, is_inside};
 ghost use Rattle.rv32_core.specs.FlatMachine.{trap_at, bytes_at, flat_step};
-ghost use Rattle.rv32_core.specs.FlatRun.{Budget, flat_run};
+ghost use Rattle.rv32_core.specs.FlatRun.{Budget, Exited, finished_before, flat_run, gone_on, machine_at_start, output_limit};
+ghost use Rattle.rv32_core.specs.RunPlan.{end_of, after_instruction, run_plan};
 ghost use Rattle.rv32_core.specs.StepPlan.{word_plan, step_plan};
-ghost use Rattle.rv32_core.specs.LineList.{WholeWrite, LineUse, LineItem, used, word_lines, fetch_line, step_lines, items_after};
+ghost use Rattle.rv32_core.specs.LineList.{Read, WholeWrite, LineUse, LineItem, used, word_lines, fetch_line, step_lines, items_after};
 ghost use Rattle.rv32_core.specs.LineList.{run_items, image_items, image_cost, line_list, line_used, AsksLines, asked_lines, cost_after};
 ghost use Rattle.rv32_core.specs.declared.outcome.Done.{Done};
 ghost use Rattle.rv32_core.specs.declared.outcome.TrapKind.{TrapKind};
@@ -95,4 +97,79 @@ pub fn image_lines_first()
     ensures next { (cost line : ℕ) (marked : List ℕ)
         → image_items cost (line ∷ marked)
         ≡ items_after cost (used WholeWrite (line ∷ [])) ++ image_items 1 marked }
+{}
+
+/// A run of n instructions and then of k more is that of n + k: where all n finished it goes on from there, and one that ended
+/// stays as it is. With `Budget` exactly n finished, and never more.
+pub fn runs_go_on()
+    ensures parts { (n more : ℕ) (machine : Machine) (memory : List ℕ)
+        → flat_run (n + more) machine memory ≡ gone_on more (flat_run n machine memory) }
+    ensures budget { (n : ℕ) (machine : Machine) (memory : List ℕ)
+        → (flat_run n machine memory).ending ≡ Budget → (flat_run n machine memory).instructions ≡ n }
+    ensures at_most { (n : ℕ) (machine : Machine) (memory : List ℕ) → (flat_run n machine memory).instructions ≤ n }
+{}
+
+/// A run appends to the output, and a longer run's output begins with it.
+pub fn outputs_begin_alike()
+    ensures run { (n : ℕ) (machine : Machine) (memory : List ℕ)
+        → (written : List ℕ)
+        × ((flat_run n machine memory).machine.files.output ≡ machine.files.output ++ written) }
+    ensures longer { (n more : ℕ) (machine : Machine) (memory : List ℕ)
+        → (written : List ℕ)
+        × ((flat_run (n + more) machine memory).machine.files.output
+        ≡ (flat_run n machine memory).machine.files.output ++ written) }
+{}
+
+/// A step and a run leave the memory where it is, and as many bytes as there were.
+pub fn bytes_stay()
+    ensures base { (machine : Machine) (memory : List ℕ)
+        → (flat_step machine memory).machine.core.base ≡ machine.core.base }
+    ensures size { (machine : Machine) (memory : List ℕ)
+        → (flat_step machine memory).machine.core.size ≡ machine.core.size }
+    ensures step { (machine : Machine) (memory : List ℕ) → length memory ≡ machine.core.size
+        → length (flat_step machine memory).memory ≡ length memory }
+    ensures run { (n : ℕ) (machine : Machine) (memory : List ℕ) → length memory ≡ machine.core.size
+        → length (flat_run n machine memory).memory ≡ length memory }
+{}
+
+/// A run as one plan, which is that of its instructions, one after another. Served by a list of bytes it is the flat run, it
+/// asks for the lines of the line list, in order, and whatever is answered it asks for bytes inside the memory and inside one
+/// line alone.
+pub fn run_is_one_plan()
+    ensures none { (before : ℕ) (machine : Machine)
+        → run_plan 0 before machine
+        ≡ Outcome (record { instructions = before; machine = machine; ending = Budget }) }
+    ensures next { (n before : ℕ) (machine : Machine)
+        → run_plan (suc n) before machine
+        ≡ bind (λ (left : Machine). (before, left)) (step_plan machine)
+        (λ (end : Machine × Done). after_instruction before (run_plan n (before + 1)) (end.0) ((end.1).ended)) }
+    ensures flat { (n before : ℕ) (machine : Machine) (memory : List ℕ)
+        → served (access_bytes machine.core.base) (run_plan n before machine) memory
+        ≡ (end_of (finished_before before (flat_run n machine memory)), (flat_run n machine memory).memory) }
+    ensures lines { (n before cost : ℕ) (machine : Machine) (memory : List ℕ) → IsMemory machine.core.base machine.core.size
+        → asked_lines machine.core (access_bytes machine.core.base) (run_plan n before machine) memory
+        ≡ map (λ (item : LineItem). item.use_of) (run_items n cost machine memory) }
+    ensures inside { (n before : ℕ) (machine : Machine) → IsCore machine.core
+        → Asks (IsAccess machine.core.base machine.core.size) (run_plan n before machine) }
+    ensures outcomes { (machine : Machine) → IsCore machine.core
+        → Outcomes (λ (end : Machine × Done). IsCore ((end.0).core)
+        × ((end.0).core.base ≡ machine.core.base) × ((end.0).core.size ≡ machine.core.size)) (step_plan machine) }
+{}
+
+/// The line lists of two programs: `addi x17, x0, 93; ecall` with two image lines, which exits with 0, and
+/// `lw x5, 64(x0)` before a word that is none.
+pub fn worked_line_lists()
+    ensures exits { line_list (0 ∷ 3 ∷ []) 5 (machine_at_start 0 0 4096 0 [] output_limit)
+        (0x93 ∷ 0x08 ∷ 0xd0 ∷ 0x05 ∷ 0x73 ∷ 0 ∷ 0 ∷ 0 ∷ [])
+        ≡ record { cost = 0; use_of = record { line = 0; kind = WholeWrite } }
+        ∷ record { cost = 1; use_of = record { line = 3; kind = WholeWrite } }
+        ∷ record { cost = 1; use_of = record { line = 0; kind = Read } }
+        ∷ record { cost = 1; use_of = record { line = 0; kind = Read } } ∷ [] }
+    ensures traps { line_list [] 5 (machine_at_start 4 0 4096 0 [] output_limit)
+        (0x23 ∷ 0x20 ∷ 0x20 ∷ 0 ∷ 0x83 ∷ 0x22 ∷ 0 ∷ 4 ∷ 0 ∷ 0 ∷ 0 ∷ 0 ∷ [])
+        ≡ record { cost = 0; use_of = record { line = 0; kind = Read } }
+        ∷ record { cost = 0; use_of = record { line = 1; kind = Read } }
+        ∷ record { cost = 2; use_of = record { line = 0; kind = Read } } ∷ [] }
+    ensures run { (flat_run 5 (machine_at_start 0 0 4096 0 [] output_limit)
+        (0x93 ∷ 0x08 ∷ 0xd0 ∷ 0x05 ∷ 0x73 ∷ 0 ∷ 0 ∷ 0 ∷ [])).ending ≡ Exited 0 }
 {}

@@ -1,6 +1,6 @@
 //! The bytes that a core works on.
 
-ghost use Rattle.std.specs.Prelude.{◌≡◌, ℕ, List, [], length, Result, Ok, Err, Option, MatchResult};
+ghost use Rattle.std.specs.Prelude.{◌≡◌, ℕ, List, [], length, Result, Ok, Err, Option, Some, MatchResult};
 ghost use Rattle.rv32_core.specs.Access.{Access, Load, Store, IsInLine, IsAnswer, TellsLoad, TellsStore};
 
 /// The bytes of a memory from an address on, which answers every load and store or is stopped.
@@ -45,6 +45,10 @@ pub trait Bytes {
     /// A load answers as many bytes as were asked for, and a store none.
     ghost answers: { (old new : Self) (access : Access) (bytes : List ℕ)
         → step old access (Ok bytes) new → IsAnswer access bytes };
+
+    /// Where the bytes are told, they are as many as there are.
+    ghost told_size: { (value : Self) (memory : List ℕ)
+        → told value ≡ Some memory → length memory ≡ size value };
 
     ghost tells_load: { (old new : Self) (address count : ℕ) (bytes : List ℕ)
         → step old (Load address count) (Ok bytes) new

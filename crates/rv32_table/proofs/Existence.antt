@@ -5,6 +5,7 @@ use Rattle.std.proofs.lemmas.Bool.{eqb-true}
 use Rattle.rv32_table.specs.Fields.{opcode_of, funct3_of, funct7_of}
 use Rattle.rv32_table.specs.ByFields.{by_opcode, branch_at, load_at, store_at, immediate_at, shift_at, plain_shift_at, sign_shift_at, register_at, plain_at, other_at, multiply_at, jump_by_fields, op_imm_by_fields, fence_by_fields, system_by_fields}
 use Rattle.rv32_table.specs.Table.{Form, FormR, FormI, FormShift, FormS, FormB, FormU, FormJ, FormFence, FormWhole, row, table}
+use Rattle.rv32_table.specs.Meaning.{Meaning}
 use Rattle.rv32_table.proofs.ListLaws.{HasRow, if-case}
 use Rattle.rv32_table.proofs.FieldLaws.{under_opcode, under_funct3, under_funct7, under_whole}
 use Rattle.rv32_table.specs.declared.instruction.BranchOp.{BranchOp}
@@ -26,33 +27,34 @@ option_map-some f None y e = absurd (cc)
 option_map-some f (Some x) y e = (x, refl)
 
 -- a row that stands in the table at a place
-by_mask_7 : (w place opcode : ℕ) (form : Form) → slice_get table place ≡ Some (row 0x7f opcode form)
+by_mask_7 : (w place opcode : ℕ) (form : Form) {meaning : Meaning}
+    → slice_get table place ≡ Some (row 0x7f opcode form meaning)
     → (opcode_of w == opcode) ≡ true → HasRow w table
-by_mask_7 w place opcode form stands o = record {
+by_mask_7 w place opcode form {meaning} stands o = record {
   place = place;
-  row = row 0x7f opcode form;
+  row = row 0x7f opcode form meaning;
   stands = stands;
   matches = under_opcode w opcode (eqb-true (opcode_of w) opcode o);
 }
 
-by_mask_3 : (w place opcode funct3 : ℕ) (form : Form)
-    → slice_get table place ≡ Some (row 0x707f (funct3 * 2 ^ 12 + opcode) form)
+by_mask_3 : (w place opcode funct3 : ℕ) (form : Form) {meaning : Meaning}
+    → slice_get table place ≡ Some (row 0x707f (funct3 * 2 ^ 12 + opcode) form meaning)
     → (opcode_of w == opcode) ≡ true → (funct3_of w == funct3) ≡ true → HasRow w table
-by_mask_3 w place opcode funct3 form stands o f = record {
+by_mask_3 w place opcode funct3 form {meaning} stands o f = record {
   place = place;
-  row = row 0x707f (funct3 * 2 ^ 12 + opcode) form;
+  row = row 0x707f (funct3 * 2 ^ 12 + opcode) form meaning;
   stands = stands;
   matches = under_funct3 w opcode funct3
       (record { opcode_is = eqb-true (opcode_of w) opcode o; funct3_is = eqb-true (funct3_of w) funct3 f });
 }
 
-by_mask_37 : (w place opcode funct3 funct7 : ℕ) (form : Form) → w < 2 ^ 32
-    → slice_get table place ≡ Some (row 0xfe00_707f (funct7 * 2 ^ 25 + (funct3 * 2 ^ 12 + opcode)) form)
+by_mask_37 : (w place opcode funct3 funct7 : ℕ) (form : Form) {meaning : Meaning} → w < 2 ^ 32
+    → slice_get table place ≡ Some (row 0xfe00_707f (funct7 * 2 ^ 25 + (funct3 * 2 ^ 12 + opcode)) form meaning)
     → (opcode_of w == opcode) ≡ true → (funct3_of w == funct3) ≡ true → (funct7_of w == funct7) ≡ true
     → HasRow w table
-by_mask_37 w place opcode funct3 funct7 form fits stands o f g = record {
+by_mask_37 w place opcode funct3 funct7 form {meaning} fits stands o f g = record {
   place = place;
-  row = row 0xfe00_707f (funct7 * 2 ^ 25 + (funct3 * 2 ^ 12 + opcode)) form;
+  row = row 0xfe00_707f (funct7 * 2 ^ 25 + (funct3 * 2 ^ 12 + opcode)) form meaning;
   stands = stands;
   matches = under_funct7 w opcode funct3 funct7 fits
       (record {
@@ -62,11 +64,11 @@ by_mask_37 w place opcode funct3 funct7 form fits stands o f g = record {
       });
 }
 
-by_whole : (w place value : ℕ) (form : Form) → w < 2 ^ 32
-    → slice_get table place ≡ Some (row 0xffff_ffff value form) → (w == value) ≡ true → HasRow w table
-by_whole w place value form fits stands e = record {
+by_whole : (w place value : ℕ) (form : Form) {meaning : Meaning} → w < 2 ^ 32
+    → slice_get table place ≡ Some (row 0xffff_ffff value form meaning) → (w == value) ≡ true → HasRow w table
+by_whole w place value form {meaning} fits stands e = record {
   place = place;
-  row = row 0xffff_ffff value form;
+  row = row 0xffff_ffff value form meaning;
   stands = stands;
   matches = under_whole w value fits (eqb-true w value e);
 }

@@ -13,6 +13,11 @@ abbrev pub EachRow : (Row → Type 0) → List Row → Type 0
 EachRow P [] = Unit {0}
 EachRow P (x ∷ xs) = P x × EachRow P xs
 
+-- a pair, which needs no parentheses in a chain
+pub ◌▹◌ : {A B : Type 0} → A → B → A × B
+first ▹ second = (first, second)
+
+infixr 5 ◌▹◌
 -- a row of a list that a word matches
 pub record HasRow (word : ℕ) (rows : List Row) : Type 0 where
   pub place : ℕ

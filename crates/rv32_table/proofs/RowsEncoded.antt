@@ -5,7 +5,7 @@ use Rattle.rv32_table.specs.Fields.{opcode_of, rd_of, funct3_of, rs1_of, rs2_of,
 use Rattle.rv32_table.specs.Fits.{Fits}
 use Rattle.rv32_table.specs.Encoded.{encoded, part, word_of, word_i, word_s, word_b, word_u, word_j}
 use Rattle.rv32_table.specs.Table.{table, Matches, instruction_of}
-use Rattle.rv32_table.proofs.ListLaws.{EachRow}
+use Rattle.rv32_table.proofs.ListLaws.{◌▹◌, EachRow}
 use Rattle.rv32_table.proofs.FieldLaws.{AtFunct3, AtFunct7, at_opcode, at_funct3, at_funct7, at_whole}
 use Rattle.rv32_table.proofs.FormLaws.{back_i, back_shift, back_s, back_b, back_j, back_u, back_rest, IsSigned-immediate_i, IsAmount-rs2, IsSigned-immediate_s, IsOffset-immediate_b, IsOffset-immediate_j, IsUpper-immediate_u, IsRest-rest_of}
 use Rattle.rv32_table.proofs.WordLaws.{fields-word_of}
@@ -64,151 +64,54 @@ rs2_fits w = omega arith
 pub rows-encoded : (w : ℕ) → w < 2 ^ 32
     → EachRow (λ r. Matches w r → Fits (instruction_of r.form w) × (encoded (instruction_of r.form w) ≡ w)) table
 unfolding table
-rows-encoded w fits = (
-  (λ e. ((rd_fits w, IsUpper-immediate_u w), whole_u w 55 fits (at_opcode w 55 e))),
-  (
-    (λ e. ((rd_fits w, IsUpper-immediate_u w), whole_u w 23 fits (at_opcode w 23 e))),
-    (
-      (λ e. ((rd_fits w, IsOffset-immediate_j w), whole_j w 111 fits (at_opcode w 111 e))),
-      (
-        (λ e. ((rd_fits w, rs1_fits w, IsSigned-immediate_i w), whole_i w 103 0 fits (at_funct3 w 103 0 (lit< tt) e))),
-        (
-          (λ e. ((rs1_fits w, rs2_fits w, IsOffset-immediate_b w), whole_b w 99 0 fits (at_funct3 w 99 0 (lit< tt) e))),
-          (
-            (λ e. ((rs1_fits w, rs2_fits w, IsOffset-immediate_b w), whole_b w 99 1 fits (at_funct3 w 99 1 (lit< tt) e))),
-            (
-              (λ e. ((rs1_fits w, rs2_fits w, IsOffset-immediate_b w), whole_b w 99 4 fits (at_funct3 w 99 4 (lit< tt) e))),
-              (
-                (λ e. ((rs1_fits w, rs2_fits w, IsOffset-immediate_b w), whole_b w 99 5 fits (at_funct3 w 99 5 (lit< tt) e))),
-                (
-                  (λ e. ((rs1_fits w, rs2_fits w, IsOffset-immediate_b w), whole_b w 99 6 fits (at_funct3 w 99 6 (lit< tt) e))),
-                  (
-                    (λ e. ((rs1_fits w, rs2_fits w, IsOffset-immediate_b w), whole_b w 99 7 fits (at_funct3 w 99 7 (lit< tt) e))),
-                    (
-                      (λ e. ((rd_fits w, rs1_fits w, IsSigned-immediate_i w), whole_i w 3 0 fits (at_funct3 w 3 0 (lit< tt) e))),
-                      (
-                        (λ e. ((rd_fits w, rs1_fits w, IsSigned-immediate_i w), whole_i w 3 1 fits (at_funct3 w 3 1 (lit< tt) e))),
-                        (
-                          (λ e. ((rd_fits w, rs1_fits w, IsSigned-immediate_i w), whole_i w 3 2 fits (at_funct3 w 3 2 (lit< tt) e))),
-                          (
-                            (λ e. ((rd_fits w, rs1_fits w, IsSigned-immediate_i w), whole_i w 3 4 fits (at_funct3 w 3 4 (lit< tt) e))),
-                            (
-                              (λ e. ((rd_fits w, rs1_fits w, IsSigned-immediate_i w), whole_i w 3 5 fits (at_funct3 w 3 5 (lit< tt) e))),
-                              (
-                                (λ e. ((rs1_fits w, rs2_fits w, IsSigned-immediate_s w), whole_s w 35 0 fits (at_funct3 w 35 0 (lit< tt) e))),
-                                (
-                                  (λ e. ((rs1_fits w, rs2_fits w, IsSigned-immediate_s w), whole_s w 35 1 fits (at_funct3 w 35 1 (lit< tt) e))),
-                                  (
-                                    (λ e. ((rs1_fits w, rs2_fits w, IsSigned-immediate_s w), whole_s w 35 2 fits (at_funct3 w 35 2 (lit< tt) e))),
-                                    (
-                                      (λ e. ((rd_fits w, rs1_fits w, IsSigned-immediate_i w), whole_i w 19 0 fits (at_funct3 w 19 0 (lit< tt) e))),
-                                      (
-                                        (λ e. ((rd_fits w, rs1_fits w, IsSigned-immediate_i w), whole_i w 19 2 fits (at_funct3 w 19 2 (lit< tt) e))),
-                                        (
-                                          (λ e. ((rd_fits w, rs1_fits w, IsSigned-immediate_i w), whole_i w 19 3 fits (at_funct3 w 19 3 (lit< tt) e))),
-                                          (
-                                            (λ e. ((rd_fits w, rs1_fits w, IsSigned-immediate_i w), whole_i w 19 4 fits (at_funct3 w 19 4 (lit< tt) e))),
-                                            (
-                                              (λ e. ((rd_fits w, rs1_fits w, IsSigned-immediate_i w), whole_i w 19 6 fits (at_funct3 w 19 6 (lit< tt) e))),
-                                              (
-                                                (λ e. ((rd_fits w, rs1_fits w, IsSigned-immediate_i w), whole_i w 19 7 fits (at_funct3 w 19 7 (lit< tt) e))),
-                                                (
-                                                  (λ e. ((rd_fits w, rs1_fits w, IsAmount-rs2 w), whole_shift w 19 1 0 fits (at_funct7 w 19 1 0 fits (lit< tt) (lit< tt) e))),
-                                                  (
-                                                    (λ e. ((rd_fits w, rs1_fits w, IsAmount-rs2 w), whole_shift w 19 5 0 fits (at_funct7 w 19 5 0 fits (lit< tt) (lit< tt) e))),
-                                                    (
-                                                      (λ e. ((rd_fits w, rs1_fits w, IsAmount-rs2 w), whole_shift w 19 5 32 fits (at_funct7 w 19 5 32 fits (lit< tt) (lit< tt) e))),
-                                                      (
-                                                        (λ e. ((rd_fits w, rs1_fits w, rs2_fits w), whole_r w 51 0 0 fits (at_funct7 w 51 0 0 fits (lit< tt) (lit< tt) e))),
-                                                        (
-                                                          (λ e. ((rd_fits w, rs1_fits w, rs2_fits w), whole_r w 51 0 32 fits (at_funct7 w 51 0 32 fits (lit< tt) (lit< tt) e))),
-                                                          (
-                                                            (λ e. ((rd_fits w, rs1_fits w, rs2_fits w), whole_r w 51 1 0 fits (at_funct7 w 51 1 0 fits (lit< tt) (lit< tt) e))),
-                                                            (
-                                                              (λ e. ((rd_fits w, rs1_fits w, rs2_fits w), whole_r w 51 2 0 fits (at_funct7 w 51 2 0 fits (lit< tt) (lit< tt) e))),
-                                                              (
-                                                                (λ e. ((rd_fits w, rs1_fits w, rs2_fits w), whole_r w 51 3 0 fits (at_funct7 w 51 3 0 fits (lit< tt) (lit< tt) e))),
-                                                                (
-                                                                  (λ e. ((rd_fits w, rs1_fits w, rs2_fits w), whole_r w 51 4 0 fits (at_funct7 w 51 4 0 fits (lit< tt) (lit< tt) e))),
-                                                                  (
-                                                                    (λ e. ((rd_fits w, rs1_fits w, rs2_fits w), whole_r w 51 5 0 fits (at_funct7 w 51 5 0 fits (lit< tt) (lit< tt) e))),
-                                                                    (
-                                                                      (λ e. ((rd_fits w, rs1_fits w, rs2_fits w), whole_r w 51 5 32 fits (at_funct7 w 51 5 32 fits (lit< tt) (lit< tt) e))),
-                                                                      (
-                                                                        (λ e. ((rd_fits w, rs1_fits w, rs2_fits w), whole_r w 51 6 0 fits (at_funct7 w 51 6 0 fits (lit< tt) (lit< tt) e))),
-                                                                        (
-                                                                          (λ e. ((rd_fits w, rs1_fits w, rs2_fits w), whole_r w 51 7 0 fits (at_funct7 w 51 7 0 fits (lit< tt) (lit< tt) e))),
-                                                                          (
-                                                                            (λ e. (IsRest-rest_of w, whole_fence w 15 0 fits (at_funct3 w 15 0 (lit< tt) e))),
-                                                                            (
-                                                                              (λ e. (tt, sym (at_whole w 0x0000_0073 fits e))),
-                                                                              (
-                                                                                (λ e. (tt, sym (at_whole w 0x0010_0073 fits e))),
-                                                                                (
-                                                                                  (λ e. (IsRest-rest_of w, whole_fence w 15 1 fits (at_funct3 w 15 1 (lit< tt) e))),
-                                                                                  (
-                                                                                    (λ e. ((rd_fits w, rs1_fits w, rs2_fits w), whole_r w 51 0 1 fits (at_funct7 w 51 0 1 fits (lit< tt) (lit< tt) e))),
-                                                                                    (
-                                                                                      (λ e. ((rd_fits w, rs1_fits w, rs2_fits w), whole_r w 51 1 1 fits (at_funct7 w 51 1 1 fits (lit< tt) (lit< tt) e))),
-                                                                                      (
-                                                                                        (λ e. ((rd_fits w, rs1_fits w, rs2_fits w), whole_r w 51 2 1 fits (at_funct7 w 51 2 1 fits (lit< tt) (lit< tt) e))),
-                                                                                        (
-                                                                                          (λ e. ((rd_fits w, rs1_fits w, rs2_fits w), whole_r w 51 3 1 fits (at_funct7 w 51 3 1 fits (lit< tt) (lit< tt) e))),
-                                                                                          (
-                                                                                            (λ e. ((rd_fits w, rs1_fits w, rs2_fits w), whole_r w 51 4 1 fits (at_funct7 w 51 4 1 fits (lit< tt) (lit< tt) e))),
-                                                                                            (
-                                                                                              (λ e. ((rd_fits w, rs1_fits w, rs2_fits w), whole_r w 51 5 1 fits (at_funct7 w 51 5 1 fits (lit< tt) (lit< tt) e))),
-                                                                                              (
-                                                                                                (λ e. ((rd_fits w, rs1_fits w, rs2_fits w), whole_r w 51 6 1 fits (at_funct7 w 51 6 1 fits (lit< tt) (lit< tt) e))),
-                                                                                                (
-                                                                                                  (λ e. ((rd_fits w, rs1_fits w, rs2_fits w), whole_r w 51 7 1 fits (at_funct7 w 51 7 1 fits (lit< tt) (lit< tt) e))),
-                                                                                                  tt,
-                                                                                                ),
-                                                                                              ),
-                                                                                            ),
-                                                                                          ),
-                                                                                        ),
-                                                                                      ),
-                                                                                    ),
-                                                                                  ),
-                                                                                ),
-                                                                              ),
-                                                                            ),
-                                                                          ),
-                                                                        ),
-                                                                      ),
-                                                                    ),
-                                                                  ),
-                                                                ),
-                                                              ),
-                                                            ),
-                                                          ),
-                                                        ),
-                                                      ),
-                                                    ),
-                                                  ),
-                                                ),
-                                              ),
-                                            ),
-                                          ),
-                                        ),
-                                      ),
-                                    ),
-                                  ),
-                                ),
-                              ),
-                            ),
-                          ),
-                        ),
-                      ),
-                    ),
-                  ),
-                ),
-              ),
-            ),
-          ),
-        ),
-      ),
-    ),
-  ),
-)
+rows-encoded w fits =
+    (λ e. ((rd_fits w, IsUpper-immediate_u w), whole_u w 55 fits (at_opcode w 55 e)))
+    ▹ (λ e. ((rd_fits w, IsUpper-immediate_u w), whole_u w 23 fits (at_opcode w 23 e)))
+    ▹ (λ e. ((rd_fits w, IsOffset-immediate_j w), whole_j w 111 fits (at_opcode w 111 e)))
+    ▹ (λ e. ((rd_fits w, rs1_fits w, IsSigned-immediate_i w), whole_i w 103 0 fits (at_funct3 w 103 0 (lit< tt) e)))
+    ▹ (λ e. ((rs1_fits w, rs2_fits w, IsOffset-immediate_b w), whole_b w 99 0 fits (at_funct3 w 99 0 (lit< tt) e)))
+    ▹ (λ e. ((rs1_fits w, rs2_fits w, IsOffset-immediate_b w), whole_b w 99 1 fits (at_funct3 w 99 1 (lit< tt) e)))
+    ▹ (λ e. ((rs1_fits w, rs2_fits w, IsOffset-immediate_b w), whole_b w 99 4 fits (at_funct3 w 99 4 (lit< tt) e)))
+    ▹ (λ e. ((rs1_fits w, rs2_fits w, IsOffset-immediate_b w), whole_b w 99 5 fits (at_funct3 w 99 5 (lit< tt) e)))
+    ▹ (λ e. ((rs1_fits w, rs2_fits w, IsOffset-immediate_b w), whole_b w 99 6 fits (at_funct3 w 99 6 (lit< tt) e)))
+    ▹ (λ e. ((rs1_fits w, rs2_fits w, IsOffset-immediate_b w), whole_b w 99 7 fits (at_funct3 w 99 7 (lit< tt) e)))
+    ▹ (λ e. ((rd_fits w, rs1_fits w, IsSigned-immediate_i w), whole_i w 3 0 fits (at_funct3 w 3 0 (lit< tt) e)))
+    ▹ (λ e. ((rd_fits w, rs1_fits w, IsSigned-immediate_i w), whole_i w 3 1 fits (at_funct3 w 3 1 (lit< tt) e)))
+    ▹ (λ e. ((rd_fits w, rs1_fits w, IsSigned-immediate_i w), whole_i w 3 2 fits (at_funct3 w 3 2 (lit< tt) e)))
+    ▹ (λ e. ((rd_fits w, rs1_fits w, IsSigned-immediate_i w), whole_i w 3 4 fits (at_funct3 w 3 4 (lit< tt) e)))
+    ▹ (λ e. ((rd_fits w, rs1_fits w, IsSigned-immediate_i w), whole_i w 3 5 fits (at_funct3 w 3 5 (lit< tt) e)))
+    ▹ (λ e. ((rs1_fits w, rs2_fits w, IsSigned-immediate_s w), whole_s w 35 0 fits (at_funct3 w 35 0 (lit< tt) e)))
+    ▹ (λ e. ((rs1_fits w, rs2_fits w, IsSigned-immediate_s w), whole_s w 35 1 fits (at_funct3 w 35 1 (lit< tt) e)))
+    ▹ (λ e. ((rs1_fits w, rs2_fits w, IsSigned-immediate_s w), whole_s w 35 2 fits (at_funct3 w 35 2 (lit< tt) e)))
+    ▹ (λ e. ((rd_fits w, rs1_fits w, IsSigned-immediate_i w), whole_i w 19 0 fits (at_funct3 w 19 0 (lit< tt) e)))
+    ▹ (λ e. ((rd_fits w, rs1_fits w, IsSigned-immediate_i w), whole_i w 19 2 fits (at_funct3 w 19 2 (lit< tt) e)))
+    ▹ (λ e. ((rd_fits w, rs1_fits w, IsSigned-immediate_i w), whole_i w 19 3 fits (at_funct3 w 19 3 (lit< tt) e)))
+    ▹ (λ e. ((rd_fits w, rs1_fits w, IsSigned-immediate_i w), whole_i w 19 4 fits (at_funct3 w 19 4 (lit< tt) e)))
+    ▹ (λ e. ((rd_fits w, rs1_fits w, IsSigned-immediate_i w), whole_i w 19 6 fits (at_funct3 w 19 6 (lit< tt) e)))
+    ▹ (λ e. ((rd_fits w, rs1_fits w, IsSigned-immediate_i w), whole_i w 19 7 fits (at_funct3 w 19 7 (lit< tt) e)))
+    ▹ (λ e. ((rd_fits w, rs1_fits w, IsAmount-rs2 w), whole_shift w 19 1 0 fits (at_funct7 w 19 1 0 fits (lit< tt) (lit< tt) e)))
+    ▹ (λ e. ((rd_fits w, rs1_fits w, IsAmount-rs2 w), whole_shift w 19 5 0 fits (at_funct7 w 19 5 0 fits (lit< tt) (lit< tt) e)))
+    ▹ (λ e. ((rd_fits w, rs1_fits w, IsAmount-rs2 w), whole_shift w 19 5 32 fits (at_funct7 w 19 5 32 fits (lit< tt) (lit< tt) e)))
+    ▹ (λ e. ((rd_fits w, rs1_fits w, rs2_fits w), whole_r w 51 0 0 fits (at_funct7 w 51 0 0 fits (lit< tt) (lit< tt) e)))
+    ▹ (λ e. ((rd_fits w, rs1_fits w, rs2_fits w), whole_r w 51 0 32 fits (at_funct7 w 51 0 32 fits (lit< tt) (lit< tt) e)))
+    ▹ (λ e. ((rd_fits w, rs1_fits w, rs2_fits w), whole_r w 51 1 0 fits (at_funct7 w 51 1 0 fits (lit< tt) (lit< tt) e)))
+    ▹ (λ e. ((rd_fits w, rs1_fits w, rs2_fits w), whole_r w 51 2 0 fits (at_funct7 w 51 2 0 fits (lit< tt) (lit< tt) e)))
+    ▹ (λ e. ((rd_fits w, rs1_fits w, rs2_fits w), whole_r w 51 3 0 fits (at_funct7 w 51 3 0 fits (lit< tt) (lit< tt) e)))
+    ▹ (λ e. ((rd_fits w, rs1_fits w, rs2_fits w), whole_r w 51 4 0 fits (at_funct7 w 51 4 0 fits (lit< tt) (lit< tt) e)))
+    ▹ (λ e. ((rd_fits w, rs1_fits w, rs2_fits w), whole_r w 51 5 0 fits (at_funct7 w 51 5 0 fits (lit< tt) (lit< tt) e)))
+    ▹ (λ e. ((rd_fits w, rs1_fits w, rs2_fits w), whole_r w 51 5 32 fits (at_funct7 w 51 5 32 fits (lit< tt) (lit< tt) e)))
+    ▹ (λ e. ((rd_fits w, rs1_fits w, rs2_fits w), whole_r w 51 6 0 fits (at_funct7 w 51 6 0 fits (lit< tt) (lit< tt) e)))
+    ▹ (λ e. ((rd_fits w, rs1_fits w, rs2_fits w), whole_r w 51 7 0 fits (at_funct7 w 51 7 0 fits (lit< tt) (lit< tt) e)))
+    ▹ (λ e. (IsRest-rest_of w, whole_fence w 15 0 fits (at_funct3 w 15 0 (lit< tt) e)))
+    ▹ (λ e. (tt, sym (at_whole w 0x0000_0073 fits e)))
+    ▹ (λ e. (tt, sym (at_whole w 0x0010_0073 fits e)))
+    ▹ (λ e. (IsRest-rest_of w, whole_fence w 15 1 fits (at_funct3 w 15 1 (lit< tt) e)))
+    ▹ (λ e. ((rd_fits w, rs1_fits w, rs2_fits w), whole_r w 51 0 1 fits (at_funct7 w 51 0 1 fits (lit< tt) (lit< tt) e)))
+    ▹ (λ e. ((rd_fits w, rs1_fits w, rs2_fits w), whole_r w 51 1 1 fits (at_funct7 w 51 1 1 fits (lit< tt) (lit< tt) e)))
+    ▹ (λ e. ((rd_fits w, rs1_fits w, rs2_fits w), whole_r w 51 2 1 fits (at_funct7 w 51 2 1 fits (lit< tt) (lit< tt) e)))
+    ▹ (λ e. ((rd_fits w, rs1_fits w, rs2_fits w), whole_r w 51 3 1 fits (at_funct7 w 51 3 1 fits (lit< tt) (lit< tt) e)))
+    ▹ (λ e. ((rd_fits w, rs1_fits w, rs2_fits w), whole_r w 51 4 1 fits (at_funct7 w 51 4 1 fits (lit< tt) (lit< tt) e)))
+    ▹ (λ e. ((rd_fits w, rs1_fits w, rs2_fits w), whole_r w 51 5 1 fits (at_funct7 w 51 5 1 fits (lit< tt) (lit< tt) e)))
+    ▹ (λ e. ((rd_fits w, rs1_fits w, rs2_fits w), whole_r w 51 6 1 fits (at_funct7 w 51 6 1 fits (lit< tt) (lit< tt) e)))
+    ▹ (λ e. ((rd_fits w, rs1_fits w, rs2_fits w), whole_r w 51 7 1 fits (at_funct7 w 51 7 1 fits (lit< tt) (lit< tt) e)))
+    ▹ tt

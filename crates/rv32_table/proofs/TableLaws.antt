@@ -8,9 +8,10 @@ use Rattle.rv32_table.specs.ByFields.{by_opcode}
 use Rattle.rv32_table.specs.Encoded.{encoded}
 use Rattle.rv32_table.specs.Table.{Row, table, Matches, is_match, instruction_of, decoded}
 use Rattle.rv32_table.specs.declared.instruction.Instr.{Instr}
-use Rattle.rv32_table.proofs.ListLaws.{HasRow, EachRow, if-case, find-each, find-none}
+use Rattle.rv32_table.proofs.ListLaws.{◌▹◌, HasRow, EachRow, if-case, find-each, find-none}
 use Rattle.rv32_table.proofs.RowsByFields.{rows-by_opcode}
 use Rattle.rv32_table.proofs.RowsEncoded.{rows-encoded}
+use Rattle.rv32_table.specs.Meaning.{meaning_of, register_meaning, branch_meaning, load_meaning}
 use Rattle.rv32_table.proofs.Existence.{exists}
 
 -- by what was found in the table, and by what the fields say
@@ -71,3 +72,17 @@ decoded-outside word none = none-each word table (no_map (find (is_match word) t
     no_map : (found : Option Row) → option_map (λ (x : Row). instruction_of x.form word) found ≡ None → found ≡ None
     no_map None e = refl
     no_map (Some x) e = absurd (cc)
+
+-- ---- a row's meaning is that of the instruction that it makes of a word
+each-all : (P : Row → Type 0) (rows : List Row) → EachRow P rows → All P rows
+each-all P [] each = All-nil P
+each-all P (x ∷ xs) each = All-cons P x xs each.0 (each-all P xs each.1)
+
+pub table-meanings : (word : ℕ) → All (λ r. r.meaning ≡ meaning_of (instruction_of r.form word)) table
+unfolding table register_meaning branch_meaning load_meaning
+table-meanings word =
+    each-all (λ r. r.meaning ≡ meaning_of (instruction_of r.form word)) table
+    (refl ▹ refl ▹ refl ▹ refl ▹ refl ▹ refl ▹ refl ▹ refl ▹ refl ▹ refl ▹ refl ▹ refl ▹ refl ▹ refl
+    ▹ refl ▹ refl ▹ refl ▹ refl ▹ refl ▹ refl ▹ refl ▹ refl ▹ refl ▹ refl ▹ refl ▹ refl ▹ refl ▹ refl
+    ▹ refl ▹ refl ▹ refl ▹ refl ▹ refl ▹ refl ▹ refl ▹ refl ▹ refl ▹ refl ▹ refl ▹ refl ▹ refl ▹ refl
+    ▹ refl ▹ refl ▹ refl ▹ refl ▹ refl ▹ refl ▹ refl ▹ tt)

@@ -2,7 +2,8 @@
 
 ghost use Rattle.std.specs.Prelude.{◌≡◌, ℕ, ◌↔◌, ◌^◌, ◌<◌, All, AllPairs, Some, None};
 ghost use Rattle.rv32_table.specs.Fits.{Fits};
-ghost use Rattle.rv32_table.specs.Table.{table, Matches, decoded};
+ghost use Rattle.rv32_table.specs.Meaning.{meaning_of};
+ghost use Rattle.rv32_table.specs.Table.{table, Matches, decoded, instruction_of};
 ghost use Rattle.rv32_table.specs.Encoded.{encoded};
 ghost use Rattle.rv32_table.specs.declared.instruction.Instr.{Instr};
 
@@ -14,6 +15,11 @@ pub fn at_most_one_row()
 /// A word is illegal exactly where it matches no row.
 pub fn outside_is_illegal()
     ensures { (word : ℕ) → (decoded word ≡ None) ↔ All (λ row. ¬ Matches word row) table }
+{}
+
+/// The meaning beside a row is that of the instruction which the row makes of a word.
+pub fn rows_have_their_meanings()
+    ensures { (word : ℕ) → All (λ row. row.meaning ≡ meaning_of (instruction_of row.form word)) table }
 {}
 
 /// The word of an instruction that fits is a word, and that instruction.

@@ -21,4 +21,7 @@ mod tests;
 pub use decoding::decode;
 pub use encoding::encode;
 pub use instruction::{BranchOp, ImmOp, Instr, LoadOp, RegOp, StoreOp};
-pub use laws::{at_most_one_row, decoded_is_encoded, encoded_is_decoded, outside_is_illegal};
+pub use laws::{
+    at_most_one_row, decoded_is_encoded, encoded_is_decoded, outside_is_illegal,
+    rows_have_their_meanings,
+};

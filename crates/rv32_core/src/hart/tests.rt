@@ -70,6 +70,8 @@ impl Bytes for Stopping {
 
     ghost answers = { λ s t access bytes h. h.2 };
 
+    ghost told_size = { λ s memory e. Prim.cc };
+
     ghost tells_load = { λ s t address count bytes h memory e. Prim.cc };
 
     ghost tells_store = { λ s t address bytes done h memory e. Prim.cc };

@@ -5,7 +5,11 @@ use Rattle.posmap_counters.proofs.PieceLaws.{line_more, line_whole, no_digits}
 use Rattle.posmap_counters.proofs.group.line_bytes.Goals as goal
 
 pub loop-piece-init : goal.loop-piece-init
-loop-piece-init c = (c.fresh_line-line.ensures.long, no_digits 8 256 c.args.group c.fresh_line-line.result c.fresh_line-line.ensures.front)
+loop-piece-init c = (
+  c.fresh_line-line.ensures.long,
+  no_digits 8 256 c.args.group c.fresh_line-line.result
+      c.fresh_line-line.ensures.front,
+)
 
 pub loop-piece-preserved : goal.loop-piece-preserved
 loop-piece-preserved c =

@@ -14,7 +14,8 @@ loop-piece-preserved c =
     own_more c.loop-piece.piece _ c.args.line.now c.copy_from_slice.new.self c.loop-piece.own
     c.told-line c.loop-piece.invariant.0 c.fits-line c.loop-piece-test.true (omega arith) c.loop-piece.invariant.1
     (c.copy_from_slice.ensures.after ∙ c.four_of-four.ensures
-    ∙ ap (λ k. digits 16384 4 (number_from_digits 256 (take k (drop (8 + 7 * c.loop-piece.piece) c.args.line.now)))) width)
+    ∙ ap (λ k. digits 16384 4 (number_from_digits 256 (take k (drop (8 + 7 * c.loop-piece.piece) c.args.line.now))))
+    width)
 
 pub returns-clause-own : goal.returns-clause-own
 returns-clause-own c =

@@ -1,4 +1,5 @@
-use Rattle.posmap_lookaside.proofs.AddressLaws.{is_some-held_at, addresses_of-promoted, addresses_of-changed, addresses_of-inserted, addresses_of-displaced}
+use Rattle.posmap_lookaside.proofs.AddressLaws.{is_some-held_at, addresses_of-promoted, addresses_of-changed}
+use Rattle.posmap_lookaside.proofs.AddressLaws.{addresses_of-inserted, addresses_of-displaced}
 use Rattle.posmap_lookaside.proofs.laws.addresses_follow.Goals as goal
 
 pub returns-clause-held : goal.returns-clause-held

@@ -3,4 +3,4 @@ use Rattle.posmap_counters.proofs.group.Group.step.Goals as goal
 
 pub invariant_of-self : goal.invariant_of-self
 invariant_of-self c =
-    record { in_range = own_set c.args.self.now.own c.args.child _ c.args.self.now.in_range (room c.args.ic _ c.requires.ic_to c.if-own-ic.false) }
+    own_set c.self.inside.own c.args.child _ c.self.invariant (room c.args.ic _ c.requires.ic_to c.if-own-ic.false)

@@ -1,6 +1,0 @@
-use Rattle.std.proofs.Common.{bit_xor, rules}
-use Rattle.std.proofs.lemmas.List.Edits.{map_over_more}
-use Rattle.hmac_sha.proofs.mask.Goals as goal
-
-pub loop-byte-preserved : goal.loop-byte-preserved
-loop-byte-preserved c = search (rules, map_over_more (λ b. bit_xor b c.args.pad))

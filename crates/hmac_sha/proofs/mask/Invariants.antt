@@ -1,6 +1,0 @@
-use Rattle.std.proofs.Common.{◌≡◌, ◌++◌, map, take, drop, bit_xor}
-use Rattle.hmac_sha.proofs.mask.Given as goal
-
-abbrev pub invariant-loop-byte : goal.invariant-loop-byte
-invariant-loop-byte l =
-    l.block ≡ map (λ b. bit_xor b l.pad) (take l.byte-index l.initial.block) ++ drop l.byte-index l.initial.block
