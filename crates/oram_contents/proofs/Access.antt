@@ -22,26 +22,32 @@ use Rattle.bus_watch.specs.declared.log.Event.TheVariants.{Drawn, Tagged, Accept
 use Rattle.oram_stash.specs.Entries.{held, without}
 use Rattle.pmmac_tags.proofs.Tags.{length-tag}
 use Rattle.posmap_counters.specs.Counters.{IsBefore, first_counter}
-use Rattle.posmap_counters.proofs.CounterLaws.{before_irreflexive}
+use Rattle.posmap_counters.proofs.Order.{before_irreflexive}
 use Rattle.oram_contents.specs.Contents.{Contents, after_write}
 use Rattle.oram_contents.specs.PathRead.{replies}
 use Rattle.oram_contents.specs.PathWritten.{places_of}
 use Rattle.oram_contents.specs.Shapes.{AreOfShape}
-use Rattle.oram_contents.proofs.ContentsLaws.{sealed-length, All-where_placed}
+use Rattle.oram_contents.proofs.ContentsLaws.{sealed-length}
 use Rattle.oram_contents.proofs.OfShape.{without_of_shape, put_of_shape}
-use Rattle.oram_contents.specs.Entries.{Has, Keys, AreKeys, real, message_of, entry_of, entries_at, OnPath}
+use Rattle.oram_contents.specs.Entries.{Keys, AreKeys, real, message_of, entry_of, entries_at, OnPath}
+use Rattle.asc_base.specs.Has.{Has}
 use Rattle.oram_contents.specs.Counts.{Ghost, line_at, line_by, zero_line, IsAway, put_at}
 use Rattle.oram_contents.specs.Verdict.{judged, line_found}
 use Rattle.oram_contents.specs.Forgery.{Forgery, LastDrawn}
 use Rattle.oram_contents.specs.Provenance.{FromOutside, Came, Genuine, Known, Untagged, OffOpen, Sound}
-use Rattle.oram_contents.specs.Provenance.{Always, AreApart}
+use Rattle.oram_contents.specs.Provenance.{Always}
+use Rattle.oram_stash.specs.Entries.{AreApart}
 use Rattle.oram_contents.specs.Steps.{Adds, next_dummy, opened_at, raised, taken, accepted, stored, landed, closed}
 use Rattle.oram_contents.specs.Slots.{drawn_events, MayDraw, IsRead, IsFound, MayRise, IsPut, HasSeeds}
-use Rattle.oram_contents.proofs.Among.{has_left, has_right, has_split, has_last, has_new, all_has, cases_tagged}
+use Rattle.oram_contents.proofs.Among.{cases_tagged}
+use Rattle.asc_base.proofs.Members.{has_left, has_right, has_split, has_last, has_new, all_has}
 use Rattle.oram_contents.proofs.Lines.{put_same, put_other}
-use Rattle.oram_contents.proofs.Joined.{joined_from, buckets-apart, apart_append}
-use Rattle.oram_contents.proofs.Found.{held_has, without_has, without_apart, nothing_wrong, valid_tag}
-use Rattle.oram_contents.proofs.Placing.{written_from, where_placed_has, where_placed_apart}
+use Rattle.oram_contents.proofs.Joined.{joined_from, buckets-apart}
+use Rattle.oram_stash.proofs.Apart.{AreApart-append, AreApart-without, AreApart-where_placed, without-left}
+use Rattle.oram_stash.proofs.Held.{held-no_one}
+use Rattle.path_evict.proofs.Placed.{where_placed-has, All-where_placed}
+use Rattle.oram_contents.proofs.Found.{held_has, nothing_wrong, valid_tag}
+use Rattle.oram_contents.proofs.Placing.{written_from}
 use Rattle.oram_contents.proofs.Steps.{came_more, AreUntagged, IsPast, sound_log, sound_read, sound_fewer, sound_raised}
 use Rattle.oram_contents.proofs.Steps.{counter_raised, sound_put, sound_write}
 
@@ -215,7 +221,7 @@ module _ (keys : Keys) where
     address = record { 0 = a }
 
     left : (e : Entry) → Has e (without now.hand (record { 0 = a })) → Has e now.hand × (e.address.0 ≡ a → ⊥)
-    left e h = without_has now.hand (record { 0 = a }) e w.apart h
+    left e h = without-left now.hand (record { 0 = a }) e w.apart h
 
     none_tagged_in : (o : Option Entry) → AreUntagged (accepted a (g.count a) o)
     none_tagged_in None m h = h
@@ -316,10 +322,10 @@ module _ (keys : Keys) where
       → Always keys new (record now { hand = without now.hand (record { 0 = a }) })
   take_always old new now a c found f s =
       always_adds old new (accepted a c found) now (without now.hand (record { 0 = a })) f.adds
-      (without_apart now.hand (record { 0 = a }) s.apart)
+      (AreApart-without now.hand (record { 0 = a }) s.apart)
       (without_of_shape keys.shape now.hand (record { 0 = a }) s.of_shape)
       (λ e h. came_more keys old new (accepted a c found) [] e f.adds
-      (s.hand_came e (without_has now.hand (record { 0 = a }) e s.apart h).0)) s
+      (s.hand_came e (without-left now.hand (record { 0 = a }) e s.apart h).0)) s
 
   pub put_always : (lawful : AreKeys keys) (old new : LogLists) (now after : Contents) (a : ℕ) (c : Counter)
       (l : List ℕ) → a < keys.shape.total → length l ≡ 64
@@ -328,7 +334,7 @@ module _ (keys : Keys) where
   put_always lawful old new now after a c l inside whole other put s =
       subst (λ x. Always keys new x) (sym put.after_is)
       (always_adds old new (Tagged (message_of a c l) ∷ []) now (now.hand ++ entry_of keys a c l ∷ []) put.adds
-      (apart_append now.hand (entry_of keys a c l) s.apart other)
+      (AreApart-append now.hand (entry_of keys a c l) s.apart (held-no_one now.hand (record { 0 = a }) other))
       (put_of_shape keys.shape now.hand (now.hand ++ entry_of keys a c l ∷ []) (entry_of keys a c l) refl is_entry
       (inside, lawful.leaves (real a c)) s.of_shape)
       came s)
@@ -408,16 +414,16 @@ module _ (keys : Keys) where
     write_sound g opened s = sound_write keys log g now (after_write keys.pads keys.shape.levels leaf now) leaf opened
         (λ b e h. elim (written_from keys lawful leaf now b e within w.of_shape w.mirrored w.seeds room h)
         [ inl kept ↦ inl kept | inr from ↦ inr from.0 ])
-        (λ e h. where_placed_has _ (places_of keys.shape.levels leaf now.hand) now.hand e h) s
+        (λ e h. where_placed-has _ (places_of keys.shape.levels leaf now.hand) now.hand e h) s
 
     pub write_always : Always keys log (after_write keys.pads keys.shape.levels leaf now)
     write_always = record {
       placed = λ b e h. elim (written_from keys lawful leaf now b e within w.of_shape w.mirrored w.seeds room h)
           [ inl kept ↦ w.placed b e kept.0 | inr from ↦ from.1 ];
-      apart = where_placed_apart _ (places_of keys.shape.levels leaf now.hand) now.hand w.apart;
+      apart = AreApart-where_placed _ (places_of keys.shape.levels leaf now.hand) now.hand w.apart;
       of_shape = All-where_placed (λ (e : Entry). IsEntry e × IsInRange keys.shape (Some e)) _
           (places_of keys.shape.levels leaf now.hand) now.hand w.of_shape;
-      hand_came = λ e h. w.hand_came e (where_placed_has _ (places_of keys.shape.levels leaf now.hand) now.hand e h);
+      hand_came = λ e h. w.hand_came e (where_placed-has _ (places_of keys.shape.levels leaf now.hand) now.hand e h);
       tree_came = λ b e h. elim (written_from keys lawful leaf now b e within w.of_shape w.mirrored w.seeds room h)
           [ inl kept ↦ w.tree_came b e kept.0 | inr from ↦ w.hand_came e from.0 ];
       past = w.past;

@@ -1,42 +1,12 @@
 -- How what stands in a list is found again.
-use Rattle.std.proofs.Common.{◌≡◌, ◌⊎◌, inl, inr, ℕ, suc, List, [], ◌∷◌, ◌++◌, All, refl, sym, ap}
-use Rattle.std.proofs.Common.{subst, arith}
+use Rattle.std.proofs.Common.{◌≡◌, ◌⊎◌, inl, inr, ℕ, List, [], ◌∷◌, ◌++◌, refl, sym, ap}
 use Rattle.std.proofs.lemmas.Bool.{cases_eq}
 use Rattle.asc_base.specs.declared.block.Message.{Message}
 use Rattle.bus_watch.specs.declared.log.Event.{Event}
 use Rattle.bus_watch.specs.declared.log.Event.TheVariants.{Access, Drawn, Tagged, Accepted, Chosen, Answered}
-use Rattle.oram_contents.specs.Entries.{Has}
+use Rattle.asc_base.specs.Has.{Has}
+use Rattle.asc_base.proofs.Members.{has_split}
 use Rattle.oram_contents.specs.Provenance.{AtMostOnce}
-
-pub has_left : {A : Type 0} (x : A) (xs ys : List A) → Has x xs → Has x (xs ++ ys)
-has_left x [] ys h = absurd h
-has_left x (y ∷ xs) ys (inl e) = inl e
-has_left x (y ∷ xs) ys (inr h) = inr (has_left x xs ys h)
-
-pub has_right : {A : Type 0} (x : A) (xs ys : List A) → Has x ys → Has x (xs ++ ys)
-has_right x [] ys h = h
-has_right x (y ∷ xs) ys h = inr (has_right x xs ys h)
-
-pub has_split : {A : Type 0} (x : A) (xs ys : List A) → Has x (xs ++ ys) → Has x xs ⊎ Has x ys
-has_split x [] ys h = inr h
-has_split x (y ∷ xs) ys (inl e) = inl (inl e)
-has_split x (y ∷ xs) ys (inr h) = elim (has_split x xs ys h) [ inl l ↦ inl (inr l) | inr r ↦ inr r ]
-
--- the last item is it, or it stood there before
-pub has_last : {A : Type 0} (x y : A) (xs : List A) → Has x (xs ++ y ∷ []) → Has x xs ⊎ (x ≡ y)
-has_last x y xs h = elim (has_split x xs (y ∷ []) h) [
-  | inl l ↦ inl l
-  | inr r ↦ elim r
-      [ inl e ↦ inr e | inr n ↦ absurd n ]
-]
-
-pub has_new : {A : Type 0} (x : A) (xs : List A) → Has x (xs ++ x ∷ [])
-has_new x xs = has_right x xs (x ∷ []) (inl refl)
-
-pub all_has : {A : Type 0} (P : A → Type 0) (x : A) (xs : List A) → All P xs → Has x xs → P x
-all_has P x [] all h = absurd h
-all_has P x (y ∷ xs) all (inl e) = subst P (sym e) (all 0 y (omega arith))
-all_has P x (y ∷ xs) all (inr h) = all_has P x xs (λ k d less. all (suc k) d (omega arith)) h
 
 -- two lists of numbers are the same or not
 pub cases_bytes : (xs ys : List ℕ) → (xs ≡ ys) ⊎ (xs ≡ ys → ⊥)

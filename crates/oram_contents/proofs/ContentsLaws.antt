@@ -1,5 +1,5 @@
 -- What a path write leaves in each bucket, and what a path read joins.
-use Rattle.std.proofs.Common.{◌≡◌, ◌≢◌, ◌<◌, ◌≤◌, ◌+◌, ◌^◌, ℕ, zero, suc, inl, inr, Bool, true, false, if◌then◌else◌}
+use Rattle.std.proofs.Common.{◌≡◌, ◌≢◌, ◌<◌, ◌≤◌, ◌+◌, ◌^◌, ℕ, zero, suc, inl, inr}
 use Rattle.std.proofs.Common.{List, [], ◌∷◌, length, set, slice_get, All, Option, None, Some, Ok, refl, sym, ◌∙◌, ap}
 use Rattle.std.proofs.Common.{subst, arith}
 use Rattle.std.proofs.Math.ListN.{length-set}
@@ -12,7 +12,8 @@ use Rattle.asc_base.proofs.Paths.{bucket_of-apart}
 use Rattle.bucket_codec.specs.Bucket.{bucket_text, opened}
 use Rattle.bucket_codec.specs.Slot.{IsSlot, IsEntry, IsInRange}
 use Rattle.bucket_codec.proofs.Buckets.{opened_bucket}
-use Rattle.oram_stash.specs.Entries.{where_placed}
+use Rattle.path_evict.specs.Placed.{where_placed}
+use Rattle.path_evict.proofs.Placed.{All-where_placed}
 use Rattle.path_evict.specs.Placement.{stands_at}
 use Rattle.oram_contents.specs.Shapes.{AreOfShape}
 use Rattle.oram_contents.specs.PathWritten.{places_of, four_slots, slots_at, sealed}
@@ -22,18 +23,6 @@ All-rest P x xs all = λ k d less. all (suc k) d (omega arith)
 
 All-first : {X : Type 0} (P : X → Type 0) (x : X) (xs : List X) → All P (x ∷ xs) → P x
 All-first P x xs all = all 0 x (omega arith)
-
-pub All-where_placed : (P : Entry → Type 0) (test : Option ℕ → Bool) (places : List (Option ℕ)) (entries : List Entry)
-    → All P entries → All P (where_placed test places entries)
-All-where_placed P test [] entries all = λ k d less. absurd (omega arith)
-All-where_placed P test (place ∷ places) [] all = λ k d less. absurd (omega arith)
-All-where_placed P test (place ∷ places) (entry ∷ entries) all = both (test place)
-    (All-where_placed P test places entries (All-rest P entry entries all))
-  where
-    both : (b : Bool) → All P (where_placed test places entries)
-        → All P (if b then (entry ∷ where_placed test places entries) else where_placed test places entries)
-    both true next = All-cons P entry (where_placed test places entries) (All-first P entry entries all) next
-    both false next = next
 
 at_slice : (P : Entry → Type 0) (Q : Option Entry → Type 0) → Q None → ((e : Entry) → P e → Q (Some e))
     → (es : List Entry) → All P es → (i : ℕ) → Q (slice_get es i)

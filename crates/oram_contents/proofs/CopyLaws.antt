@@ -8,10 +8,10 @@ use Rattle.std.proofs.lemmas.Bool.{lt-ltb, le-ltb, cases_lt}
 use Rattle.std.proofs.lemmas.Bool.Decides.{eqb_tells}
 use Rattle.asc_base.specs.declared.block.Entry.{Entry}
 use Rattle.asc_base.proofs.Paths.{shared_of-le}
-use Rattle.oram_stash.specs.Entries.{where_placed}
+use Rattle.path_evict.specs.Placed.{where_placed}
 use Rattle.path_evict.specs.Placement.{Fits, stands_at}
 use Rattle.path_evict.proofs.Room.{IsPlacement-eviction}
-use Rattle.path_evict.proofs.Tally.{count_by-yes, count_by-no}
+use Rattle.asc_base.proofs.Lookups.{count_by-yes, count_by-no}
 use Rattle.oram_contents.specs.PathWritten.{depths_of, places_of, four_slots, stays}
 use Rattle.oram_contents.specs.Copies.{copies_to}
 use Rattle.oram_contents.proofs.PlacedLaws.{placed_number}

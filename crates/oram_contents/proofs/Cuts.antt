@@ -4,7 +4,7 @@ use Rattle.std.proofs.Common.{List, [], ◌∷◌, ◌++◌, Option, None, Some,
 use Rattle.std.proofs.Common.{arith, add-one}
 use Rattle.std.proofs.lemmas.Bool.Decides.{eqb_tells}
 use Rattle.asc_base.specs.declared.block.Point.{Point}
-use Rattle.bus_schedule.specs.Schedule.{along, reads, reads_end, writes, slot_moves}
+use Rattle.bus_watch.specs.Path.{along, reads, reads_end, writes, slot_moves}
 use Rattle.bus_watch.specs.Log.{LogLists}
 use Rattle.bus_watch.specs.declared.log.Move.{Move}
 use Rattle.oram_contents.specs.Contents.{Contents}

@@ -20,9 +20,11 @@ use Rattle.bus_watch.specs.declared.log.Event.TheVariants.{Access, Drawn, Tagged
 use Rattle.pmmac_tags.specs.Tag.{tag}
 use Rattle.oram_contents.specs.Decided.{among, same_message, tags_it, draws, point_is, draws_it, last_draws_it}
 use Rattle.oram_contents.specs.Decided.{reply_has, forged_at, forged_from, shows_forgery}
-use Rattle.oram_contents.specs.Entries.{Has, Keys, real, entries_in}
+use Rattle.oram_contents.specs.Entries.{Keys, real, entries_in}
+use Rattle.asc_base.specs.Has.{Has}
 use Rattle.oram_contents.specs.Forgery.{Forgery, LastDrawn, Stood}
-use Rattle.oram_contents.proofs.Among.{has_right, same_message as messages_same, tagged_same}
+use Rattle.oram_contents.proofs.Among.{same_message as messages_same, tagged_same}
+use Rattle.asc_base.proofs.Members.{has_right}
 
 not_true : {P : Type 0} → (let b : Bool = false in b ≡ true) → P
 not_true e = absurd (let bad : false ≡ true = e in cc)

@@ -11,10 +11,12 @@ use Rattle.bus_watch.specs.declared.log.Event.TheVariants.{Chosen, Tagged, Drawn
 use Rattle.oram_contents.specs.Contents.{Contents}
 use Rattle.oram_contents.specs.Fold.{Fold, fold_events, settle, whole}
 use Rattle.oram_contents.specs.Counts.{Ghost}
-use Rattle.oram_contents.specs.Entries.{Has, Keys}
+use Rattle.oram_contents.specs.Entries.{Keys}
+use Rattle.asc_base.specs.Has.{Has}
 use Rattle.oram_contents.specs.Provenance.{Sound, Always, Came, Known, AtMostOnce}
 use Rattle.oram_contents.specs.Forgery.{Forgery}
-use Rattle.oram_contents.proofs.Among.{has_left, has_last, once_append, once_none}
+use Rattle.oram_contents.proofs.Among.{once_append, once_none}
+use Rattle.asc_base.proofs.Members.{has_left, has_last}
 use Rattle.oram_contents.proofs.Access.{forgery_more}
 use Rattle.oram_contents.proofs.Folding.{fold_append}
 use Rattle.oram_contents.specs.Slots.{IsEnd}

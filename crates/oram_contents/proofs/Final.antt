@@ -8,7 +8,8 @@ use Rattle.bus_watch.specs.Log.{LogLists}
 use Rattle.bus_watch.specs.declared.log.Event.TheVariants.{Access, Drawn, Tagged}
 use Rattle.oram_stash.specs.Entries.{without}
 use Rattle.oram_contents.specs.Contents.{Contents}
-use Rattle.oram_contents.specs.Entries.{Has, Keys, AreKeys, real, message_of, entry_of}
+use Rattle.oram_contents.specs.Entries.{Keys, AreKeys, real, message_of, entry_of}
+use Rattle.asc_base.specs.Has.{Has}
 use Rattle.oram_contents.specs.Counts.{Ghost, line_at, line_by, put_at}
 use Rattle.oram_contents.specs.Fold.{with_entry}
 use Rattle.oram_contents.specs.Verdict.{line_found}
@@ -18,7 +19,7 @@ use Rattle.oram_contents.specs.Steps.{opened_at, taken, accepted, stored, landed
 use Rattle.oram_contents.specs.Slots.{drawn_events, IsRead, IsFound, MayRise, IsPut, HasSeeds, done, IsAccess}
 use Rattle.oram_contents.specs.Slots.{IsBetween}
 use Rattle.oram_contents.proofs.Lines.{put_same}
-use Rattle.oram_contents.proofs.Found.{without_has}
+use Rattle.oram_stash.proofs.Apart.{without-left}
 use Rattle.oram_contents.proofs.Access.{forgery_more, read_sound, read_always, take_sound, take_line, take_always}
 use Rattle.oram_contents.proofs.Access.{put_sound, put_always, store_sound, write_sound, write_always}
 
@@ -103,7 +104,7 @@ module _ (keys : Keys) (lawful : AreKeys keys) (old new : LogLists) (g : Ghost) 
       let read = read_always keys old log1 g now start (real a (g.count a)) x.joined is_read w in
       let take = take_always keys log1 log2 at_hand a (g.count a) found is_found read in
       put_always keys lawful log2 new left put a c l inside whole
-      (λ e h. (without_has x.joined (record { 0 = a }) e read.apart h).1) (is_put c refl) take
+      (λ e h. (without-left x.joined (record { 0 = a }) e read.apart h).1) (is_put c refl) take
 
   pub final_always : (a < keys.shape.total) → length l ≡ 64 → HasSeeds now → Always keys old now → Always keys new after
   final_always inside whole room w =
@@ -129,7 +130,7 @@ module _ (keys : Keys) (lawful : AreKeys keys) (old new : LogLists) (g : Ghost) 
       let at : put_at g.count a c a ≡ c = put_same g.count a c in
       let s4 = put_sound keys log2 new g3 left put a l refl unheld stored_is (is_put (put_at g.count a c a) at) s3 in
       let w4 = put_always keys lawful log2 new left put a c l rises.inside whole
-      (λ e h. (without_has x.joined (record { 0 = a }) e w1.apart h).1) (is_put c refl) w2 in
+      (λ e h. (without-left x.joined (record { 0 = a }) e w1.apart h).1) (is_put c refl) w2 in
       let s5 = write_sound keys lawful new put (keys.leaf_of (real a (g.count a)))
       (lawful.leaves (real a (g.count a))) room w4 (landed g3) refl s4 in
       elim line [

@@ -16,12 +16,13 @@ use Rattle.bus_watch.specs.declared.log.Event.TheVariants.{Access, Drawn, Tagged
 use Rattle.oram_stash.specs.Entries.{without}
 use Rattle.oram_contents.specs.Contents.{Contents, IsReadTo, after_write}
 use Rattle.oram_contents.specs.PathRead.{replies, path_read}
-use Rattle.oram_contents.specs.Entries.{Has, Keys, real, message_of, entry_of}
+use Rattle.oram_contents.specs.Entries.{Keys, real, message_of, entry_of}
+use Rattle.asc_base.specs.Has.{Has}
 use Rattle.oram_contents.specs.Fold.{Fold, with_entry, settle, noted_at, leave, hand_after, read_by}
 use Rattle.oram_contents.specs.Fold.{is_open_for, joined_by, after_event, fold_events, whole}
 use Rattle.oram_contents.specs.Steps.{accepted}
 use Rattle.oram_contents.specs.Slots.{drawn_events, IsAccess, IsPass, IsRefill}
-use Rattle.oram_contents.proofs.Among.{all_has}
+use Rattle.asc_base.proofs.Members.{all_has}
 
 noted_append : (k : ℕ) (xs ys : List Altered) → noted_at k (xs ++ ys) ≡ noted_at k xs ++ noted_at k ys
 noted_append k [] ys = refl

@@ -1,6 +1,6 @@
 -- What is found at hand, taken out, and judged.
-use Rattle.std.proofs.Common.{◌≡◌, inl, inr, ℕ, Bool, true, false, if◌then◌else◌, List, [], ◌∷◌}
-use Rattle.std.proofs.Common.{None, Some, refl, sym, ◌∙◌, ap}
+use Rattle.std.proofs.Common.{◌≡◌, inl, inr, ℕ, Bool, true, false, if◌then◌else◌, List}
+use Rattle.std.proofs.Common.{None, Some, refl}
 use Rattle.std.specs.Prelude.{bytes_eq}
 use Rattle.std.proofs.lemmas.Bool.Decides.{eqb_tells}
 use Rattle.std.proofs.lemmas.Slice.Eq.{bytes_eq-Decides}
@@ -9,11 +9,12 @@ use Rattle.asc_base.specs.declared.block.Counter.{Counter}
 use Rattle.asc_base.specs.declared.block.Entry.{Entry}
 use Rattle.asc_base.specs.declared.stop.Evidence.{Evidence}
 use Rattle.asc_base.specs.declared.stop.Evidence.TheVariants.{Missing, Unexpected, BadTag}
-use Rattle.oram_stash.specs.Entries.{held, without}
+use Rattle.oram_stash.specs.Entries.{held}
 use Rattle.pmmac_tags.specs.Tag.{tag}
 use Rattle.posmap_counters.specs.Counters.{first_counter}
-use Rattle.oram_contents.specs.Entries.{Has, Keys, message_of}
-use Rattle.oram_contents.specs.Provenance.{AreApart}
+use Rattle.oram_contents.specs.Entries.{Keys, message_of}
+use Rattle.asc_base.specs.Has.{Has}
+use Rattle.oram_stash.proofs.Held.{held-found}
 use Rattle.oram_contents.specs.Verdict.{is_first, judged}
 
 some_is : {a b : Entry} → Some a ≡ Some b → a ≡ b
@@ -23,37 +24,9 @@ none_is_not : {a : Entry} {P : Type 0} → None ≡ Some a → P
 none_is_not {a} {P} e = absurd (let bad : None ≡ Some a = e in cc)
 
 -- the entry that is found is at hand, and is the block's
-pub held_has : (hand : List Entry) (a : Address) (e : Entry) → held hand a ≡ Some e → Has e hand × (e.address.0 ≡ a.0)
-unfolding held
-held_has [] a e is = none_is_not is
-held_has (x ∷ hand) a e is = elim (eqb_tells x.address.0 a.0) [
-  | inl same ↦ (let first : x ≡ e = some_is (rw same.0 at is) in
-      (inl (sym first), ap (λ (y : Entry). y.address.0) (sym first) ∙ same.1))
-  | inr other ↦ (let rest = held_has hand a e (rw other.0 at is) in (inr rest.0, rest.1))
-]
-
--- what is left was at hand, and is of other blocks
-pub without_has : (hand : List Entry) (a : Address) (e : Entry) → AreApart hand → Has e (without hand a)
-    → Has e hand × (e.address.0 ≡ a.0 → ⊥)
-unfolding without
-without_has [] a e apart h = absurd h
-without_has (x ∷ hand) a e apart h = elim (eqb_tells x.address.0 a.0) [
-  | inl same ↦ (let left : Has e hand = rw same.0 at h in (inr left, λ is. apart.0 e left (is ∙ sym same.1)))
-  | inr other ↦ by_place other.1 (rw other.0 at h) (without_has hand a e apart.1)
-]
-  where
-    by_place : (x.address.0 ≡ a.0 → ⊥) → Has e (x ∷ without hand a)
-        → (Has e (without hand a) → Has e hand × (e.address.0 ≡ a.0 → ⊥)) → Has e (x ∷ hand) × (e.address.0 ≡ a.0 → ⊥)
-    by_place other (inl is) next = (inl is, λ same. other (ap (λ (y : Entry). y.address.0) (sym is) ∙ same))
-    by_place other (inr h) next = let rest = next h in (inr rest.0, rest.1)
-
-pub without_apart : (hand : List Entry) (a : Address) → AreApart hand → AreApart (without hand a)
-unfolding without
-without_apart [] a apart = apart
-without_apart (x ∷ hand) a apart = elim (eqb_tells x.address.0 a.0) [
-  | inl same ↦ rw same.0 apart.1
-  | inr other ↦ rw other.0 (λ y h is. apart.0 y (without_has hand a y apart.1 h).0 is, without_apart hand a apart.1)
-]
+pub held_has : (hand : List Entry) (a : Address) (e : Entry) → held hand a ≡ Some e
+    → Has e hand × (e.address.0 ≡ a.0)
+held_has hand a e is = let found = held-found hand a e is in (found.1, found.0)
 
 first_is : (c : Counter) → is_first c ≡ true → c ≡ first_counter
 first_is c is = elim (eqb_tells c.group 0) [

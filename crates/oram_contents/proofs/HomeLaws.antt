@@ -13,7 +13,7 @@ use Rattle.asc_base.specs.declared.block.Entry.{Entry}
 use Rattle.asc_base.proofs.Paths.{bucket_of-lt, bucket_of-apart}
 use Rattle.asc_base.proofs.ShapeFacts.{shape_layered}
 use Rattle.bucket_codec.specs.Bucket.{opened, bucket_text}
-use Rattle.path_evict.proofs.Tally.{count_by-yes, count_by-no}
+use Rattle.asc_base.proofs.Lookups.{count_by-yes, count_by-no}
 use Rattle.oram_contents.specs.Contents.{Contents, entries_of, IsReadTo, after_write}
 use Rattle.oram_contents.specs.Copies.{copies_to}
 use Rattle.oram_contents.specs.PathRead.{replies}

@@ -11,18 +11,19 @@ use Rattle.asc_base.specs.declared.block.Entry.{Entry}
 use Rattle.asc_base.specs.declared.stop.Evidence.TheVariants.{Unexpected, BadTag}
 use Rattle.bus_watch.specs.Log.{LogLists}
 use Rattle.oram_stash.specs.Entries.{held, without}
-use Rattle.path_evict.proofs.Tally.{count_by-yes, count_by-no}
+use Rattle.asc_base.proofs.Lookups.{count_by-yes, count_by-no}
 use Rattle.pmmac_tags.specs.Tag.{tag}
 use Rattle.posmap_counters.specs.Counters.{IsBefore, first_counter}
 use Rattle.oram_contents.specs.Contents.{Contents, IsReadTo}
 use Rattle.oram_contents.specs.Entries.{Keys, AreKeys, real, message_of, entry_of}
 use Rattle.oram_contents.specs.Counts.{Ghost, put_at}
 use Rattle.oram_contents.specs.Fold.{with_entry}
-use Rattle.oram_contents.specs.Home.{copies, tree_copies, flying, Home}
+use Rattle.oram_contents.specs.Home.{is_copy, copies, tree_copies, flying, Home}
 use Rattle.oram_contents.specs.Provenance.{Always}
 use Rattle.oram_contents.specs.Slots.{HasSeeds, IsAccess, done}
 use Rattle.oram_contents.specs.Steps.{opened_at, taken, raised, landed, inserted, stored}
 use Rattle.oram_contents.specs.Verdict.{is_first, judged}
+use Rattle.oram_stash.proofs.Held.{held-found, without-none, count_by-without}
 use Rattle.oram_contents.proofs.Lines.{put_same, put_other}
 use Rattle.oram_contents.proofs.Found.{nothing_wrong}
 use Rattle.oram_contents.proofs.HomeLaws.{copies_cons, copies_append, home_read, home_write}
@@ -75,16 +76,18 @@ one_other a b no_is = elim (eqb_tells a b) [ inl same ↦ absurd (no_is (sym sam
 
 -- what is taken out of a hand
 taken_copies : (hand : List Entry) (address : Address) (b : ℕ)
-    → copies b (without hand address) + (elim (held hand address) as
-    (λ o. ℕ) [ None ↦ 0 | Some e ↦ one_of address.0 b ]) ≡ copies b hand
-unfolding without held
-taken_copies [] address b = refl
-taken_copies (x ∷ hand) address b = elim (eqb_tells x.address.0 address.0) [
-  | inl same ↦ (let whole = copies_cons b x hand in let one : one_of x.address.0 b ≡ one_of address.0 b = ap
-      (λ n. one_of n b) same.1 in rw same.0 (omega arith))
-  | inr other ↦ (let next = taken_copies hand address b in let whole = copies_cons b x hand in let part = copies_cons b
-      x (without hand address) in rw other.0 (omega arith))
-]
+    → copies b (without hand address)
+    + (elim (held hand address) as (λ o. ℕ) [ None ↦ 0 | Some e ↦ one_of address.0 b ]) ≡ copies b hand
+taken_copies hand address b = by_found (held hand address) refl
+  where
+    by_found : (found : Option Entry) → held hand address ≡ found
+        → copies b (without hand address) + (elim found as (λ o. ℕ) [ None ↦ 0 | Some e ↦ one_of address.0 b ])
+        ≡ copies b hand
+    by_found None is = ap (λ l. copies b l + 0) (without-none hand address is) ∙ omega arith
+    by_found (Some e) is =
+        let one : one_of address.0 b ≡ one_of e.address.0 b =
+        ap (λ n. one_of n b) (sym (held-found hand address e is).0) in
+        ap (λ n. copies b (without hand address) + n) one ∙ count_by-without (is_copy b) hand address e is
 
 module _ (keys : Keys) where
   -- a block is taken

@@ -22,7 +22,8 @@ use Rattle.pmmac_tags.specs.Tag.{tag}
 use Rattle.oram_contents.specs.Contents.{Contents, entries_of, IsReadTo}
 use Rattle.oram_contents.specs.PathRead.{replies, join_entry, join_slots, join_buckets}
 use Rattle.oram_contents.specs.PathRead.{then_join}
-use Rattle.oram_contents.specs.Entries.{Has, Keys, AreKeys, OnPath, real, message_of, entries_in, entries_at}
+use Rattle.oram_contents.specs.Entries.{Keys, AreKeys, OnPath, real, message_of, entries_in, entries_at}
+use Rattle.asc_base.specs.Has.{Has}
 use Rattle.oram_contents.specs.Counts.{Ghost}
 use Rattle.oram_contents.specs.Home.{Home, copies, is_copy, tree_copies, flying, total, is_open, meets}
 use Rattle.oram_contents.specs.Provenance.{Genuine, Known, OffOpen, Sound, Always}
@@ -172,7 +173,8 @@ write_in_form keys lawful leaf now within of_shape mirrored some room forms b in
       | inr off ↦
           (let kept = sealed-off keys.pads keys.shape.levels leaf now.seed now.hand now.mirror (keys.shape.levels + 1) b
           (λ level less is. off (level, omega (arith, less), sym is)) in
-          let same : get_or (sealed keys.pads keys.shape.levels leaf now.seed now.hand now.mirror (keys.shape.levels + 1))
+          let same : get_or (sealed keys.pads keys.shape.levels leaf now.seed now.hand now.mirror
+          (keys.shape.levels + 1))
           b [] ≡ get_or now.mirror b [] =
           sym (unwrap_or-slice_get (sealed keys.pads keys.shape.levels leaf now.seed now.hand now.mirror
           (keys.shape.levels + 1)) b []) ∙ ap (λ o. unwrap_or o []) kept ∙ unwrap_or-slice_get now.mirror b [] in
@@ -181,7 +183,8 @@ write_in_form keys lawful leaf now within of_shape mirrored some room forms b in
       | inl on ↦
           (let there : bucket_of keys.shape.levels leaf on.0 < length now.mirror = omega
           (arith, mirrored, path_inside keys lawful leaf on.0 within on.1) in
-          let text = sealed-on keys.pads keys.shape.levels leaf now.seed now.hand now.mirror (keys.shape.levels + 1) on.0
+          let text = sealed-on keys.pads keys.shape.levels leaf now.seed now.hand now.mirror
+          (keys.shape.levels + 1) on.0
           (omega (arith, on.1)) (omega arith) within there in
           let bytes = get_or_from_slice_get (sealed keys.pads keys.shape.levels leaf now.seed now.hand now.mirror
           (keys.shape.levels + 1)) (bucket_of keys.shape.levels leaf on.0)

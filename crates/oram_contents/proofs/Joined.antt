@@ -1,12 +1,11 @@
 -- Where the entries come from that a path read joins.
 use Rattle.std.proofs.Common.{◌≡◌, ◌+◌, ◌*◌, ◌⊎◌, inl, inr, ℕ, Bool, true, false}
 use Rattle.std.proofs.Common.{if◌then◌else◌, ◌==◌, List, [], ◌∷◌, ◌++◌, map, flat_map, get_or, Option, None}
-use Rattle.std.proofs.Common.{Some, Result, Ok, Err, is_some, refl, sym, ◌∙◌, ap, subst}
+use Rattle.std.proofs.Common.{Some, Result, Ok, Err, is_some, refl, ◌∙◌, subst}
 use Rattle.std.specs.List.{range_with_len}
 use Rattle.std.proofs.lemmas.Bool.Decides.{eqb_tells}
 use Rattle.asc_base.specs.TreeShape.{bucket_of}
 use Rattle.asc_base.specs.declared.block.Entry.{Entry}
-use Rattle.asc_base.specs.declared.block.Address.{Address}
 use Rattle.asc_base.specs.declared.stop.Evidence.{Evidence}
 use Rattle.asc_base.specs.declared.stop.Evidence.TheVariants.{OffPath, Doubled}
 use Rattle.bucket_codec.specs.Bucket.{opened}
@@ -17,22 +16,11 @@ use Rattle.oram_contents.specs.Contents.{Contents, entries_of, IsReadTo}
 use Rattle.oram_contents.specs.PathRead.{reply_at, replies, join_entry, join_slots, join_bucket, join_buckets}
 use Rattle.oram_contents.specs.PathRead.{then_join}
 use Rattle.oram_contents.proofs.JoinLaws.{buckets-joined}
-use Rattle.oram_contents.specs.Entries.{Has, Keys, entries_in, entries_at}
-use Rattle.oram_contents.specs.Provenance.{AreApart}
-use Rattle.oram_contents.proofs.Among.{has_split}
-
-pub has_map : {A B : Type 0} (f : A → B) (y : B) (xs : List A) → Has y (map f xs) → (x : A) × Has x xs × (y ≡ f x)
-has_map f y [] h = absurd h
-has_map f y (x ∷ xs) (inl e) = (x, inl refl, e)
-has_map f y (x ∷ xs) (inr h) = let rest = has_map f y xs h in (rest.0, inr rest.1, rest.2)
-
-pub has_flat_map : {A B : Type 0} (f : A → List B) (y : B) (xs : List A) → Has y (flat_map f xs)
-    → (x : A) × Has x xs × Has y (f x)
-has_flat_map f y [] h = absurd h
-has_flat_map f y (x ∷ xs) h = elim (has_split y (f x) (flat_map f xs) h) [
-  | inl l ↦ (x, inl refl, l)
-  | inr r ↦ let rest = has_flat_map f y xs r in (rest.0, inr rest.1, rest.2)
-]
+use Rattle.oram_contents.specs.Entries.{Keys, entries_in, entries_at}
+use Rattle.asc_base.specs.Has.{Has}
+use Rattle.asc_base.proofs.Members.{has_split, has_map, has_flat_map}
+use Rattle.oram_stash.proofs.Apart.{AreApart-append}
+use Rattle.oram_stash.specs.Entries.{AreApart}
 
 -- a reply is the bucket as last written, or one of the altered replies
 reply_from : (mirror : List (List ℕ)) (altered : List Altered) (at bucket : ℕ)
@@ -82,29 +70,9 @@ joined_from keys start leaf altered now joined e is h =
         (bucket_of keys.shape.levels leaf of_level.0) of_level.2
 
 -- addresses stay apart
-none_held : (hand : List Entry) (a : Address) → is_some (held hand a) ≡ false → (x : Entry) → Has x hand
-    → x.address.0 ≡ a.0 → ⊥
-unfolding held
-none_held [] a none x h is = h
-none_held (e ∷ hand) a none x h is = elim (eqb_tells e.address.0 a.0) [
-  | inl same ↦ (let found : is_some (held (e ∷ hand) a) ≡ true = rw same.0 refl in cc)
-  | inr other ↦ elim h [
-    | inl first ↦ other.1 (ap (λ (y : Entry). y.address.0) (sym first) ∙ is)
-    | inr later ↦ none_held
-        hand a (rw other.0 at none) x later is
-  ]
-]
-
-pub apart_append : (hand : List Entry) (e : Entry) → AreApart hand
-    → ((x : Entry) → Has x hand → x.address.0 ≡ e.address.0 → ⊥) → AreApart (hand ++ e ∷ [])
-apart_append [] e apart new = (λ x h is. h, tt)
-apart_append (y ∷ hand) e apart new = (
-  λ x h is. elim (has_split x hand (e ∷ []) h) [
-    | inl l ↦ apart.0 x l is
-    | inr r ↦ elim r [ inl same ↦ new y (inl refl) (sym is ∙ ap (λ (z : Entry). z.address.0) same) | inr none ↦ none ]
-  ],
-  apart_append hand e apart.1 (λ x h is. new x (inr h) is),
-)
+none_of : (o : Option Entry) → is_some o ≡ false → o ≡ None
+none_of None is = refl
+none_of (Some e) is = absurd (let bad : true ≡ false = is in cc)
 
 not_ok : {e : Evidence} {b : List Entry} {P : Type 0} → (let r : Result (List Entry) Evidence = Err e in r ≡ Ok b) → P
 not_ok {e} {b} {P} is = absurd (let bad : Err e ≡ Ok b = is in cc)
@@ -126,7 +94,8 @@ entry-apart levels leaf level slot entry hand joined is apart = both
         → (if b then (if c then Err (Doubled entry.address) else Ok (hand ++ entry ∷ [])) else Err
         (OffPath (bucket_of levels leaf level) slot)) ≡ Ok joined → AreApart joined
     both true true at is = not_ok is
-    both true false at is = subst AreApart (ok_is is) (apart_append hand entry apart (none_held hand entry.address at))
+    both true false at is = subst AreApart (ok_is is) (AreApart-append hand entry apart
+        (none_of (held hand entry.address) at))
     both false c at is = not_ok is
 
 slots-apart : (levels leaf level slot : ℕ) (slots : List (Option Entry)) (hand joined : List Entry)

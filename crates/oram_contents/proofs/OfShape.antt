@@ -1,11 +1,13 @@
 -- What is at hand stays of the shape.
-use Rattle.std.proofs.Common.{◌≡◌, Bool, true, false, if◌then◌else◌, List, [], ◌∷◌, ◌++◌, Option, Some, sym, subst}
+use Rattle.std.proofs.Common.{◌≡◌, List, [], ◌∷◌, ◌++◌, Option, Some, sym, subst}
 use Rattle.std.proofs.Common.{arith}
-use Rattle.std.proofs.lemmas.List.Elements.{All-cons, All-append, All-head, All-tail}
+use Rattle.std.proofs.lemmas.List.Elements.{All-cons, All-append}
 use Rattle.asc_base.specs.declared.block.Address.{Address}
 use Rattle.asc_base.specs.declared.block.Entry.{Entry}
 use Rattle.asc_base.specs.declared.shape.Shape.{Shape}
 use Rattle.bucket_codec.specs.Slot.{IsSlot, IsEntry, IsInRange}
+use Rattle.asc_base.proofs.Lookups.{without_first-has}
+use Rattle.asc_base.proofs.Members.{all_has, has_all}
 use Rattle.oram_stash.specs.Entries.{is_of, without}
 use Rattle.oram_contents.specs.Shapes.{AreOfShape}
 
@@ -30,12 +32,6 @@ slot_of_shape shape found old new entry is pushed fact all =
 pub without_of_shape : (shape : Shape) (entries : List Entry) (address : Address) → AreOfShape shape entries
     → AreOfShape shape (without entries address)
 unfolding without
-without_of_shape shape [] address all = all
-without_of_shape shape (entry ∷ entries) address all = both (is_of address entry)
-    (without_of_shape shape entries address (All-tail (IsOf shape) entry entries all))
-  where
-    both : (b : Bool) → AreOfShape shape (without entries address)
-        → AreOfShape shape (if b then entries else (entry ∷ without entries address))
-    both true next = All-tail (IsOf shape) entry entries all
-    both false next = All-cons (IsOf shape) entry (without entries address)
-        (All-head (IsOf shape) entry entries all) next
+without_of_shape shape entries address all =
+    has_all (IsOf shape) (without entries address)
+    (λ entry h. all_has (IsOf shape) entry entries all (without_first-has (is_of address) entries entry h))

@@ -11,7 +11,8 @@ use Rattle.bus_watch.specs.declared.log.Event.TheVariants.{Access, Drawn}
 use Rattle.oram_stash.specs.Entries.{without}
 use Rattle.posmap_counters.specs.Counters.{IsBefore}
 use Rattle.oram_contents.specs.Contents.{Contents, after_write}
-use Rattle.oram_contents.specs.Entries.{Has, Keys, AreKeys, real}
+use Rattle.oram_contents.specs.Entries.{Keys, AreKeys, real}
+use Rattle.asc_base.specs.Has.{Has}
 use Rattle.oram_contents.specs.Counts.{Ghost, line_at, IsAway}
 use Rattle.oram_contents.specs.Verdict.{line_found}
 use Rattle.oram_contents.specs.Forgery.{Forgery, LastDrawn}

@@ -1,13 +1,13 @@
 -- Where the rule puts entries.
-use Rattle.std.proofs.Common.{◌≡◌, ◌≤◌, ◌+◌, ℕ, inl, inr, Bool, true, false, List, [], ◌∷◌, length, All, Option, None}
-use Rattle.std.proofs.Common.{Some, count_by, refl, arith}
+use Rattle.std.proofs.Common.{◌≤◌, ℕ, inl, inr, List, [], ◌∷◌, length, All, Option, None}
+use Rattle.std.proofs.Common.{Some, arith}
 use Rattle.std.proofs.lemmas.Bool.Decides.{eqb_tells}
 use Rattle.std.proofs.lemmas.List.Elements.{All-cons}
 use Rattle.asc_base.specs.TreeShape.{shared_of}
 use Rattle.asc_base.specs.declared.block.Entry.{Entry}
-use Rattle.oram_stash.specs.Entries.{where_placed}
+use Rattle.path_evict.specs.Placed.{where_placed}
+use Rattle.path_evict.proofs.Placed.{length-where_placed}
 use Rattle.path_evict.specs.Placement.{Fits, stands_at}
-use Rattle.path_evict.proofs.Tally.{count_by-yes, count_by-no}
 use Rattle.path_evict.proofs.Room.{IsPlacement-eviction}
 use Rattle.oram_contents.specs.PathWritten.{depths_of, places_of}
 
@@ -31,23 +31,6 @@ pub placed_on_path : (levels leaf level : ℕ) (hand : List Entry)
     (where_placed (stands_at level) (places_of levels leaf hand) hand)
 placed_on_path levels leaf level hand = fits_on_path levels leaf level hand (places_of levels leaf hand)
     (IsPlacement-eviction (depths_of levels leaf hand) levels).fits
-
-length-where_placed : (test : Option ℕ → Bool) (places : List (Option ℕ)) (hand : List Entry)
-    → length (where_placed test places hand) ≤ count_by test places
-length-where_placed test [] hand = omega arith
-length-where_placed test (place ∷ places) [] = omega arith
-length-where_placed test (place ∷ places) (entry ∷ hand) = both (test place) refl (length-where_placed test places hand)
-  where
-    both : (b : Bool) → test place ≡ b → length (where_placed test places hand) ≤ count_by test places
-        → length (where_placed test (place ∷ places) (entry ∷ hand)) ≤ count_by test (place ∷ places)
-    both true is less =
-        let more : length (where_placed test (place ∷ places) (entry ∷ hand)) ≡ length
-        (where_placed test places hand) + 1 = rw is (omega arith) in
-        omega (arith, count_by-yes test place places is)
-    both false is less =
-        let same : length (where_placed test (place ∷ places) (entry ∷ hand)) ≡ length
-        (where_placed test places hand) = rw is refl in
-        omega (arith, count_by-no test place places is)
 
 pub placed_number : (levels leaf level : ℕ) (hand : List Entry)
     → length (where_placed (stands_at level) (places_of levels leaf hand) hand) ≤ 4

@@ -1,7 +1,7 @@
 -- What stands in a bucket after a path is written.
-use Rattle.std.proofs.Common.{◌≡◌, ◌<◌, ◌≤◌, ◌+◌, ◌-◌, ◌^◌, ◌⊎◌, inl, inr, ℕ, zero, suc, Bool, true, false}
-use Rattle.std.proofs.Common.{if◌then◌else◌, List, [], ◌∷◌, length, flat_map, get_or, slice_get}
-use Rattle.std.proofs.Common.{Option, Some, refl, sym, ◌∙◌, ap, subst, arith}
+use Rattle.std.proofs.Common.{◌≡◌, ◌<◌, ◌≤◌, ◌+◌, ◌-◌, ◌^◌, ◌⊎◌, inl, inr, ℕ, zero, suc}
+use Rattle.std.proofs.Common.{List, [], ◌∷◌, length, flat_map, get_or, slice_get}
+use Rattle.std.proofs.Common.{Some, refl, sym, ◌∙◌, ap, subst, arith}
 use Rattle.std.specs.Option.{option_to_list}
 use Rattle.std.proofs.lemmas.Bool.{cases_eq}
 use Rattle.std.proofs.lemmas.Option.{get_or_from_slice_get, unwrap_or-slice_get}
@@ -12,41 +12,18 @@ use Rattle.asc_base.proofs.Paths.{shared_iff, bucket_of-lt}
 use Rattle.asc_base.proofs.ShapeFacts.{IsLayered, shape_layered}
 use Rattle.bucket_codec.specs.Bucket.{bucket_text, opened}
 use Rattle.bucket_codec.specs.Slot.{IsEntry, IsInRange}
-use Rattle.oram_stash.specs.Entries.{where_placed}
+use Rattle.path_evict.specs.Placed.{where_placed}
 use Rattle.path_evict.specs.Placement.{stands_at}
 use Rattle.oram_contents.specs.Contents.{Contents, entries_of, after_write}
 use Rattle.oram_contents.specs.PathWritten.{places_of, four_slots, slots_at, sealed}
 use Rattle.oram_contents.specs.Shapes.{AreOfShape}
 use Rattle.oram_contents.proofs.ContentsLaws.{sealed-on, sealed-off, opened-sealed}
 use Rattle.oram_contents.proofs.PlacedLaws.{placed_on_path}
-use Rattle.oram_contents.specs.Entries.{Has, Keys, AreKeys, OnPath, entries_at}
-use Rattle.oram_contents.specs.Provenance.{AreApart}
-use Rattle.oram_contents.proofs.Among.{all_has}
-use Rattle.oram_contents.proofs.Joined.{has_flat_map, has_map}
-
-pub where_placed_has : (test : Option ℕ → Bool) (places : List (Option ℕ)) (hand : List Entry) (e : Entry)
-    → Has e (where_placed test places hand) → Has e hand
-where_placed_has test [] hand e h = absurd h
-where_placed_has test (place ∷ places) [] e h = absurd h
-where_placed_has test (place ∷ places) (x ∷ hand) e h = both (test place) h (where_placed_has test places hand e)
-  where
-    both : (b : Bool) → Has e (if b then (x ∷ where_placed test places hand) else where_placed test places hand)
-        → (Has e (where_placed test places hand) → Has e hand) → Has e (x ∷ hand)
-    both true (inl is) next = inl is
-    both true (inr h) next = inr (next h)
-    both false h next = inr (next h)
-
-pub where_placed_apart : (test : Option ℕ → Bool) (places : List (Option ℕ)) (hand : List Entry) → AreApart hand
-    → AreApart (where_placed test places hand)
-where_placed_apart test [] hand apart = tt
-where_placed_apart test (place ∷ places) [] apart = tt
-where_placed_apart test (place ∷ places) (x ∷ hand) apart = both (test place)
-    (where_placed_apart test places hand apart.1)
-  where
-    both : (b : Bool) → AreApart (where_placed test places hand)
-        → AreApart (if b then (x ∷ where_placed test places hand) else where_placed test places hand)
-    both true next = (λ y h is. apart.0 y (where_placed_has test places hand y h) is, next)
-    both false next = next
+use Rattle.oram_contents.specs.Entries.{Keys, AreKeys, OnPath, entries_at}
+use Rattle.asc_base.specs.Has.{Has}
+use Rattle.path_evict.proofs.Placed.{where_placed-has}
+use Rattle.asc_base.proofs.Members.{all_has}
+use Rattle.asc_base.proofs.Members.{has_flat_map, has_map}
 
 get_has : (entries : List Entry) (i : ℕ) (e : Entry) → Has e (option_to_list (slice_get entries i)) → Has e entries
 get_has [] i e h = absurd h
@@ -132,7 +109,7 @@ written_from keys lawful leaf now b e within of_shape mirrored some below h = by
         (λ r. Has e (entries_of r)) (ap (opened keys.pads keys.shape) bytes ∙ opens) h in
         let here = four_has (where_placed (stands_at level) (places_of keys.shape.levels leaf now.hand) now.hand) e
         slots in
-        let hand : Has e now.hand = where_placed_has (stands_at level)
+        let hand : Has e now.hand = where_placed-has (stands_at level)
         (places_of keys.shape.levels leaf now.hand) now.hand e here in
         let depth : level ≤ shared_of keys.shape.levels e.leaf.0 leaf = all_has
         (λ (x : Entry). level ≤ shared_of keys.shape.levels x.leaf.0 leaf) e _

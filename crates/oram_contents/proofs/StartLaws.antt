@@ -14,16 +14,19 @@ use Rattle.bucket_codec.proofs.Buckets.{opened_bucket}
 use Rattle.bus_watch.specs.declared.log.Event.TheVariants.{Access, Accepted}
 use Rattle.posmap_counters.specs.Counters.{first_counter}
 use Rattle.posmap_counters.specs.Digits.{digits}
+use Rattle.posmap_counters.specs.Families.{own_counts}
 use Rattle.posmap_counters.specs.Group.{line_of}
 use Rattle.oram_contents.specs.Contents.{entries_of}
-use Rattle.oram_contents.specs.Entries.{Has, Keys, real, message_of, entry_of, entries_in, entries_at}
-use Rattle.oram_contents.specs.Counts.{line_by, own_counts, zero_line}
+use Rattle.oram_contents.specs.Entries.{Keys, real, message_of, entry_of, entries_in, entries_at}
+use Rattle.asc_base.specs.Has.{Has}
+use Rattle.oram_contents.specs.Counts.{line_by, zero_line}
 use Rattle.oram_contents.specs.Forgery.{Forgery}
 use Rattle.oram_contents.specs.Home.{Home, total, copies, tree_copies}
 use Rattle.oram_contents.specs.Slots.{drawn_events}
 use Rattle.oram_contents.specs.Provenance.{Sound, Always}
 use Rattle.oram_contents.specs.Starts.{empty_log, first_ghost, first_contents, forged_log, unforged_log}
-use Rattle.oram_contents.proofs.Among.{has_right}
+use Rattle.asc_base.proofs.Members.{has_right}
+use Rattle.oram_stash.proofs.Apart.{AreApart-nil}
 
 zeros_same : (f : ℕ → ℕ) (n from : ℕ) → ((k : ℕ) → f k ≡ 0)
     → map f (range_with_len from n) ≡ map (λ k. 0) (range_with_len from n)
@@ -39,6 +42,7 @@ unfolding line_of digits zero_line
 zero_group = refl
 
 first_line : (first number : ℕ) → line_of 0 (own_counts (λ a. first_counter) first number) ≡ zero_line
+unfolding own_counts
 first_line first number = ap (line_of 0) (zeros_same (λ k.
     (if nat_lt k number then (let c : Counter = first_counter in c).own else 0)) 32 0 (λ k. no_own (nat_lt k number)))
     ∙ zero_group
@@ -100,7 +104,7 @@ start_sound keys = record {
 pub start_always : (keys : Keys) → Always keys empty_log (first_contents keys)
 start_always keys = record {
   placed = λ b e h. absurd (nothing_there keys b e h);
-  apart = tt;
+  apart = AreApart-nil;
   of_shape = λ k d less. absurd (omega arith);
   hand_came = λ e h. absurd h;
   tree_came = λ b e h. absurd (nothing_there keys b e h);

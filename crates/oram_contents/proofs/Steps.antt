@@ -15,14 +15,16 @@ use Rattle.bus_watch.specs.declared.log.Event.{Event}
 use Rattle.bus_watch.specs.declared.log.Event.TheVariants.{Drawn, Tagged}
 use Rattle.pmmac_tags.specs.Tag.{tag}
 use Rattle.posmap_counters.specs.Counters.{IsBefore, IsNotAfter, first_counter}
-use Rattle.posmap_counters.proofs.CounterLaws.{before_trans, not_after_trans, before_irreflexive}
+use Rattle.posmap_counters.proofs.Order.{before_trans, not_after_trans, before_irreflexive}
 use Rattle.oram_contents.specs.Contents.{Contents}
-use Rattle.oram_contents.specs.Entries.{Has, Keys, AreKeys, real, message_of, entry_of, entries_at, OnPath}
+use Rattle.oram_contents.specs.Entries.{Keys, AreKeys, real, message_of, entry_of, entries_at, OnPath}
+use Rattle.asc_base.specs.Has.{Has}
 use Rattle.oram_contents.specs.Counts.{Ghost, line_at, zero_line, IsAway, put_at}
 use Rattle.oram_contents.specs.Provenance.{FromOutside, Came, Genuine, Known, message_in, Untagged, AtMostOnce, OffOpen}
 use Rattle.oram_contents.specs.Provenance.{Sound}
 use Rattle.oram_contents.specs.Steps.{Adds, raised, landed}
-use Rattle.oram_contents.proofs.Among.{has_left, has_split, has_last, has_new, tagged_same, once_append}
+use Rattle.oram_contents.proofs.Among.{tagged_same, once_append}
+use Rattle.asc_base.proofs.Members.{has_left, has_split, has_last, has_new}
 use Rattle.oram_contents.proofs.Among.{once_none}
 use Rattle.oram_contents.proofs.Lines.{put_same, put_other, line_same}
 

@@ -9,7 +9,8 @@ use Rattle.bus_watch.specs.Log.{LogLists}
 use Rattle.bus_watch.specs.declared.log.Event.TheVariants.{Tagged}
 use Rattle.posmap_counters.specs.Counters.{IsBefore}
 use Rattle.oram_contents.specs.Contents.{Contents}
-use Rattle.oram_contents.specs.Entries.{Has, Keys, AreKeys, real, message_of}
+use Rattle.oram_contents.specs.Entries.{Keys, AreKeys, real, message_of}
+use Rattle.asc_base.specs.Has.{Has}
 use Rattle.oram_contents.specs.Counts.{Ghost, line_at, line_by, put_at}
 use Rattle.oram_contents.specs.Verdict.{line_found}
 use Rattle.oram_contents.specs.Forgery.{Forgery}

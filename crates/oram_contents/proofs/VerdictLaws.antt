@@ -15,7 +15,8 @@ use Rattle.bus_watch.specs.declared.log.Altered.{Altered}
 use Rattle.bus_watch.specs.declared.log.Event.{Event}
 use Rattle.bus_watch.specs.declared.log.Event.TheVariants.{Access, Drawn, Tagged, Accepted, Chosen, Answered}
 use Rattle.oram_contents.specs.Contents.{Contents}
-use Rattle.oram_contents.specs.Entries.{Has, Keys}
+use Rattle.oram_contents.specs.Entries.{Keys}
+use Rattle.asc_base.specs.Has.{Has}
 use Rattle.oram_contents.specs.Fold.{Fold, settle, hand_after, is_open_for}
 use Rattle.oram_contents.specs.Fold.{joined_by, after_event, fold_events, whole}
 use Rattle.oram_contents.specs.PathRead.{replies, path_read}

@@ -1,5 +1,5 @@
 -- Blocks, their points, messages and entries under the keys of one memory; and where entries stand.
-use Rattle.std.specs.Prelude.{◌≡◌, ◌≤◌, ◌<◌, ◌^◌, ◌⊎◌, ℕ, List, [], ◌∷◌, slice_index_or}
+use Rattle.std.specs.Prelude.{◌≡◌, ◌≤◌, ◌<◌, ◌^◌, ℕ, List, [], slice_index_or}
 use Rattle.asc_base.specs.Shape.{IsShape}
 use Rattle.asc_base.specs.TreeShape.{bucket_of}
 use Rattle.asc_base.specs.declared.block.Counter.{Counter}
@@ -11,11 +11,6 @@ use Rattle.asc_base.specs.declared.shape.Shape.{Shape}
 use Rattle.bucket_codec.specs.Bucket.{opened}
 use Rattle.pmmac_tags.specs.Tag.{tag}
 use Rattle.oram_contents.specs.Contents.{entries_of}
-
--- x is an item of the list
-abbrev pub Has : {A : Type 0} → A → List A → Type 0
-Has x [] = ⊥
-Has x (y ∷ ys) = (x ≡ y) ⊎ Has x ys
 
 -- the shape of a memory, the keys of its pads and tags, and its leaf function
 pub record Keys : Type 0 where

@@ -9,11 +9,13 @@ use Rattle.bus_watch.specs.Log.{LogLists}
 use Rattle.bus_watch.specs.declared.log.Altered.{Altered}
 use Rattle.bus_watch.specs.declared.log.Event.{Event}
 use Rattle.bus_watch.specs.declared.log.Event.TheVariants.{Drawn, Tagged}
+use Rattle.oram_stash.specs.Entries.{AreApart}
 use Rattle.pmmac_tags.specs.Tag.{tag}
 use Rattle.posmap_counters.specs.Counters.{IsBefore, IsNotAfter, first_counter}
 use Rattle.oram_contents.specs.Contents.{Contents}
 use Rattle.oram_contents.specs.Shapes.{AreOfShape}
-use Rattle.oram_contents.specs.Entries.{Has, Keys, real, message_of, entries_at, OnPath}
+use Rattle.oram_contents.specs.Entries.{Keys, real, message_of, entries_at, OnPath}
+use Rattle.asc_base.specs.Has.{Has}
 use Rattle.oram_contents.specs.Counts.{Ghost, line_at, zero_line, IsAway}
 use Rattle.oram_contents.specs.Forgery.{Stood}
 
@@ -78,11 +80,6 @@ pub record Sound (keys : Keys) (log : LogLists) (g : Ghost) (now : Contents) : T
   -- S8
   pub in_tree : (bucket : ℕ) (e : Entry) → OffOpen keys.shape.levels g.path bucket
       → Has e (entries_at keys now.mirror bucket) → Known keys log g.count e
-
--- addresses differ
-abbrev pub AreApart : List Entry → Type 0
-AreApart [] = Unit {0}
-AreApart (e ∷ later) = ((x : Entry) → Has x later → x.address.0 ≡ e.address.0 → ⊥) × AreApart later
 
 -- What holds whatever was altered.
 pub record Always (keys : Keys) (log : LogLists) (now : Contents) : Type 0 where
