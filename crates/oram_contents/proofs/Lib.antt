@@ -17,6 +17,7 @@ pub mod VerdictLaws
 pub mod Ends
 pub mod Passes
 pub mod GroupLaws
+pub mod SmallLaws
 pub mod HomeLaws
 pub mod HomeSteps
 pub mod StartLaws

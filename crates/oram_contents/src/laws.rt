@@ -1,6 +1,6 @@
 //! Laws of contents and of the invariant. The functions do nothing: each states a law in its contract.
 
-ghost use Rattle.std.specs.Prelude.{IsTrue, ◌↔◌, true, count_by, ◌==◌, ◌*◌, ◌≡◌, ◌<◌, ◌≤◌, ◌+◌, ◌%◌, ◌^◌, ◌⊎◌, ℕ, suc, false, List, [], ◌∷◌, ◌++◌, length, All, replicate, slice_index, slice_set, Option, None, Some};
+ghost use Rattle.std.specs.Prelude.{IsTrue, ◌↔◌, true, count_by, ◌==◌, ◌*◌, ◌≡◌, ◌<◌, ◌≤◌, ◌+◌, ◌-◌, ◌%◌, ◌^◌, ◌⊎◌, ℕ, suc, false, List, [], ◌∷◌, ◌++◌, length, All, replicate, slice_index, slice_set, Option, None, Some};
 ghost use Rattle.asc_base.specs.Shape.{IsShape};
 ghost use Rattle.asc_base.specs.TreeShape.{parent_of, children_of};
 ghost use Rattle.asc_base.specs.declared.block.Counter.{Counter};
@@ -20,7 +20,7 @@ ghost use Rattle.oram_contents.specs.Contents.{Contents, after_write, IsReadTo};
 ghost use Rattle.oram_contents.specs.Entries.{Keys, AreKeys, real, entry_of};
 ghost use Rattle.asc_base.specs.Has.{Has};
 ghost use Rattle.oram_contents.specs.Counts.{Ghost, IsAway, line_at, put_at};
-ghost use Rattle.oram_contents.specs.Groups.{IsGroupOf, AreCounters, moved_of};
+ghost use Rattle.oram_contents.specs.Groups.{IsGroupOf, AreCounters, AreSmall, moved_of};
 ghost use Rattle.oram_contents.specs.Home.{Home, AreInForm, flying};
 ghost use Rattle.oram_contents.specs.Fold.{Fold, IsCut, LogEnd, Whole, with_entry, is_open_for, fold_events, whole, contents_of_log};
 ghost use Rattle.bus_watch.specs.Path.{along, reads, reads_end, slot_moves};
@@ -32,7 +32,7 @@ ghost use Rattle.asc_base.specs.declared.block.Line.{Line};
 ghost use Rattle.oram_contents.specs.PathRead.{path_read, replies};
 ghost use Rattle.oram_contents.specs.Verdict.{judged, line_found, first_of, append_verdict, log_verdict, note_events};
 ghost use Rattle.oram_contents.specs.Verdict.{put_events, IsOfPoint, slot_verdict};
-ghost use Rattle.oram_contents.specs.Decided.{shows_forgery};
+ghost use Rattle.oram_contents.specs.Decided.{draws, shows_forgery};
 ghost use Rattle.oram_contents.specs.Forgery.{Forgery, LastDrawn};
 ghost use Rattle.oram_contents.specs.Provenance.{Sound, Always};
 ghost use Rattle.oram_contents.specs.Steps.{Adds, opened_at, raised, taken, stored, landed, closed, inserted};
@@ -282,6 +282,22 @@ pub fn counters_keep_room()
         → c.group ≡ (g.count a).group)
         → ((p : ℕ) → moved_of move p ≡ 0 → moved_of g.move p ≡ 0)
         → AreCounters shape g → AreCounters shape (record g { count = put_at g.count a c; move = move }) }
+{}
+
+/// Counters stay small: from the start on, however the log goes on, and where a counter changes within its room. So while
+/// fewer than 2 ^ 28 points are drawn no group count wraps, and each own count fits its place in a line.
+pub fn counters_stay_small()
+    ensures start { (shape : Shape) (ic : ℕ) → AreSmall shape ic empty_log (λ a. first_counter) }
+    ensures grown { (shape : Shape) (ic : ℕ) (old new : LogLists) (events : List Event) (altered : List Altered)
+        (count : ℕ → Counter) → Adds old new events altered → AreSmall shape ic old count
+        → AreSmall shape ic new count }
+    ensures changed { (shape : Shape) (ic : ℕ) (log : LogLists) (count : ℕ → Counter) (a : ℕ) (c : Counter)
+        → (parent_of shape.lines shape.layers a ≡ None → c.own ≡ 0) → c.own ≤ 2 ^ ic - 1
+        → c.group + c.own ≤ count_by draws log.events → AreSmall shape ic log count
+        → AreSmall shape ic log (put_at count a c) }
+    ensures fits { (shape : Shape) (ic : ℕ) (log : LogLists) (count : ℕ → Counter) → ic ≤ 14
+        → count_by draws log.events < 2 ^ 28 → AreSmall shape ic log count → (a : ℕ) → a < shape.total
+        → ((count a).group < 2 ^ 28) × ((count a).own < 16384) }
 {}
 
 /// A data line whose counter is on top is stored, dummies pass, and it is accessed again: what is found is what was
