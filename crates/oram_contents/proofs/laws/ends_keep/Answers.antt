@@ -1,0 +1,14 @@
+use Rattle.oram_contents.proofs.Ends.{whole_ends, sound_ends, always_ends, forgery_ends}
+use Rattle.oram_contents.proofs.laws.ends_keep.Goals as goal
+
+pub returns-clause-contents : goal.returns-clause-contents
+returns-clause-contents c = whole_ends
+
+pub returns-clause-sound : goal.returns-clause-sound
+returns-clause-sound c = sound_ends
+
+pub returns-clause-always : goal.returns-clause-always
+returns-clause-always c = always_ends
+
+pub returns-clause-forgery : goal.returns-clause-forgery
+returns-clause-forgery c = forgery_ends

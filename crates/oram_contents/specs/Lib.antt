@@ -1,0 +1,17 @@
+pub mod Shapes
+pub mod PathRead
+pub mod PathWritten
+pub mod Copies
+pub mod Contents
+pub mod Entries
+pub mod Counts
+pub mod Fold
+pub mod Verdict
+pub mod Forgery
+pub mod Decided
+pub mod Provenance
+pub mod Groups
+pub mod Home
+pub mod Steps
+pub mod Slots
+pub mod Starts

@@ -1,0 +1,99 @@
+-- The invariant behind refinement or forgery: where each entry at hand and in the tree comes from.
+use Rattle.std.specs.Prelude.{◌≡◌, ◌<◌, ◌≤◌, ◌⊎◌, ℕ, List, [], ◌∷◌, length, Option, None, Some}
+use Rattle.asc_base.specs.declared.block.Counter.{Counter}
+use Rattle.asc_base.specs.declared.block.Entry.{Entry}
+use Rattle.asc_base.specs.declared.block.Leaf.{Leaf}
+use Rattle.asc_base.specs.declared.block.Message.{Message}
+use Rattle.asc_base.specs.declared.block.Point.TheVariants.{Dummy}
+use Rattle.bus_watch.specs.Log.{LogLists}
+use Rattle.bus_watch.specs.declared.log.Altered.{Altered}
+use Rattle.bus_watch.specs.declared.log.Event.{Event}
+use Rattle.bus_watch.specs.declared.log.Event.TheVariants.{Drawn, Tagged}
+use Rattle.oram_stash.specs.Entries.{AreApart}
+use Rattle.pmmac_tags.specs.Tag.{tag}
+use Rattle.posmap_counters.specs.Counters.{IsBefore, IsNotAfter, first_counter}
+use Rattle.oram_contents.specs.Contents.{Contents}
+use Rattle.oram_contents.specs.Shapes.{AreOfShape}
+use Rattle.oram_contents.specs.Entries.{Keys, real, message_of, entries_at, OnPath}
+use Rattle.asc_base.specs.Has.{Has}
+use Rattle.oram_contents.specs.Counts.{Ghost, line_at, zero_line, IsAway}
+use Rattle.oram_contents.specs.Forgery.{Stood}
+
+-- it came by an altered reply
+abbrev pub FromOutside : Keys → LogLists → Entry → Type 0
+FromOutside keys log e = (reply : Altered) × Has reply log.altered × Stood keys reply e.address.0 e.line.0 e.tag
+
+-- It stood in an altered reply, or a message with its address, line and tag was noted as tagged.
+abbrev pub Came : Keys → LogLists → Entry → Type 0
+Came keys log e = FromOutside keys log e
+    ⊎ ((m : Message) × Has (Tagged m) log.events × (m.address.0 ≡ e.address.0) × (m.line.0 ≡ e.line.0)
+    × (tag keys.tags m ≡ e.tag))
+
+-- the message that an entry is of, under a counter
+abbrev pub message_in : Entry → Counter → Message
+message_in e c = message_of e.address.0 c e.line.0
+
+-- it was tagged under the counter that its block now has, and its leaf is that counter's
+pub record Genuine (keys : Keys) (log : LogLists) (count : ℕ → Counter) (e : Entry) : Type 0 where
+  pub tagged : Has (Tagged (message_in e (count e.address.0))) log.events
+  pub tag_is : e.tag ≡ tag keys.tags (message_in e (count e.address.0))
+  pub leaf : e.leaf.0 ≡ keys.leaf_of (real e.address.0 (count e.address.0))
+
+abbrev pub Known : Keys → LogLists → (ℕ → Counter) → Entry → Type 0
+Known keys log count e = FromOutside keys log e ⊎ Genuine keys log count e
+
+-- no message of this block was tagged under this counter
+abbrev pub Untagged : List Event → ℕ → Counter → Type 0
+Untagged events a c = (m : Message) → Has (Tagged m) events → m.address.0 ≡ a → m.counter ≡ c → ⊥
+
+-- each block is tagged at most once under each counter
+abbrev pub AtMostOnce : List Event → Type 0
+AtMostOnce [] = Unit {0}
+AtMostOnce (e ∷ later) = ((m : Message) → e ≡ Tagged m → Untagged later m.address.0 m.counter) × AtMostOnce later
+
+-- the bucket isn't on the open path, which is about to be written anew
+abbrev pub OffOpen : ℕ → Option ℕ → ℕ → Type 0
+OffOpen levels None bucket = Unit {0}
+OffOpen levels (Some leaf) bucket = OnPath levels leaf bucket → ⊥
+
+-- Beside a log, what blocks there are, and the contents.
+pub record Sound (keys : Keys) (log : LogLists) (g : Ghost) (now : Contents) : Type 0 where
+  -- S1: what is tagged is of a block of the shape, under a counter that the block has or had
+  pub fresh : (m : Message) → Has (Tagged m) log.events
+      → (m.address.0 < keys.shape.total) × IsBefore first_counter m.counter × IsNotAfter m.counter (g.count m.address.0)
+  -- S2: under its block's counter, the block's line
+  pub last : (m : Message) → Has (Tagged m) log.events → m.counter ≡ g.count m.address.0
+      → m.line.0 ≡ line_at keys.shape g m.address.0
+  -- S3
+  pub once : AtMostOnce log.events
+  -- S4: a block that was never accessed is zeros
+  pub blank : (a : ℕ) → a < keys.shape.total → g.count a ≡ first_counter → line_at keys.shape g a ≡ zero_line
+  -- S5: a drawn point is past, or its slot is open
+  pub drawn : (a : ℕ) (c : Counter) (x : Leaf) → Has (Drawn (real a c) x) log.events
+      → IsBefore c (g.count a) ⊎ ((g.pend ≡ Some a) × (c ≡ g.count a))
+  pub dummies : (n : ℕ) (x : Leaf) → Has (Drawn (Dummy n) x) log.events → n < g.dummies
+  -- S6: a block on chip was accessed, and isn't tagged under its counter
+  pub away : (a : ℕ) → IsAway g a
+      → (a < keys.shape.total) × IsBefore first_counter (g.count a) × Untagged log.events a (g.count a)
+  -- S7
+  pub at_hand : (e : Entry) → Has e now.hand → Known keys log g.count e
+  -- S8
+  pub in_tree : (bucket : ℕ) (e : Entry) → OffOpen keys.shape.levels g.path bucket
+      → Has e (entries_at keys now.mirror bucket) → Known keys log g.count e
+
+-- What holds whatever was altered.
+pub record Always (keys : Keys) (log : LogLists) (now : Contents) : Type 0 where
+  -- A1: each entry stands on the path of its leaf
+  pub placed : (bucket : ℕ) (e : Entry) → Has e (entries_at keys now.mirror bucket)
+      → OnPath keys.shape.levels e.leaf.0 bucket
+  -- A2
+  pub apart : AreApart now.hand
+  pub of_shape : AreOfShape keys.shape now.hand
+  -- A3: what stands at hand or in the tree was tagged, or stood in an altered reply
+  pub hand_came : (e : Entry) → Has e now.hand → Came keys log e
+  pub tree_came : (bucket : ℕ) (e : Entry) → Has e (entries_at keys now.mirror bucket) → Came keys log e
+  -- A4: an altered reply was noted when it was
+  pub past : (reply : Altered) → Has reply log.altered → reply.before ≤ length log.events
+  -- there are the shape's buckets, and seeds from 1 on
+  pub mirrored : length now.mirror ≡ keys.shape.buckets
+  pub seeds : 0 < now.seed

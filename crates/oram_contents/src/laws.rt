@@ -1,0 +1,314 @@
+//! Laws of contents and of the invariant. The functions do nothing: each states a law in its contract.
+
+ghost use Rattle.std.specs.Prelude.{IsTrue, ◌↔◌, true, count_by, ◌==◌, ◌*◌, ◌≡◌, ◌<◌, ◌≤◌, ◌+◌, ◌-◌, ◌%◌, ◌^◌, ◌⊎◌, ℕ, suc, false, List, [], ◌∷◌, ◌++◌, length, All, replicate, slice_index, slice_set, Option, None, Some};
+ghost use Rattle.asc_base.specs.Shape.{IsShape};
+ghost use Rattle.asc_base.specs.TreeShape.{parent_of, children_of};
+ghost use Rattle.asc_base.specs.declared.block.Counter.{Counter};
+ghost use Rattle.asc_base.specs.declared.block.Entry.{Entry};
+ghost use Rattle.asc_base.specs.declared.block.Message.{Message};
+ghost use Rattle.asc_base.specs.declared.block.Point.{Point};
+ghost use Rattle.bus_watch.specs.Log.{LogLists};
+ghost use Rattle.bus_watch.specs.declared.log.Altered.{Altered};
+ghost use Rattle.bus_watch.specs.declared.log.Event.{Event};
+ghost use Rattle.bus_watch.specs.declared.log.Move.{Move};
+ghost use Rattle.bus_watch.specs.declared.log.Event.TheVariants.{Tagged, Answered};
+ghost use Rattle.oram_stash.specs.Entries.{without};
+ghost use Rattle.asc_base.specs.declared.shape.Shape.{Shape};
+ghost use Rattle.posmap_counters.specs.Counters.{IsBefore, first_counter, next_group, next_own};
+ghost use Rattle.posmap_counters.specs.Group.{group_of, own_of};
+ghost use Rattle.oram_contents.specs.Contents.{Contents, after_write, IsReadTo};
+ghost use Rattle.oram_contents.specs.Entries.{Keys, AreKeys, real, entry_of};
+ghost use Rattle.asc_base.specs.Has.{Has};
+ghost use Rattle.oram_contents.specs.Counts.{Ghost, IsAway, line_at, put_at};
+ghost use Rattle.oram_contents.specs.Groups.{IsGroupOf, AreCounters, AreSmall, moved_of};
+ghost use Rattle.oram_contents.specs.Home.{Home, AreInForm, flying};
+ghost use Rattle.oram_contents.specs.Fold.{Fold, IsCut, LogEnd, Whole, with_entry, is_open_for, fold_events, whole, contents_of_log};
+ghost use Rattle.bus_watch.specs.Path.{along, reads, reads_end, slot_moves};
+ghost use Rattle.oram_contents.specs.PathWritten.{sealed};
+ghost use Rattle.oram_stash.specs.Entries.{held};
+ghost use Rattle.oram_contents.specs.Shapes.{AreOfShape};
+ghost use Rattle.asc_base.specs.TreeShape.{layer_first};
+ghost use Rattle.asc_base.specs.declared.block.Line.{Line};
+ghost use Rattle.oram_contents.specs.PathRead.{path_read, replies};
+ghost use Rattle.oram_contents.specs.Verdict.{judged, line_found, first_of, append_verdict, log_verdict, note_events};
+ghost use Rattle.oram_contents.specs.Verdict.{put_events, IsOfPoint, slot_verdict};
+ghost use Rattle.oram_contents.specs.Decided.{draws, shows_forgery};
+ghost use Rattle.oram_contents.specs.Forgery.{Forgery, LastDrawn};
+ghost use Rattle.oram_contents.specs.Provenance.{Sound, Always};
+ghost use Rattle.oram_contents.specs.Steps.{Adds, opened_at, raised, taken, stored, landed, closed, inserted};
+ghost use Rattle.oram_contents.specs.Starts.{empty_log, first_ghost, first_contents, forged_log, unforged_log};
+ghost use Rattle.bucket_codec.specs.Slot.{IsEntry, IsInRange};
+ghost use Rattle.oram_contents.specs.Slots.{drawn_events, MayDraw, IsRead, IsFound, MayRise, IsPut, HasSeeds, IsAccess, IsRefill};
+ghost use Rattle.oram_contents.specs.Slots.{IsPass, IsEnd, ArePasses, IsBetween, done, refilled, passed_by};
+
+/// The contents of a log that a slot lengthens are the slot's step on the contents before.
+pub fn slots_step_contents()
+    ensures access { (keys : Keys) (first : Fold) (old new : LogLists) (now after : Contents) (start a : ℕ)
+        (c d : Counter) (found : Option Entry) (l : List ℕ)
+        → ((reply : Altered) → Has reply old.altered → reply.before ≤ length old.events)
+        → whole keys first old ≡ now → IsAccess keys old new now after start a c d found l
+        → whole keys first new ≡ after }
+    ensures refill { (keys : Keys) (first : Fold) (old new : LogLists) (now after : Contents) (start a : ℕ)
+        (c : Counter) (found : Option Entry)
+        → ((reply : Altered) → Has reply old.altered → reply.before ≤ length old.events)
+        → whole keys first old ≡ now → IsRefill keys old new now after start a c found
+        → (whole keys first new ≡ after) × ((fold_events keys new.altered 0 new.events first).path
+        ≡ Some (real a c, keys.leaf_of (real a c))) }
+    ensures pass { (keys : Keys) (first : Fold) (old new : LogLists) (now after : Contents) (start n : ℕ)
+        → ((reply : Altered) → Has reply old.altered → reply.before ≤ length old.events)
+        → whole keys first old ≡ now → IsPass keys old new now after start n → whole keys first new ≡ after }
+    ensures append { (keys : Keys) (first : Fold) (old new : LogLists) (now : Contents) (m : Message)
+        → whole keys first old ≡ now
+        → is_open_for m (fold_events keys old.altered 0 old.events first).path ≡ false
+        → new.events ≡ old.events ++ Tagged m ∷ [] → new.altered ≡ old.altered
+        → whole keys first new ≡ with_entry now (entry_of keys m.address.0 m.counter m.line.0) }
+{}
+
+/// The verdict on a log that a slot, an append, a slot's end or an answer lengthens: that before, and else that of the slot
+/// or the append.
+pub fn verdicts_are_the_first()
+    ensures slot { (keys : Keys) (stash : ℕ) (first : Fold) (old new : LogLists) (start : ℕ) (asked : Option ℕ) (p : Point)
+        (note : Option (Message × List ℕ)) (put : Option Message) (extra : List Altered)
+        → ((reply : Altered) → Has reply old.altered → reply.before ≤ length old.events)
+        → new.events ≡ old.events ++ (drawn_events keys start asked p ++ (note_events note ++ put_events put))
+        → new.altered ≡ old.altered ++ extra
+        → All (λ (reply : Altered). reply.before ≡ length old.events + 2) extra → IsOfPoint put p
+        → log_verdict keys stash first new ≡ first_of (log_verdict keys stash first old)
+        (slot_verdict keys stash p (keys.leaf_of p) (path_read keys.pads keys.shape (keys.leaf_of p)
+        (replies keys.shape.levels start (keys.leaf_of p) (whole keys first old).mirror extra) (whole keys first old).hand) put) }
+    ensures append { (keys : Keys) (stash : ℕ) (first : Fold) (old new : LogLists) (m : Message)
+        → is_open_for m (fold_events keys old.altered 0 old.events first).path ≡ false
+        → new.events ≡ old.events ++ Tagged m ∷ [] → new.altered ≡ old.altered
+        → log_verdict keys stash first new
+        ≡ first_of (log_verdict keys stash first old) (append_verdict stash m.address (whole keys first old).hand) }
+    ensures ended { (keys : Keys) (stash : ℕ) (first : Fold) (old new : LogLists) → IsEnd old new
+        → log_verdict keys stash first new ≡ log_verdict keys stash first old }
+    ensures answered { (keys : Keys) (stash : ℕ) (first : Fold) (old new : LogLists) (line : ℕ) (value : Line)
+        → new.events ≡ old.events ++ Answered line value ∷ [] → new.altered ≡ old.altered
+        → log_verdict keys stash first new ≡ log_verdict keys stash first old }
+{}
+
+/// A forgery stays one however the log goes on.
+pub fn forgeries_stay()
+    ensures { (keys : Keys) (old new : LogLists) (events : List Event) (altered : List Altered)
+        → Adds old new events altered → Forgery keys old → Forgery keys new }
+{}
+
+/// Whether a log shows a forgery is a test of its lists.
+pub fn forgeries_are_decided()
+    ensures { (keys : Keys) (log : LogLists) → IsTrue (shows_forgery keys log) ↔ Forgery keys log }
+{}
+
+/// A path read keeps the invariant.
+pub fn reads_keep()
+    ensures sound { (keys : Keys) (old new : LogLists) (g : Ghost) (now : Contents) (start : ℕ) (p : Point)
+        (joined : List Entry) → IsRead keys old new now start p joined → g.path ≡ None → MayDraw g p
+        → Sound keys old g now → Sound keys new (opened_at g p (keys.leaf_of p)) (record now { hand = joined }) }
+    ensures always { (keys : Keys) (old new : LogLists) (g : Ghost) (now : Contents) (start : ℕ) (p : Point)
+        (joined : List Entry) → IsRead keys old new now start p joined
+        → Always keys old now → Always keys new (record now { hand = joined }) }
+{}
+
+/// An access after which the block is put back: the invariant is kept, and what was found has the block's line, or the log
+/// shows a forgery.
+pub fn accesses_keep()
+    ensures sound { (keys : Keys) → AreKeys keys → (old new : LogLists) (g : Ghost) (now after : Contents) (start a : ℕ)
+        (c : Counter) (found : Option Entry) (l : List ℕ)
+        → IsAccess keys old new now after start a (g.count a) c found l
+        → IsBetween g → g.pend ≡ Some a → MayRise keys g a c → (Has a g.held → ⊥)
+        → l ≡ line_at keys.shape (done g a c l) a → length l ≡ 64 → HasSeeds now
+        → Always keys old now → Sound keys old g now
+        → Forgery keys new ⊎ (Sound keys new (done g a c l) after × (line_found found ≡ line_at keys.shape g a)) }
+    ensures always { (keys : Keys) → AreKeys keys → (old new : LogLists) (g : Ghost) (now after : Contents) (start a : ℕ)
+        (c : Counter) (found : Option Entry) (l : List ℕ)
+        → IsAccess keys old new now after start a (g.count a) c found l
+        → a < keys.shape.total → length l ≡ 64 → HasSeeds now → Always keys old now → Always keys new after }
+{}
+
+/// The same for a refill, after which the block is in flight.
+pub fn refills_keep()
+    ensures sound { (keys : Keys) → AreKeys keys → (old new : LogLists) (g : Ghost) (now after : Contents) (start a : ℕ)
+        (c : Counter) (found : Option Entry) → IsRefill keys old new now after start a (g.count a) found
+        → g.path ≡ None → g.pend ≡ Some a → MayRise keys g a c → HasSeeds now
+        → Always keys old now → Sound keys old g now
+        → Forgery keys new ⊎ (Sound keys new (refilled g a c) after × (line_found found ≡ line_at keys.shape g a)) }
+    ensures always { (keys : Keys) → AreKeys keys → (old new : LogLists) (g : Ghost) (now after : Contents) (start a : ℕ)
+        (c : Counter) (found : Option Entry) → IsRefill keys old new now after start a (g.count a) found
+        → HasSeeds now → Always keys old now → Always keys new after }
+{}
+
+/// A slot's end, with a choice or without, changes neither contents nor what is known of them.
+pub fn ends_keep()
+    ensures contents { (keys : Keys) (first : Fold) (old new : LogLists) → IsEnd old new
+        → whole keys first new ≡ whole keys first old }
+    ensures sound { (keys : Keys) (old new : LogLists) (g : Ghost) (now : Contents) → IsEnd old new
+        → Sound keys old g now → Sound keys new g now }
+    ensures always { (keys : Keys) (old new : LogLists) (now : Contents) → IsEnd old new
+        → Always keys old now → Always keys new now }
+    ensures forgery { (keys : Keys) (old new : LogLists) → IsEnd old new → Forgery keys old → Forgery keys new }
+{}
+
+/// Dummies, however many, each with the choice at its end where one falls, keep what is known, whichever block waits for its
+/// slot or is in flight.
+pub fn dummies_keep()
+    ensures contents { (keys : Keys) → AreKeys keys → (k : ℕ) (first : Fold) (old new : LogLists) (g : Ghost)
+        (now after : Contents) (n : ℕ) → ArePasses keys k old new now after n
+        → Always keys old now → whole keys first old ≡ now → Always keys new after × (whole keys first new ≡ after) }
+    ensures sound { (keys : Keys) → AreKeys keys → (k : ℕ) (old new : LogLists) (g : Ghost) (now after : Contents) (n : ℕ)
+        → ArePasses keys k old new now after n → g.path ≡ None → n ≡ g.dummies
+        → Always keys old now → Sound keys old g now
+        → Always keys new after × Sound keys new (passed_by k g) after }
+    ensures home { (keys : Keys) → AreKeys keys → (k : ℕ) (old new : LogLists) (g : Ghost) (now after : Contents) (n : ℕ)
+        → ArePasses keys k old new now after n → new.altered ≡ [] → g.path ≡ None
+        → Always keys old now → Home keys g now → Always keys new after × Home keys (passed_by k g) after }
+{}
+
+/// Between slots: the block in flight is held, or put at hand; a held one is renumbered.
+pub fn changes_between_keep()
+    ensures inserted { (keys : Keys) → AreKeys keys → (log : LogLists) (g : Ghost) (now : Contents) (plb a : ℕ)
+        → g.flight ≡ Some a → Sound keys log g now → Sound keys log (inserted g plb a) now }
+    ensures appended { (keys : Keys) (old new : LogLists) (g : Ghost) (now after : Contents) (a : ℕ) (l : List ℕ)
+        → g.flight ≡ Some a → (Has a g.held → ⊥) → l ≡ line_at keys.shape g a
+        → IsPut keys old new now after a (g.count a) l → Sound keys old g now → Sound keys new (landed g) after }
+    ensures renumbered { (keys : Keys) → AreKeys keys → (log : LogLists) (g : Ghost) (now : Contents) (a : ℕ) (c : Counter)
+        → IsAway g a → IsBefore (g.count a) c
+        → ((p : ℕ) → parent_of keys.shape.lines keys.shape.layers a ≡ Some p → IsAway g p)
+        → Sound keys log g now → Sound keys log (raised g a c g.pend) now }
+{}
+
+/// Where no reply is altered each block that was accessed has one place, and every other block has none.
+pub fn blocks_are_home()
+    ensures access { (keys : Keys) → AreKeys keys → (old new : LogLists) (g : Ghost) (now after : Contents)
+        (start a : ℕ) (c : Counter) (found : Option Entry) (l : List ℕ)
+        → IsAccess keys old new now after start a (g.count a) c found l → new.altered ≡ []
+        → g.path ≡ None → g.flight ≡ None → a < keys.shape.total → length l ≡ 64 → IsBefore (g.count a) c → HasSeeds now
+        → Always keys old now → Home keys g now → Home keys (done g a c l) after }
+    ensures refill { (keys : Keys) → AreKeys keys → (old new : LogLists) (g : Ghost) (now after : Contents)
+        (start a : ℕ) (c : Counter) (found : Option Entry)
+        → IsRefill keys old new now after start a (g.count a) found → new.altered ≡ []
+        → g.path ≡ None → g.flight ≡ None → IsBefore (g.count a) c → HasSeeds now
+        → Always keys old now → Home keys g now → Home keys (refilled g a c) after }
+    ensures inserted { (keys : Keys) (g : Ghost) (now : Contents) (plb a : ℕ) → g.flight ≡ Some a
+        → length g.held ≤ plb → Home keys g now → Home keys (inserted g plb a) now }
+    ensures appended { (keys : Keys) (g : Ghost) (now : Contents) (a : ℕ) (e : Entry) → e.address.0 ≡ a
+        → g.flight ≡ Some a → Home keys g now → Home keys (landed g) (with_entry now e) }
+    ensures renumbered { (keys : Keys) (g : Ghost) (now : Contents) (a : ℕ) (c : Counter) (pend : Option ℕ)
+        → IsBefore first_counter (g.count a) → IsBefore (g.count a) c → Home keys g now
+        → Home keys (raised g a c pend) now }
+{}
+
+/// The group of a block on chip goes on showing its children's counters: as it is read from the block's line, over the
+/// step of a child and the child's slot, and over a group move, a child at a time.
+pub fn groups_show_counters()
+    ensures read { (shape : Shape) (g : Ghost) (p first number : ℕ) (l : List ℕ) → IsShape shape → p < shape.total
+        → children_of shape.lines shape.layers p ≡ Some (first, number)
+        → ((k : ℕ) → k < number → g.stepped ≡ Some (first + k) → ⊥) → moved_of g.move p ≡ 0
+        → l ≡ line_at shape g p → AreCounters shape g → IsGroupOf shape g p (group_of l) (own_of l) }
+    ensures stepped { (shape : Shape) (g : Ghost) (p first number group : ℕ) (own : List ℕ) (child : ℕ)
+        → children_of shape.lines shape.layers p ≡ Some (first, number) → child < number → number ≤ length own
+        → g.stepped ≡ None → moved_of g.move p ≡ 0 → IsGroupOf shape g p group own
+        → IsGroupOf shape (record g { stepped = Some (first + child) }) p group
+        (slice_set own child (slice_index own child + 1)) }
+    ensures taken { (shape : Shape) (g : Ghost) (p first number group : ℕ) (own : List ℕ) (child : ℕ)
+        → children_of shape.lines shape.layers p ≡ Some (first, number) → child < number
+        → g.stepped ≡ Some (first + child) → moved_of g.move p ≡ 0 → IsGroupOf shape g p group own
+        → IsGroupOf shape (record g {
+          count = put_at g.count (first + child) (next_own (g.count (first + child)));
+          stepped = None;
+        }) p group own }
+    ensures moved { (shape : Shape) (g : Ghost) (p first number group : ℕ) (own : List ℕ) (child : ℕ)
+        → children_of shape.lines shape.layers p ≡ Some (first, number) → child < number
+        → g.stepped ≡ None → g.move ≡ Some (p, child) → IsGroupOf shape g p group own
+        → IsGroupOf shape (record g {
+          count = put_at g.count (first + child) (next_group (g.count (first + child)));
+          move = Some (p, child + 1);
+        }) p group own }
+    ensures ended { (shape : Shape) (g : Ghost) (p first number group : ℕ) (own : List ℕ)
+        → children_of shape.lines shape.layers p ≡ Some (first, number)
+        → g.stepped ≡ None → g.move ≡ Some (p, number) → IsGroupOf shape g p group own
+        → IsGroupOf shape (record g { move = None }) p ((group + 1) % 2 ^ 64) (replicate 32 0) }
+{}
+
+/// The start is sound and at home. There is a log that shows a forgery, and one with the same altered reply that doesn't.
+pub fn instances_are_there()
+    ensures sound { (keys : Keys) → Sound keys empty_log first_ghost (first_contents keys) }
+    ensures always { (keys : Keys) → Always keys empty_log (first_contents keys) }
+    ensures home { (keys : Keys) → Home keys first_ghost (first_contents keys) }
+    ensures forged { (keys : Keys) (a : ℕ) (c : Counter) (l : List ℕ) → IsEntry (entry_of keys a c l)
+        → IsInRange keys.shape (Some (entry_of keys a c l)) → Forgery keys (forged_log keys a c l) }
+    ensures unforged { (keys : Keys) (a : ℕ) (c : Counter) (l : List ℕ) → Forgery keys (unforged_log keys a c l) → ⊥ }
+{}
+
+/// Where no reply is altered no path read gives evidence, and what is found for a block is right.
+pub fn honest_slots_pass()
+    ensures read { (keys : Keys) → AreKeys keys → (log : LogLists) (g : Ghost) (now : Contents) → log.altered ≡ []
+        → Always keys log now → Sound keys log g now → Home keys g now → (start leaf : ℕ)
+        → leaf < 2 ^ keys.shape.levels → g.path ≡ None → AreInForm keys now.mirror
+        → (joined : List Entry) × IsReadTo keys.pads keys.shape start leaf [] now joined }
+    ensures found { (keys : Keys) → AreKeys keys → (log : LogLists) (g : Ghost) (now : Contents) → log.altered ≡ []
+        → Always keys log now → Sound keys log g now → Home keys g now → (a : ℕ) → a < keys.shape.total
+        → g.path ≡ Some (keys.leaf_of (real a (g.count a))) → count_by (λ b. b == a) g.held ≡ 0 → flying a g.flight ≡ 0
+        → judged keys a (g.count a) (held now.hand (record { 0 = a })) ≡ None }
+    ensures written { (keys : Keys) → AreKeys keys → (leaf : ℕ) (now : Contents) → leaf < 2 ^ keys.shape.levels
+        → AreOfShape keys.shape now.hand → length now.mirror ≡ keys.shape.buckets → 0 < now.seed → HasSeeds now
+        → AreInForm keys now.mirror → AreInForm keys (after_write keys.pads keys.shape.levels leaf now).mirror }
+{}
+
+/// The contents of a log by how it ended. Where the last move was a write that failed, or in which memory ran out, the
+/// buckets above are written; where it was a read, none is; and after a finished slot all are.
+pub fn ends_show_contents()
+    ensures write { (keys : Keys) (first : Fold) (log : LogLists) (before : List Move) (end : LogEnd)
+        (start level : ℕ) (p : Point) (leaf : ℕ) → IsCut end → level ≤ keys.shape.levels
+        → log.moves ≡ before ++ (reads keys.shape.levels start leaf
+        ++ along keys.shape.levels true (reads_end keys.shape.levels start + 16) leaf (level + 1))
+        → (fold_events keys log.altered 0 log.events first).path ≡ Some (p, leaf)
+        → (contents_of_log keys first log end).mirror
+        ≡ sealed keys.pads keys.shape.levels leaf (fold_events keys log.altered 0 log.events first).now.seed
+        (fold_events keys log.altered 0 log.events first).now.hand
+        (fold_events keys log.altered 0 log.events first).now.mirror level }
+    ensures read { (keys : Keys) (first : Fold) (log : LogLists) (before : List Move) (end : LogEnd) (start n leaf : ℕ)
+        → log.moves ≡ before ++ along keys.shape.levels false start leaf (suc n)
+        → (contents_of_log keys first log end).mirror ≡ (fold_events keys log.altered 0 log.events first).now.mirror }
+    ensures finished { (keys : Keys) (first : Fold) (log : LogLists) (before : List Move) (start leaf : ℕ)
+        → log.moves ≡ before ++ slot_moves keys.shape.levels start leaf
+        → contents_of_log keys first log Whole ≡ whole keys first log }
+{}
+
+/// Counters keep their room, and siblings their common group.
+pub fn counters_keep_room()
+    ensures { (shape : Shape) (g : Ghost) (a : ℕ) (c : Counter) (move : Option (ℕ × ℕ)) → IsShape shape
+        → shape.total ≡ layer_first shape.lines shape.layers → c.group < 2 ^ 64 → c.own < 16384
+        → ((p : ℕ) → p < shape.total → parent_of shape.lines shape.layers a ≡ Some p → moved_of move p ≡ 0
+        → c.group ≡ (g.count a).group)
+        → ((p : ℕ) → moved_of move p ≡ 0 → moved_of g.move p ≡ 0)
+        → AreCounters shape g → AreCounters shape (record g { count = put_at g.count a c; move = move }) }
+{}
+
+/// Counters stay small: from the start on, however the log goes on, and where a counter changes within its room. So while
+/// fewer than 2 ^ 28 points are drawn no group count wraps, and each own count fits its place in a line.
+pub fn counters_stay_small()
+    ensures start { (shape : Shape) (ic : ℕ) → AreSmall shape ic empty_log (λ a. first_counter) }
+    ensures grown { (shape : Shape) (ic : ℕ) (old new : LogLists) (events : List Event) (altered : List Altered)
+        (count : ℕ → Counter) → Adds old new events altered → AreSmall shape ic old count
+        → AreSmall shape ic new count }
+    ensures changed { (shape : Shape) (ic : ℕ) (log : LogLists) (count : ℕ → Counter) (a : ℕ) (c : Counter)
+        → (parent_of shape.lines shape.layers a ≡ None → c.own ≡ 0) → c.own ≤ 2 ^ ic - 1
+        → c.group + c.own ≤ count_by draws log.events → AreSmall shape ic log count
+        → AreSmall shape ic log (put_at count a c) }
+    ensures fits { (shape : Shape) (ic : ℕ) (log : LogLists) (count : ℕ → Counter) → ic ≤ 14
+        → count_by draws log.events < 2 ^ 28 → AreSmall shape ic log count → (a : ℕ) → a < shape.total
+        → ((count a).group < 2 ^ 28) × ((count a).own < 16384) }
+{}
+
+/// A data line whose counter is on top is stored, dummies pass, and it is accessed again: what is found is what was
+/// stored, or the log shows a forgery.
+pub fn stored_is_found()
+    ensures { (keys : Keys) → AreKeys keys → (l0 l1 l2 l3 : LogLists) (g : Ghost) (n0 n1 n2 n3 : Contents)
+        (s1 s2 a k : ℕ) (c1 c2 : Counter) (found1 found2 : Option Entry) (v1 v2 : List ℕ)
+        → IsAccess keys l0 l1 n0 n1 s1 a (g.count a) c1 found1 v1 → ArePasses keys k l1 l2 n1 n2 g.dummies
+        → IsAccess keys l2 l3 n2 n3 s2 a c1 c2 found2 v2
+        → children_of keys.shape.lines keys.shape.layers a ≡ None → parent_of keys.shape.lines keys.shape.layers a ≡ None
+        → a < keys.shape.total → IsBefore (g.count a) c1 → IsBefore c1 c2 → (Has a g.held → ⊥)
+        → length v1 ≡ 64 → length v2 ≡ 64 → HasSeeds n0 → HasSeeds n2 → IsBetween g → g.pend ≡ Some a
+        → Always keys l0 n0 → Sound keys l0 g n0 → Forgery keys l3 ⊎ (line_found found2 ≡ v1) }
+{}
