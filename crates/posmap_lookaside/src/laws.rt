@@ -74,7 +74,7 @@ pub fn held_blocks_keep_values()
 {}
 
 /// The definitions on a list of blocks 2 and 1 with room for two: block 1 that is found goes first; block 3 that is
-/// inserted displaces block 1; a block that isn't held leaves the list. A list that has an address twice isn't distinct.
+/// inserted displaces block 1; a block that isn't held leaves the list. A list with an address twice isn't distinct.
 pub fn laws_have_instances()
     ensures promoted { promoted (block 2 ∷ block 1 ∷ []) (record { 0 = 1 }) ≡ block 1 ∷ block 2 ∷ [] }
     ensures absent { promoted (block 2 ∷ block 1 ∷ []) (record { 0 = 3 }) ≡ block 2 ∷ block 1 ∷ [] }
