@@ -16,7 +16,7 @@ use Rattle.posmap_lookaside.specs.Addresses.{used, AreDistinct}
 pub data Purpose : Type 0 where
   Refill : Purpose
   Final : Purpose
-  Move : Purpose
+  Moves : Purpose
 
 -- One access: its block and the counter before it, its purpose, the block that it displaces, and all counters after it.
 pub record WalkAccess : Type 0 where
@@ -70,7 +70,7 @@ module _ (sizes : WalkSizes) where
   accesses_of purpose displaced counters (MoveChild address) = record {
     address = address;
     counter = counter_at counters address;
-    purpose = Move;
+    purpose = Moves;
     displaced = None;
     counters = after sizes.lines sizes.layers counters (MoveChild address);
   } ∷ []

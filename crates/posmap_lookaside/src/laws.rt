@@ -1,7 +1,7 @@
 //! Laws of held blocks and their addresses. The functions do nothing: each states laws in its contract.
 
-ghost use Rattle.std.specs.Prelude.{◌≡◌, ◌≢◌, ℕ, ◌+◌, ◌≤◌, Bool, false, nat_eq, if◌then◌else◌, List, [], ◌∷◌, length, take};
-ghost use Rattle.std.specs.Prelude.{slice_get, count_by, AllPairs, option_map, is_some, None, Some};
+ghost use Rattle.std.specs.Prelude.{◌≡◌, ◌≢◌, ℕ, ◌+◌, ◌≤◌, Bool, false, nat_eq, if◌then◌else◌, List, [], ◌∷◌, length};
+ghost use Rattle.std.specs.Prelude.{take, slice_get, count_by, AllPairs, option_map, is_some, None, Some};
 ghost use Rattle.std.specs.Option.{option_map_or};
 ghost use Rattle.asc_base.specs.declared.block.Address.{Address};
 ghost use Rattle.posmap_counters.specs.Counters.{is_among};
@@ -73,8 +73,8 @@ pub fn held_blocks_keep_values()
         → held_at (inserted capacity held list) last.address ≡ None }
 {}
 
-/// The definitions on a list of blocks 2 and 1 with room for two: block 1 that is found goes first; block 3 that is inserted
-/// displaces block 1; a block that isn't held leaves the list. A list that has an address twice isn't distinct.
+/// The definitions on a list of blocks 2 and 1 with room for two: block 1 that is found goes first; block 3 that is
+/// inserted displaces block 1; a block that isn't held leaves the list. A list with an address twice isn't distinct.
 pub fn laws_have_instances()
     ensures promoted { promoted (block 2 ∷ block 1 ∷ []) (record { 0 = 1 }) ≡ block 1 ∷ block 2 ∷ [] }
     ensures absent { promoted (block 2 ∷ block 1 ∷ []) (record { 0 = 3 }) ≡ block 2 ∷ block 1 ∷ [] }

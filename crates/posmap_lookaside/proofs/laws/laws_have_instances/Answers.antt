@@ -1,6 +1,4 @@
-use Rattle.std.proofs.Common.{ℕ, ◌≤◌, [], ◌∷◌, nat_eq, inl, inr, refl, arith}
-use Rattle.std.specs.List.{count_by}
-use Rattle.std.proofs.lemmas.Bool.Decides.{eqb_tells}
+use Rattle.std.proofs.Common.{[], ◌∷◌, refl, arith}
 use Rattle.asc_base.specs.Lookup.{without_first, promoted_first}
 use Rattle.posmap_lookaside.proofs.AddressLaws.{front_distinct}
 use Rattle.posmap_lookaside.proofs.laws.laws_have_instances.Goals as goal
