@@ -18,6 +18,7 @@ pub mod Ends
 pub mod Passes
 pub mod GroupLaws
 pub mod SmallLaws
+pub mod ChipLaws
 pub mod HomeLaws
 pub mod HomeSteps
 pub mod StartLaws

@@ -11,6 +11,7 @@ pub mod Forgery
 pub mod Decided
 pub mod Provenance
 pub mod Groups
+pub mod Chip
 pub mod Home
 pub mod Steps
 pub mod Slots

@@ -20,6 +20,7 @@ ghost use Rattle.oram_contents.specs.Contents.{Contents, after_write, IsReadTo};
 ghost use Rattle.oram_contents.specs.Entries.{Keys, AreKeys, real, entry_of};
 ghost use Rattle.asc_base.specs.Has.{Has};
 ghost use Rattle.oram_contents.specs.Counts.{Ghost, IsAway, line_at, put_at};
+ghost use Rattle.oram_contents.specs.Chip.{Chip, AreGroups, first_chip, root_place, root_stepped};
 ghost use Rattle.oram_contents.specs.Groups.{IsGroupOf, AreCounters, AreSmall, moved_of};
 ghost use Rattle.oram_contents.specs.Home.{Home, AreInForm, flying};
 ghost use Rattle.oram_contents.specs.Fold.{Fold, IsCut, LogEnd, Whole, with_entry, is_open_for, fold_events, whole, contents_of_log};
@@ -272,6 +273,23 @@ pub fn ends_show_contents()
     ensures finished { (keys : Keys) (first : Fold) (log : LogLists) (before : List Move) (start leaf : ℕ)
         → log.moves ≡ before ++ slot_moves keys.shape.levels start leaf
         → contents_of_log keys first log Whole ≡ whole keys first log }
+{}
+
+/// The chip goes on showing the counters of all blocks: at the start, where a block's slot comes next, and where a block of
+/// the top layer is stepped.
+pub fn chip_shows_counters()
+    ensures start { (shape : Shape) (plb roots : ℕ) → AreGroups shape plb first_ghost (first_chip roots) }
+    ensures waits { (shape : Shape) → IsShape shape → (plb : ℕ) (g : Ghost) (chip : Chip) → AreGroups shape plb g chip
+        → (a : ℕ)
+        → ((p : ℕ) → parent_of shape.lines shape.layers a ≡ Some p → (rest : List ℕ) × (g.held ≡ p ∷ rest))
+        → AreGroups shape plb (record g { pend = Some a }) chip }
+    ensures root { (shape : Shape) → IsShape shape → (plb : ℕ) (g : Ghost) (chip : Chip) → AreGroups shape plb g chip
+        → (a : ℕ) → a < shape.total → parent_of shape.lines shape.layers a ≡ None
+        → root_place shape a < length chip.roots
+        → ((b : ℕ) → b < shape.total → parent_of shape.lines shape.layers b ≡ None
+        → root_place shape b ≡ root_place shape a → b ≡ a)
+        → g.stepped ≡ None
+        → AreGroups shape plb (record g { stepped = Some a }) (root_stepped shape a chip) }
 {}
 
 /// Counters keep their room, and siblings their common group.

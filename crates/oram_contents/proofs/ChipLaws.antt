@@ -1,0 +1,163 @@
+-- The chip goes on showing the counters of all blocks.
+use Rattle.std.proofs.Common.{◌≡◌, ◌≢◌, ◌<◌, ◌≤◌, ◌+◌, ◌-◌, ◌*◌, ◌%◌, ◌^◌, ◌==◌, ◌⊎◌, inl, inr, ℕ, zero, suc, Bool, true, false}
+use Rattle.std.proofs.Common.{if◌then◌else◌, List, [], ◌∷◌, ◌++◌, length, map, take, set, get_or, replicate, slice_index, slice_set}
+use Rattle.std.proofs.Common.{AllPairs, All, nat_lt, Option, None, Some, refl, sym, ◌∙◌, ap, ap₂, subst, arith}
+use Rattle.std.proofs.lemmas.Bool.{cases_eq}
+use Rattle.std.proofs.lemmas.Bool.Decides.{eqb_tells}
+use Rattle.std.proofs.lemmas.List.{get_or-set_same, get_or-set_other}
+use Rattle.asc_base.specs.Has.{Has}
+use Rattle.asc_base.specs.Lookup.{without_first, changed_first, promoted_first}
+use Rattle.asc_base.specs.Shape.{IsShape}
+use Rattle.asc_base.specs.TreeShape.{parent_of, children_of, layer_first}
+use Rattle.asc_base.specs.declared.block.Counter.{Counter}
+use Rattle.asc_base.specs.declared.shape.Shape.{Shape}
+use Rattle.asc_base.proofs.Families.{parent_of_child}
+use Rattle.asc_base.proofs.Members.{all_has, has_all, has_map}
+use Rattle.asc_base.proofs.ShapeFacts.{IsLayered, shape_layered}
+use Rattle.posmap_counters.specs.Counters.{next_group, next_own, first_counter}
+use Rattle.posmap_counters.specs.Group.{GroupState}
+use Rattle.oram_contents.specs.Chip.{HeldBlock, Chip, root_place, root_counter, IsRootOf, addresses, AreDistinct, AreGroups}
+use Rattle.oram_contents.specs.Chip.{first_chip, root_stepped, with_group, is_at, recounted, with_held, with_used}
+use Rattle.oram_contents.specs.Counts.{Ghost, put_at}
+use Rattle.oram_contents.specs.Groups.{moved_of, Shows, child_counter, IsGroupOf}
+use Rattle.oram_contents.specs.Starts.{first_ghost}
+use Rattle.oram_contents.specs.Steps.{inserted}
+use Rattle.oram_contents.proofs.GroupLaws.{step_group, taken_group, moved_group, ended_group}
+use Rattle.oram_contents.proofs.Lines.{put_same, put_other}
+
+none_is_not : {a : ℕ} {P : Type 0} → None ≡ Some a → P
+none_is_not {a} {P} e = absurd (let bad : None ≡ Some a = e in cc)
+
+some_is : {a b : ℕ} → Some a ≡ Some b → a ≡ b
+some_is e = cc
+
+-- a child's parent
+child_parent : (shape : Shape) (p first number k : ℕ) → IsShape shape → p < shape.total
+    → children_of shape.lines shape.layers p ≡ Some (first, number) → k < number
+    → parent_of shape.lines shape.layers (first + k) ≡ Some p
+child_parent shape p first number k is inside children less =
+    let layered : IsLayered shape = shape_layered shape is in
+    (parent_of_child shape.lines shape.layers p first number k (omega (arith, inside, layered.total)) children less).0
+
+-- the group of a block none of whose children is concerned
+module _ (shape : Shape) (g g' : Ghost) (p group : ℕ) (own : List ℕ) where
+  pub other_group : ((first number k : ℕ) → children_of shape.lines shape.layers p ≡ Some (first, number) → k < number
+      → (g'.count (first + k) ≡ g.count (first + k)) × ((g.stepped ≡ Some (first + k) → ⊥) × (g'.stepped ≡ Some (first + k) → ⊥)))
+      → moved_of g'.move p ≡ moved_of g.move p → IsGroupOf shape g p group own → IsGroupOf shape g' p group own
+  other_group quiet moved is = record {
+    shows = λ first number k at less. let q = quiet first number k at less in record {
+      ahead = λ stepped. absurd (q.1.1 stepped);
+      level = λ none. q.0 ∙ (is.shows first number k at less).level q.1.0
+          ∙ ap (λ m. (if nat_lt k m then next_group (child_counter group own k) else child_counter group own k)) (sym moved);
+    };
+    others = is.others;
+  }
+
+  pub same_group : g'.count ≡ g.count → g'.stepped ≡ g.stepped → g'.move ≡ g.move → IsGroupOf shape g p group own
+      → IsGroupOf shape g' p group own
+  same_group count stepped move is = record {
+    shows = λ first number k at less. let s = is.shows first number k at less in record {
+      ahead = λ now. s.ahead (sym stepped ∙ now) ∙ ap (λ f. next_own (f (first + k))) (sym count);
+      level = λ none. ap (λ f. f (first + k)) count ∙ s.level (λ was. none (stepped ∙ was))
+          ∙ ap (λ m. (if nat_lt k (moved_of m p) then next_group (child_counter group own k) else child_counter group own k)) (sym move);
+    };
+    others = is.others;
+  }
+
+-- the roots of blocks that aren't concerned
+other_root : (g g' : Ghost) (a : ℕ) (c : Counter) → g'.count a ≡ g.count a → (g.stepped ≡ Some a → ⊥) → (g'.stepped ≡ Some a → ⊥)
+    → IsRootOf g a c → IsRootOf g' a c
+other_root g g' a c count was now is = record { ahead = λ stepped. absurd (now stepped); level = λ none. is.level was ∙ sym count }
+
+same_root : (g g' : Ghost) (a : ℕ) (c : Counter) → g'.count ≡ g.count → g'.stepped ≡ g.stepped → IsRootOf g a c → IsRootOf g' a c
+same_root g g' a c count stepped is = record {
+  ahead = λ now. is.ahead (sym stepped ∙ now) ∙ ap (λ f. next_group (f a)) (sym count);
+  level = λ none. is.level (λ was. none (stepped ∙ was)) ∙ ap (λ f. f a) (sym count);
+}
+
+-- the start
+pub groups_start : (shape : Shape) (plb roots : ℕ) → AreGroups shape plb first_ghost (first_chip roots)
+groups_start shape plb roots = record {
+  roots = λ a inside top. record { ahead = λ bad. none_is_not bad; level = λ none. zero_root (root_place shape a) };
+  counters = λ h has. absurd has;
+  groups = λ h has. absurd has;
+  parent = λ a p bad at. none_is_not bad;
+  listed = refl;
+  apart = λ i j d less within. absurd (omega arith);
+  few = omega arith;
+  inside = λ p has. absurd has;
+}
+  where
+    zeros : (n k : ℕ) → get_or (replicate n zero) k zero ≡ zero
+    zeros zero k = refl
+    zeros (suc n) zero = refl
+    zeros (suc n) (suc k) = zeros n k
+
+    zero_root : (k : ℕ) → (let c : Counter = record { group = slice_index (replicate roots zero) k; own = 0 } in c) ≡ first_counter
+    zero_root k = ap (λ n. let c : Counter = record { group = n; own = 0 } in c) (zeros roots k)
+
+module _ (shape : Shape) (lawful : IsShape shape) (plb : ℕ) (g : Ghost) (chip : Chip) (s : AreGroups shape plb g chip) where
+  held_inside : (h : HeldBlock) → Has h chip.held → h.address < shape.total
+  held_inside h has = s.inside h.address (subst (λ l. Has h.address l) (sym s.listed) (mapped chip.held has))
+    where
+      mapped : (held : List HeldBlock) → Has h held → Has h.address (addresses held)
+      mapped [] at = at
+      mapped (x ∷ xs) (inl is) = inl (ap (λ (y : HeldBlock). y.address) is)
+      mapped (x ∷ xs) (inr at) = inr (mapped xs at)
+
+  -- the block whose slot comes next
+  pub groups_wait : (a : ℕ) → ((p : ℕ) → parent_of shape.lines shape.layers a ≡ Some p → (rest : List ℕ) × (g.held ≡ p ∷ rest))
+      → AreGroups shape plb (record g { pend = Some a }) chip
+  groups_wait a first = record {
+    roots = λ b inside top. same_root g (record g { pend = Some a }) b (root_counter shape chip.roots b) refl refl (s.roots b inside top);
+    counters = s.counters;
+    groups = λ h has. same_group shape g (record g { pend = Some a }) h.address h.group.group h.group.own refl refl refl (s.groups h has);
+    parent = λ b p is at. first p (ap (parent_of shape.lines shape.layers) (some_is is) ∙ at);
+    listed = s.listed;
+    apart = s.apart;
+    few = s.few;
+    inside = s.inside;
+  }
+
+  -- a block of the top layer is stepped
+  pub groups_root : (a : ℕ) → a < shape.total → parent_of shape.lines shape.layers a ≡ None → root_place shape a < length chip.roots
+      → ((b : ℕ) → b < shape.total → parent_of shape.lines shape.layers b ≡ None → root_place shape b ≡ root_place shape a → b ≡ a)
+      → g.stepped ≡ None
+      → AreGroups shape plb (record g { stepped = Some a }) (root_stepped shape a chip)
+  groups_root a inside top there own_place level = record {
+    roots = λ b b_inside b_top. root_of b b_inside b_top (cases_eq b a);
+    counters = s.counters;
+    groups = λ h has. other_group shape g (record g { stepped = Some a }) h.address h.group.group h.group.own
+        (λ first number k at less. (refl, ((λ was. none_is_not (sym level ∙ was)), (λ now. child_of_none h has first number k at less (some_is now)))))
+        refl (s.groups h has);
+    parent = s.parent;
+    listed = s.listed;
+    apart = s.apart;
+    few = s.few;
+    inside = s.inside;
+  }
+    where
+      child_of_none : (h : HeldBlock) → Has h chip.held → (first number k : ℕ) → children_of shape.lines shape.layers h.address ≡ Some (first, number)
+          → k < number → a ≡ first + k → ⊥
+      child_of_none h has first number k at less is =
+          none_is_not (sym top ∙ ap (parent_of shape.lines shape.layers) is ∙ child_parent shape h.address first number k lawful (held_inside h has) at less)
+
+      next : ℕ
+      next = (slice_index chip.roots (root_place shape a) + 1) % 2 ^ 64
+
+      root_of : (b : ℕ) → b < shape.total → parent_of shape.lines shape.layers b ≡ None → (b ≡ a) ⊎ (b ≡ a → ⊥)
+          → IsRootOf (record g { stepped = Some a }) b (root_counter shape (root_stepped shape a chip).roots b)
+      root_of b b_inside b_top (inl is) = record {
+        ahead = λ now. ap (λ n. let c : Counter = record { group = n; own = 0 } in c)
+            (ap (λ x. slice_index (root_stepped shape a chip).roots (root_place shape x)) is
+            ∙ get_or-set_same chip.roots (root_place shape a) ((slice_index chip.roots (root_place shape a) + 1) % 2 ^ 64) 0 there)
+            ∙ ap next_group ((s.roots a inside top).level (λ was. none_is_not (sym level ∙ was))) ∙ ap (λ x. next_group (g.count x)) (sym is);
+        level = λ none. absurd (none (ap Some (sym is)));
+      }
+      root_of b b_inside b_top (inr other) = record {
+        ahead = λ now. absurd (other (sym (some_is now)));
+        level = λ none. ap (λ n. let c : Counter = record { group = n; own = 0 } in c)
+            (get_or-set_other chip.roots (root_place shape a) (root_place shape b) ((slice_index chip.roots (root_place shape a) + 1) % 2 ^ 64) 0
+            (λ same. other (own_place b b_inside b_top same)))
+            ∙ (s.roots b b_inside b_top).level (λ was. none_is_not (sym level ∙ was));
+      }
