@@ -8,11 +8,13 @@ use Rattle.std.proofs.lemmas.List.{get_or-set_same, get_or-set_other}
 use Rattle.asc_base.specs.Has.{Has}
 use Rattle.asc_base.specs.Lookup.{without_first, changed_first, promoted_first}
 use Rattle.asc_base.specs.Shape.{IsShape}
-use Rattle.asc_base.specs.TreeShape.{parent_of, children_of, layer_first}
+use Rattle.asc_base.specs.TreeShape.{parent_of, children_of, layer_first, layer_of}
 use Rattle.asc_base.specs.declared.block.Counter.{Counter}
 use Rattle.asc_base.specs.declared.shape.Shape.{Shape}
 use Rattle.asc_base.proofs.Families.{parent_of_child}
 use Rattle.asc_base.proofs.Members.{all_has, has_all, has_map}
+use Rattle.asc_base.proofs.Layers.{parent_of-below}
+use Rattle.asc_base.proofs.Placed.{IsPlaced, placed}
 use Rattle.asc_base.proofs.ShapeFacts.{IsLayered, shape_layered}
 use Rattle.posmap_counters.specs.Counters.{next_group, next_own, first_counter}
 use Rattle.posmap_counters.specs.Group.{GroupState}
@@ -21,7 +23,7 @@ use Rattle.oram_contents.specs.Chip.{first_chip, root_stepped, with_group, is_at
 use Rattle.oram_contents.specs.Counts.{Ghost, put_at}
 use Rattle.oram_contents.specs.Groups.{moved_of, Shows, child_counter, IsGroupOf}
 use Rattle.oram_contents.specs.Starts.{first_ghost}
-use Rattle.oram_contents.specs.Steps.{inserted}
+use Rattle.oram_contents.specs.Steps.{inserted, taken}
 use Rattle.oram_contents.proofs.GroupLaws.{step_group, taken_group, moved_group, ended_group}
 use Rattle.oram_contents.proofs.Lines.{put_same, put_other}
 
@@ -53,13 +55,13 @@ module _ (shape : Shape) (g g' : Ghost) (p group : ℕ) (own : List ℕ) where
     others = is.others;
   }
 
-  pub same_group : g'.count ≡ g.count → g'.stepped ≡ g.stepped → g'.move ≡ g.move → IsGroupOf shape g p group own
-      → IsGroupOf shape g' p group own
-  same_group count stepped move is = record {
+  pub same_group : g'.count ≡ g.count → g'.stepped ≡ g.stepped → moved_of g'.move p ≡ moved_of g.move p
+      → IsGroupOf shape g p group own → IsGroupOf shape g' p group own
+  same_group count stepped moved is = record {
     shows = λ first number k at less. let s = is.shows first number k at less in record {
       ahead = λ now. s.ahead (sym stepped ∙ now) ∙ ap (λ f. next_own (f (first + k))) (sym count);
       level = λ none. ap (λ f. f (first + k)) count ∙ s.level (λ was. none (stepped ∙ was))
-          ∙ ap (λ m. (if nat_lt k (moved_of m p) then next_group (child_counter group own k) else child_counter group own k)) (sym move);
+          ∙ ap (λ m. (if nat_lt k m then next_group (child_counter group own k) else child_counter group own k)) (sym moved);
     };
     others = is.others;
   }
@@ -75,6 +77,30 @@ same_root g g' a c count stepped is = record {
   level = λ none. is.level (λ was. none (stepped ∙ was)) ∙ ap (λ f. f a) (sym count);
 }
 
+-- a block of the top layer is one of those from the first of that layer on
+top_from : (shape : Shape) (a : ℕ) → IsShape shape → a < shape.total → parent_of shape.lines shape.layers a ≡ None
+    → layer_first shape.lines (shape.layers - 1) ≤ a
+top_from shape a is inside top = by_layer (cases_eq (layer_of shape.lines shape.layers a + 1) shape.layers)
+  where
+    facts : IsPlaced shape a (layer_of shape.lines shape.layers a)
+    facts = placed shape a (layer_of shape.lines shape.layers a) is inside refl
+
+    by_layer : (layer_of shape.lines shape.layers a + 1 ≡ shape.layers) ⊎ (layer_of shape.lines shape.layers a + 1 ≡ shape.layers → ⊥)
+        → layer_first shape.lines (shape.layers - 1) ≤ a
+    by_layer (inl at) =
+        let last : shape.layers - 1 ≡ layer_of shape.lines shape.layers a = omega (arith, at) in
+        let same = ap (layer_first shape.lines) last in
+        omega (arith, facts.from, facts.first, same)
+    by_layer (inr under) =
+        let some = parent_of-below shape.lines shape.layers a (layer_of shape.lines shape.layers a) refl under in
+        none_is_not (sym top ∙ some)
+
+pub places_differ : (shape : Shape) (a b : ℕ) → IsShape shape → a < shape.total → b < shape.total
+    → parent_of shape.lines shape.layers a ≡ None → parent_of shape.lines shape.layers b ≡ None
+    → root_place shape b ≡ root_place shape a → b ≡ a
+places_differ shape a b is a_in b_in a_top b_top same =
+    omega (arith, same, top_from shape a is a_in a_top, top_from shape b is b_in b_top)
+
 -- the start
 pub groups_start : (shape : Shape) (plb roots : ℕ) → AreGroups shape plb first_ghost (first_chip roots)
 groups_start shape plb roots = record {
@@ -83,7 +109,7 @@ groups_start shape plb roots = record {
   groups = λ h has. absurd has;
   parent = λ a p bad at. none_is_not bad;
   listed = refl;
-  apart = λ i j d less within. absurd (omega arith);
+  apart = tt;
   few = omega arith;
   inside = λ p has. absurd has;
 }
@@ -96,14 +122,18 @@ groups_start shape plb roots = record {
     zero_root : (k : ℕ) → (let c : Counter = record { group = slice_index (replicate roots zero) k; own = 0 } in c) ≡ first_counter
     zero_root k = ap (λ n. let c : Counter = record { group = n; own = 0 } in c) (zeros roots k)
 
+-- blocks and their addresses
+mapped : (h : HeldBlock) (held : List HeldBlock) → Has h held → Has h.address (addresses held)
+mapped h [] at = at
+mapped h (x ∷ xs) (inl is) = inl (ap (λ (y : HeldBlock). y.address) is)
+mapped h (x ∷ xs) (inr at) = inr (mapped h xs at)
+
+moved_other : (p q i : ℕ) → (q ≡ p → ⊥) → moved_of (Some (p, i)) q ≡ 0
+moved_other p q i apart = elim (eqb_tells p q) [ inl same ↦ absurd (apart (sym same.1)) | inr other ↦ rw other.0 refl ]
+
 module _ (shape : Shape) (lawful : IsShape shape) (plb : ℕ) (g : Ghost) (chip : Chip) (s : AreGroups shape plb g chip) where
   held_inside : (h : HeldBlock) → Has h chip.held → h.address < shape.total
-  held_inside h has = s.inside h.address (subst (λ l. Has h.address l) (sym s.listed) (mapped chip.held has))
-    where
-      mapped : (held : List HeldBlock) → Has h held → Has h.address (addresses held)
-      mapped [] at = at
-      mapped (x ∷ xs) (inl is) = inl (ap (λ (y : HeldBlock). y.address) is)
-      mapped (x ∷ xs) (inr at) = inr (mapped xs at)
+  held_inside h has = s.inside h.address (subst (λ l. Has h.address l) (sym s.listed) (mapped h chip.held has))
 
   -- the block whose slot comes next
   pub groups_wait : (a : ℕ) → ((p : ℕ) → parent_of shape.lines shape.layers a ≡ Some p → (rest : List ℕ) × (g.held ≡ p ∷ rest))
@@ -121,10 +151,9 @@ module _ (shape : Shape) (lawful : IsShape shape) (plb : ℕ) (g : Ghost) (chip 
 
   -- a block of the top layer is stepped
   pub groups_root : (a : ℕ) → a < shape.total → parent_of shape.lines shape.layers a ≡ None → root_place shape a < length chip.roots
-      → ((b : ℕ) → b < shape.total → parent_of shape.lines shape.layers b ≡ None → root_place shape b ≡ root_place shape a → b ≡ a)
       → g.stepped ≡ None
       → AreGroups shape plb (record g { stepped = Some a }) (root_stepped shape a chip)
-  groups_root a inside top there own_place level = record {
+  groups_root a inside top there level = record {
     roots = λ b b_inside b_top. root_of b b_inside b_top (cases_eq b a);
     counters = s.counters;
     groups = λ h has. other_group shape g (record g { stepped = Some a }) h.address h.group.group h.group.own
@@ -158,6 +187,90 @@ module _ (shape : Shape) (lawful : IsShape shape) (plb : ℕ) (g : Ghost) (chip 
         ahead = λ now. absurd (other (sym (some_is now)));
         level = λ none. ap (λ n. let c : Counter = record { group = n; own = 0 } in c)
             (get_or-set_other chip.roots (root_place shape a) (root_place shape b) ((slice_index chip.roots (root_place shape a) + 1) % 2 ^ 64) 0
-            (λ same. other (own_place b b_inside b_top same)))
+            (λ same. other (places_differ shape a b lawful inside b_inside top b_top same)))
             ∙ (s.roots b b_inside b_top).level (λ was. none_is_not (sym level ∙ was));
       }
+
+-- The first held block is the parent of the block that is concerned.
+module _ (shape : Shape) (lawful : IsShape shape) (plb : ℕ) (g : Ghost) (roots : List ℕ) (h : HeldBlock) (rest : List HeldBlock)
+    (s : AreGroups shape plb g (record { roots = roots; held = h ∷ rest })) where
+  abbrev chip : Chip
+  chip = record { roots = roots; held = h ∷ rest }
+
+  in_shape : (x : HeldBlock) → Has x (h ∷ rest) → x.address < shape.total
+  in_shape x has = held_inside shape lawful plb g chip s x has
+
+  -- the other held blocks are others
+  apart_from : (x : HeldBlock) → Has x rest → x.address ≡ h.address → ⊥
+  apart_from x has same =
+      let distinct : AreDistinct (addresses (h ∷ rest)) = subst AreDistinct s.listed s.apart in
+      distinct.0 (subst (λ a. Has a (addresses rest)) same (mapped x rest has))
+
+  module _ (first number child : ℕ) (children : children_of shape.lines shape.layers h.address ≡ Some (first, number))
+      (less : child < number) where
+    parent_is : parent_of shape.lines shape.layers (first + child) ≡ Some h.address
+    parent_is = child_parent shape h.address first number child lawful (in_shape h (inl refl)) children less
+
+    not_top : (b : ℕ) → parent_of shape.lines shape.layers b ≡ None → first + child ≡ b → ⊥
+    not_top b top is = none_is_not (sym top ∙ ap (parent_of shape.lines shape.layers) (sym is) ∙ parent_is)
+
+    -- it is no child of another held block
+    not_theirs : (x : HeldBlock) → Has x rest → (f n k : ℕ) → children_of shape.lines shape.layers x.address ≡ Some (f, n) → k < n
+        → first + child ≡ f + k → ⊥
+    not_theirs x has f n k at under is =
+        apart_from x has (some_is (sym (child_parent shape x.address f n k lawful (in_shape x (inr has)) at under)
+        ∙ ap (parent_of shape.lines shape.layers) (sym is) ∙ parent_is))
+
+    -- the parent is stepped
+    pub groups_stepped : number ≤ length h.group.own → g.stepped ≡ None → moved_of g.move h.address ≡ 0
+        → AreGroups shape plb (record g { stepped = Some (first + child) })
+        (record { roots = roots; held = with_group h (record { group = h.group.group; own = set h.group.own child (slice_index h.group.own child + 1) }) ∷ rest })
+    groups_stepped few level still = record {
+      roots = λ b inside top. other_root g (record g { stepped = Some (first + child) }) b (root_counter shape roots b) refl
+          (λ was. none_is_not (sym level ∙ was)) (λ now. not_top b top (some_is now)) (s.roots b inside top);
+      counters = λ x has. elim has [
+        | inl is ↦ ap (λ (y : HeldBlock). y.counter) is ∙ s.counters h (inl refl) ∙ ap (λ (y : HeldBlock). g.count y.address) (sym is)
+        | inr at ↦ s.counters x (inr at)
+      ];
+      groups = λ x has. elim has [
+        | inl is ↦ subst (λ (y : HeldBlock). IsGroupOf shape (record g { stepped = Some (first + child) }) y.address y.group.group y.group.own) (sym is)
+            (step_group shape g h.address first number h.group.group h.group.own child children less few level still (s.groups h (inl refl)))
+        | inr at ↦ other_group shape g (record g { stepped = Some (first + child) }) x.address x.group.group x.group.own
+            (λ f n k of under. (refl, ((λ was. none_is_not (sym level ∙ was)), (λ now. not_theirs x at f n k of under (some_is now)))))
+            refl (s.groups x (inr at))
+      ];
+      parent = s.parent;
+      listed = s.listed;
+      apart = s.apart;
+      few = s.few;
+      inside = s.inside;
+    }
+
+    -- the child's slot takes it
+    pub groups_taken : g.stepped ≡ Some (first + child) → moved_of g.move h.address ≡ 0 → (Has (first + child) g.held → ⊥)
+        → AreGroups shape plb (taken g (first + child) (next_own (g.count (first + child)))) chip
+    groups_taken at still unheld = record {
+      roots = λ b inside top. other_root g after b (root_counter shape roots b) (put_other g.count a (next_own (g.count a)) b (λ is. not_top b top (sym is)))
+          (λ was. not_top b top (some_is (sym at ∙ was))) (λ now. none_is_not now) (s.roots b inside top);
+      counters = λ x has. s.counters x has ∙ sym (put_other g.count a (next_own (g.count a)) x.address (λ is. unheld (subst (λ l. Has a l) (sym s.listed)
+          (subst (λ y. Has y (addresses (h ∷ rest))) is (mapped x (h ∷ rest) has)))));
+      groups = λ x has. elim has [
+        | inl is ↦ subst (λ (y : HeldBlock). IsGroupOf shape after y.address y.group.group y.group.own) (sym is)
+            (same_group shape (record g { count = put_at g.count a (next_own (g.count a)); stepped = None }) after h.address h.group.group h.group.own refl refl refl
+            (taken_group shape g h.address first number h.group.group h.group.own child children less at still (s.groups h (inl refl))))
+        | inr in_rest ↦ other_group shape g after x.address x.group.group x.group.own
+            (λ f n k of under. (put_other g.count a (next_own (g.count a)) (f + k) (λ is. not_theirs x in_rest f n k of under (sym is)),
+            ((λ was. not_theirs x in_rest f n k of under (some_is (sym at ∙ was))), (λ now. none_is_not now)))) refl (s.groups x (inr in_rest))
+      ];
+      parent = λ b p bad of. none_is_not bad;
+      listed = s.listed;
+      apart = s.apart;
+      few = s.few;
+      inside = s.inside;
+    }
+      where
+        a : ℕ
+        a = first + child
+
+        after : Ghost
+        after = taken g (first + child) (next_own (g.count (first + child)))

@@ -40,8 +40,10 @@ pub record IsRootOf (g : Ghost) (a : ℕ) (c : Counter) : Type 0 where
 abbrev pub addresses : List HeldBlock → List ℕ
 addresses held = map (λ (h : HeldBlock). h.address) held
 
+-- each number stands once
 abbrev pub AreDistinct : List ℕ → Type 0
-AreDistinct addresses = AllPairs (λ a b. a ≢ b) addresses
+AreDistinct [] = Unit {0}
+AreDistinct (a ∷ later) = (Has a later → ⊥) × AreDistinct later
 
 -- The chip shows the counters of all blocks.
 pub record AreGroups (shape : Shape) (plb : ℕ) (g : Ghost) (chip : Chip) : Type 0 where

@@ -20,7 +20,7 @@ ghost use Rattle.oram_contents.specs.Contents.{Contents, after_write, IsReadTo};
 ghost use Rattle.oram_contents.specs.Entries.{Keys, AreKeys, real, entry_of};
 ghost use Rattle.asc_base.specs.Has.{Has};
 ghost use Rattle.oram_contents.specs.Counts.{Ghost, IsAway, line_at, put_at};
-ghost use Rattle.oram_contents.specs.Chip.{Chip, AreGroups, first_chip, root_place, root_stepped};
+ghost use Rattle.oram_contents.specs.Chip.{HeldBlock, Chip, AreGroups, first_chip, root_place, root_stepped, with_group};
 ghost use Rattle.oram_contents.specs.Groups.{IsGroupOf, AreCounters, AreSmall, moved_of};
 ghost use Rattle.oram_contents.specs.Home.{Home, AreInForm, flying};
 ghost use Rattle.oram_contents.specs.Fold.{Fold, IsCut, LogEnd, Whole, with_entry, is_open_for, fold_events, whole, contents_of_log};
@@ -275,8 +275,8 @@ pub fn ends_show_contents()
         → contents_of_log keys first log Whole ≡ whole keys first log }
 {}
 
-/// The chip goes on showing the counters of all blocks: at the start, where a block's slot comes next, and where a block of
-/// the top layer is stepped.
+/// The chip goes on showing the counters of all blocks: at the start, where a block's slot comes next, where a block of the
+/// top layer or the first held block is stepped, and where a child's slot takes it.
 pub fn chip_shows_counters()
     ensures start { (shape : Shape) (plb roots : ℕ) → AreGroups shape plb first_ghost (first_chip roots) }
     ensures waits { (shape : Shape) → IsShape shape → (plb : ℕ) (g : Ghost) (chip : Chip) → AreGroups shape plb g chip
@@ -285,11 +285,26 @@ pub fn chip_shows_counters()
         → AreGroups shape plb (record g { pend = Some a }) chip }
     ensures root { (shape : Shape) → IsShape shape → (plb : ℕ) (g : Ghost) (chip : Chip) → AreGroups shape plb g chip
         → (a : ℕ) → a < shape.total → parent_of shape.lines shape.layers a ≡ None
-        → root_place shape a < length chip.roots
-        → ((b : ℕ) → b < shape.total → parent_of shape.lines shape.layers b ≡ None
-        → root_place shape b ≡ root_place shape a → b ≡ a)
-        → g.stepped ≡ None
+        → root_place shape a < length chip.roots → g.stepped ≡ None
         → AreGroups shape plb (record g { stepped = Some a }) (root_stepped shape a chip) }
+    ensures stepped { (shape : Shape) → IsShape shape → (plb : ℕ) (g : Ghost) (roots : List ℕ) (h : HeldBlock)
+        (rest : List HeldBlock) → AreGroups shape plb g (record { roots = roots; held = h ∷ rest })
+        → (first number child : ℕ) → children_of shape.lines shape.layers h.address ≡ Some (first, number)
+        → child < number → number ≤ length h.group.own → g.stepped ≡ None → moved_of g.move h.address ≡ 0
+        → AreGroups shape plb (record g { stepped = Some (first + child) }) (record {
+          roots = roots;
+          held = with_group h (record {
+            group = h.group.group;
+            own = slice_set h.group.own child (slice_index h.group.own child + 1);
+          }) ∷ rest;
+        }) }
+    ensures taken { (shape : Shape) → IsShape shape → (plb : ℕ) (g : Ghost) (roots : List ℕ) (h : HeldBlock)
+        (rest : List HeldBlock) → AreGroups shape plb g (record { roots = roots; held = h ∷ rest })
+        → (first number child : ℕ) → children_of shape.lines shape.layers h.address ≡ Some (first, number)
+        → child < number → g.stepped ≡ Some (first + child) → moved_of g.move h.address ≡ 0
+        → (Has (first + child) g.held → ⊥)
+        → AreGroups shape plb (taken g (first + child) (next_own (g.count (first + child))))
+        (record { roots = roots; held = h ∷ rest }) }
 {}
 
 /// Counters keep their room, and siblings their common group.
