@@ -2,7 +2,7 @@
 use Rattle.std.proofs.Common.{◌≡◌, ◌≢◌, ◌<◌, ◌≤◌, ◌+◌, ◌-◌, ◌*◌, ◌%◌, ◌^◌, ◌==◌, ◌⊎◌, inl, inr, ℕ, zero, suc, Bool, true, false}
 use Rattle.std.proofs.Common.{if◌then◌else◌, List, [], ◌∷◌, ◌++◌, length, map, take, set, get_or, replicate, slice_index, slice_set}
 use Rattle.std.proofs.Common.{AllPairs, All, nat_lt, Option, None, Some, refl, sym, ◌∙◌, ap, ap₂, subst, arith}
-use Rattle.std.proofs.lemmas.Bool.{cases_eq}
+use Rattle.std.proofs.lemmas.Bool.{cases_eq, eqb-true}
 use Rattle.std.proofs.lemmas.Bool.Decides.{eqb_tells}
 use Rattle.std.proofs.lemmas.List.{get_or-set_same, get_or-set_other}
 use Rattle.asc_base.specs.Has.{Has}
@@ -12,7 +12,10 @@ use Rattle.asc_base.specs.TreeShape.{parent_of, children_of, layer_first, layer_
 use Rattle.asc_base.specs.declared.block.Counter.{Counter}
 use Rattle.asc_base.specs.declared.shape.Shape.{Shape}
 use Rattle.asc_base.proofs.Families.{parent_of_child}
-use Rattle.asc_base.proofs.Members.{all_has, has_all, has_map}
+use Rattle.asc_base.proofs.Lookups.{find-holds, find-has, without_first-has, length-without_first}
+use Rattle.asc_base.proofs.Members.{has_map}
+use Rattle.std.specs.List.{find}
+use Rattle.std.specs.Option.{option_map_or}
 use Rattle.asc_base.proofs.Layers.{parent_of-below}
 use Rattle.asc_base.proofs.Placed.{IsPlaced, placed}
 use Rattle.asc_base.proofs.ShapeFacts.{IsLayered, shape_layered}
@@ -259,8 +262,10 @@ module _ (shape : Shape) (lawful : IsShape shape) (plb : ℕ) (g : Ghost) (roots
             (same_group shape (record g { count = put_at g.count a (next_own (g.count a)); stepped = None }) after h.address h.group.group h.group.own refl refl refl
             (taken_group shape g h.address first number h.group.group h.group.own child children less at still (s.groups h (inl refl))))
         | inr in_rest ↦ other_group shape g after x.address x.group.group x.group.own
-            (λ f n k of under. (put_other g.count a (next_own (g.count a)) (f + k) (λ is. not_theirs x in_rest f n k of under (sym is)),
-            ((λ was. not_theirs x in_rest f n k of under (some_is (sym at ∙ was))), (λ now. none_is_not now)))) refl (s.groups x (inr in_rest))
+            (λ f n k of under. (
+              put_other g.count a (next_own (g.count a)) (f + k) (λ is. not_theirs x in_rest f n k of under (sym is)),
+              ((λ was. not_theirs x in_rest f n k of under (some_is (sym at ∙ was))), (λ now. none_is_not now)),
+            )) refl (s.groups x (inr in_rest))
       ];
       parent = λ b p bad of. none_is_not bad;
       listed = s.listed;
@@ -274,3 +279,231 @@ module _ (shape : Shape) (lawful : IsShape shape) (plb : ℕ) (g : Ghost) (roots
 
         after : Ghost
         after = taken g (first + child) (next_own (g.count (first + child)))
+
+    -- in a group move the child's slot takes it
+    pub groups_moved : g.stepped ≡ None → g.move ≡ Some (h.address, child) → (Has (first + child) g.held → ⊥)
+        → AreGroups shape plb (record (taken g (first + child) (next_group (g.count (first + child)))) { move = Some (h.address, child + 1) }) chip
+    groups_moved level moving unheld = record {
+      roots = λ b inside top. other_root g after b (root_counter shape roots b) (put_other g.count a (next_group (g.count a)) b (λ is. not_top b top (sym is)))
+          (λ was. none_is_not (sym level ∙ was)) (λ now. none_is_not now) (s.roots b inside top);
+      counters = λ x has. s.counters x has ∙ sym (put_other g.count a (next_group (g.count a)) x.address (λ is. unheld (subst (λ l. Has a l) (sym s.listed)
+          (subst (λ y. Has y (addresses (h ∷ rest))) is (mapped x (h ∷ rest) has)))));
+      groups = λ x has. elim has [
+        | inl is ↦ subst (λ (y : HeldBlock). IsGroupOf shape after y.address y.group.group y.group.own) (sym is) (moved_first after refl (sym level) refl)
+        | inr in_rest ↦ moved_rest after refl refl refl x in_rest
+      ];
+      parent = λ b p bad of. none_is_not bad;
+      listed = s.listed;
+      apart = s.apart;
+      few = s.few;
+      inside = s.inside;
+    }
+      where
+        a : ℕ
+        a = first + child
+
+        after : Ghost
+        after = record (taken g (first + child) (next_group (g.count (first + child)))) { move = Some (h.address, child + 1) }
+
+        moved_first : (g' : Ghost) → g'.count ≡ put_at g.count (first + child) (next_group (g.count (first + child))) → g'.stepped ≡ g.stepped
+            → g'.move ≡ Some (h.address, child + 1) → IsGroupOf shape g' h.address h.group.group h.group.own
+        moved_first g' counted stepped now = same_group shape
+            (record g { count = put_at g.count (first + child) (next_group (g.count (first + child))); move = Some (h.address, child + 1) }) g'
+            h.address h.group.group h.group.own counted stepped (ap (λ m. moved_of m h.address) now)
+            (moved_group shape g h.address first number h.group.group h.group.own child children less level moving (s.groups h (inl refl)))
+
+        moved_rest : (g' : Ghost) → g'.count ≡ put_at g.count (first + child) (next_group (g.count (first + child))) → g'.stepped ≡ None
+            → g'.move ≡ Some (h.address, child + 1) → (x : HeldBlock) → Has x rest → IsGroupOf shape g' x.address x.group.group x.group.own
+        moved_rest g' counted stepped now x in_rest = other_group shape g g' x.address x.group.group x.group.own
+            (λ f n k of under. (
+              ap (λ y. y (f + k)) counted ∙ put_other g.count (first + child) (next_group (g.count (first + child))) (f + k) (λ is. not_theirs x in_rest f n k of under (sym is)),
+              ((λ was. none_is_not (sym level ∙ was)), (λ bad. none_is_not (sym stepped ∙ bad))),
+            ))
+            (ap (λ m. moved_of m x.address) now ∙ moved_other h.address x.address (child + 1) (apart_from x in_rest)
+            ∙ sym (ap (λ m. moved_of m x.address) moving ∙ moved_other h.address x.address child (apart_from x in_rest)))
+            (s.groups x (inr in_rest))
+
+  -- a group move begins
+  pub groups_begin : g.move ≡ None → AreGroups shape plb (record g { move = Some (h.address, 0) }) chip
+  groups_begin none = record {
+    roots = λ b inside top. same_root g (record g { move = Some (h.address, 0) }) b (root_counter shape roots b) refl refl (s.roots b inside top);
+    counters = s.counters;
+    groups = λ x has. same_group shape g (record g { move = Some (h.address, 0) }) x.address x.group.group x.group.own refl refl
+        (none_done h.address x.address ∙ sym (ap (λ m. moved_of m x.address) none)) (s.groups x has);
+    parent = s.parent;
+    listed = s.listed;
+    apart = s.apart;
+    few = s.few;
+    inside = s.inside;
+  }
+    where
+      none_done : (p q : ℕ) → moved_of (Some (p, 0)) q ≡ 0
+      none_done p q = elim (eqb_tells p q) [ inl same ↦ rw same.0 refl | inr other ↦ rw other.0 refl ]
+
+  -- and ends: the parent has the next group
+  pub groups_end : (first number : ℕ) → children_of shape.lines shape.layers h.address ≡ Some (first, number) → g.stepped ≡ None
+      → g.move ≡ Some (h.address, number)
+      → AreGroups shape plb (record g { move = None })
+      (record { roots = roots; held = with_group h (record { group = (h.group.group + 1) % 2 ^ 64; own = replicate 32 0 }) ∷ rest })
+  groups_end first number children level moving = record {
+    roots = λ b inside top. same_root g (record g { move = None }) b (root_counter shape roots b) refl refl (s.roots b inside top);
+    counters = λ x has. elim has [
+      | inl is ↦ ap (λ (y : HeldBlock). y.counter) is ∙ s.counters h (inl refl) ∙ ap (λ (y : HeldBlock). g.count y.address) (sym is)
+      | inr at ↦ s.counters x (inr at)
+    ];
+    groups = λ x has. elim has [
+      | inl is ↦ subst (λ (y : HeldBlock). IsGroupOf shape (record g { move = None }) y.address y.group.group y.group.own) (sym is)
+          (ended_group shape g h.address first number h.group.group h.group.own children level moving (s.groups h (inl refl)))
+      | inr at ↦ same_group shape g (record g { move = None }) x.address x.group.group x.group.own refl refl
+          (sym (ap (λ m. moved_of m x.address) moving ∙ moved_other h.address x.address number (apart_from x at))) (s.groups x (inr at))
+    ];
+    parent = s.parent;
+    listed = s.listed;
+    apart = s.apart;
+    few = s.few;
+    inside = s.inside;
+  }
+
+-- a block of the top layer is taken
+pub groups_root_taken : (shape : Shape) → IsShape shape → (plb : ℕ) (g : Ghost) (chip : Chip) → AreGroups shape plb g chip → (a : ℕ)
+    → a < shape.total → parent_of shape.lines shape.layers a ≡ None → g.stepped ≡ Some a → (Has a g.held → ⊥)
+    → AreGroups shape plb (taken g a (next_group (g.count a))) chip
+groups_root_taken shape lawful plb g chip s a a_in top at unheld = record {
+  roots = λ b inside b_top. by_block b inside b_top (cases_eq b a);
+  counters = λ x has. s.counters x has ∙ sym (put_other g.count a (next_group (g.count a)) x.address (λ is. unheld (subst (λ l. Has a l) (sym s.listed)
+      (subst (λ y. Has y (addresses chip.held)) is (mapped x chip.held has)))));
+  groups = λ x has. other_group shape g (taken g a (next_group (g.count a))) x.address x.group.group x.group.own
+      (λ f n k of under. (
+        put_other g.count a (next_group (g.count a)) (f + k) (λ is. not_child x has f n k of under (sym is)),
+        ((λ was. not_child x has f n k of under (some_is (sym at ∙ was))), (λ now. none_is_not now)),
+      )) refl (s.groups x has);
+  parent = λ b p bad of. none_is_not bad;
+  listed = s.listed;
+  apart = s.apart;
+  few = s.few;
+  inside = s.inside;
+}
+  where
+    not_child : (x : HeldBlock) → Has x chip.held → (f n k : ℕ) → children_of shape.lines shape.layers x.address ≡ Some (f, n) → k < n → a ≡ f + k → ⊥
+    not_child x has f n k of under is =
+        none_is_not (sym top ∙ ap (parent_of shape.lines shape.layers) is ∙ child_parent shape x.address f n k lawful (held_inside shape lawful plb g chip s x has) of under)
+
+    by_block : (b : ℕ) → b < shape.total → parent_of shape.lines shape.layers b ≡ None → (b ≡ a) ⊎ (b ≡ a → ⊥)
+        → IsRootOf (taken g a (next_group (g.count a))) b (root_counter shape chip.roots b)
+    by_block b inside b_top (inl is) = record {
+      ahead = λ now. none_is_not now;
+      level = λ none. ap (root_counter shape chip.roots) is ∙ (s.roots a a_in top).ahead at
+          ∙ sym (ap (put_at g.count a (next_group (g.count a))) is ∙ put_same g.count a (next_group (g.count a)));
+    }
+    by_block b inside b_top (inr other) = other_root g (taken g a (next_group (g.count a))) b (root_counter shape chip.roots b)
+        (put_other g.count a (next_group (g.count a)) b other) (λ was. other (sym (some_is (sym at ∙ was)))) (λ now. none_is_not now) (s.roots b inside b_top)
+
+-- first ones of a list
+has_take : {A : Type 0} (n : ℕ) (xs : List A) (x : A) → Has x (take n xs) → Has x xs
+has_take zero xs x h = absurd h
+has_take (suc n) [] x h = absurd h
+has_take (suc n) (y ∷ ys) x (inl is) = inl is
+has_take (suc n) (y ∷ ys) x (inr h) = inr (has_take n ys x h)
+
+distinct_take : (n : ℕ) (xs : List ℕ) → AreDistinct xs → AreDistinct (take n xs)
+distinct_take zero xs distinct = tt
+distinct_take (suc n) [] distinct = tt
+distinct_take (suc n) (x ∷ xs) distinct = (λ h. distinct.0 (has_take n xs x h), distinct_take n xs distinct.1)
+
+addresses_take : (n : ℕ) (held : List HeldBlock) → take n (addresses held) ≡ addresses (take n held)
+addresses_take zero held = refl
+addresses_take (suc n) [] = refl
+addresses_take (suc n) (h ∷ held) = ap (λ l. h.address ∷ l) (addresses_take n held)
+
+length_take : {A : Type 0} (n : ℕ) (xs : List A) → length (take n xs) ≤ n
+length_take zero xs = omega arith
+length_take (suc n) [] = omega arith
+length_take (suc n) (x ∷ xs) = let less = length_take n xs in omega arith
+
+-- the block in flight is held
+pub groups_inserted : (shape : Shape) (plb : ℕ) (g : Ghost) (chip : Chip) → AreGroups shape plb g chip → (h : HeldBlock)
+    → h.counter ≡ g.count h.address → IsGroupOf shape g h.address h.group.group h.group.own → (Has h.address g.held → ⊥)
+    → h.address < shape.total → g.pend ≡ None
+    → AreGroups shape plb (inserted g plb h.address) (with_held plb h chip)
+groups_inserted shape plb g chip s h counted shown unheld inside none = record {
+  roots = λ b b_inside top. same_root g (inserted g plb h.address) b (root_counter shape chip.roots b) refl refl (s.roots b b_inside top);
+  counters = λ x has. elim (has_take plb (h ∷ chip.held) x has) [
+    | inl is ↦ ap (λ (y : HeldBlock). y.counter) is ∙ counted ∙ ap (λ (y : HeldBlock). g.count y.address) (sym is)
+    | inr at ↦ s.counters x at
+  ];
+  groups = λ x has. elim (has_take plb (h ∷ chip.held) x has) [
+    | inl is ↦ subst (λ (y : HeldBlock). IsGroupOf shape (inserted g plb h.address) y.address y.group.group y.group.own) (sym is)
+        (same_group shape g (inserted g plb h.address) h.address h.group.group h.group.own refl refl refl shown)
+    | inr at ↦ same_group shape g (inserted g plb h.address) x.address x.group.group x.group.own refl refl refl (s.groups x at)
+  ];
+  parent = λ b p bad of. none_is_not (sym none ∙ bad);
+  listed = ap (λ l. take plb (h.address ∷ l)) s.listed ∙ addresses_take plb (h ∷ chip.held);
+  apart = distinct_take plb (h.address ∷ g.held) (unheld, s.apart);
+  few = length_take plb (h.address ∷ g.held);
+  inside = λ p has. elim (has_take plb (h.address ∷ g.held) p has) [
+    | inl is ↦ subst (λ x. x < shape.total) (sym is) inside
+    | inr at ↦ s.inside p at
+  ];
+}
+
+-- a held block is used
+unmapped : (a : ℕ) (held : List HeldBlock) → Has a (addresses held) → (h : HeldBlock) × Has h held × (a ≡ h.address)
+unmapped a held has = has_map (λ (h : HeldBlock). h.address) a held has
+
+without_apart : (p : ℕ) (held : List HeldBlock) → AreDistinct (addresses held)
+    → AreDistinct (addresses (without_first (is_at p) held)) × (Has p (addresses (without_first (is_at p) held)) → ⊥)
+unfolding without_first
+without_apart p [] distinct = (tt, λ h. h)
+without_apart p (x ∷ held) distinct = elim (eqb_tells x.address p) [
+  | inl same ↦ rw same.0 (distinct.1, λ has. distinct.0 (subst (λ a. Has a (addresses held)) (sym same.1) has))
+  | inr other ↦ (let rest = without_apart p held distinct.1 in rw other.0 (
+    ((λ has. distinct.0 (kept has)), rest.0),
+    λ has. elim has [ inl is ↦ other.1 (sym is) | inr at ↦ rest.1 at ],
+  ))
+]
+  where
+    kept : Has x.address (addresses (without_first (is_at p) held)) → Has x.address (addresses held)
+    kept has = let y = unmapped x.address (without_first (is_at p) held) has in
+        subst (λ a. Has a (addresses held)) (sym y.2) (mapped y.0 held (without_first-has (is_at p) held y.0 y.1))
+
+pub groups_used : (shape : Shape) (plb : ℕ) (g : Ghost) (chip : Chip) → AreGroups shape plb g chip → (p : ℕ) → g.pend ≡ None
+    → AreGroups shape plb (record g { held = addresses (with_used p chip).held }) (with_used p chip)
+unfolding promoted_first
+groups_used shape plb g chip s p none = by_found (find (is_at p) chip.held) refl
+  where
+    distinct : AreDistinct (addresses chip.held)
+    distinct = subst AreDistinct s.listed s.apart
+
+    few_of : length (addresses chip.held) ≤ plb
+    few_of = subst (λ l. length l ≤ plb) s.listed s.few
+
+    keep : (held : List HeldBlock) → ((x : HeldBlock) → Has x held → Has x chip.held) → AreDistinct (addresses held) → length (addresses held) ≤ plb
+        → AreGroups shape plb (record g { held = addresses held }) (record chip { held = held })
+    keep held among apart few = record {
+      roots = λ b inside top. same_root g (record g { held = addresses held }) b (root_counter shape chip.roots b) refl refl (s.roots b inside top);
+      counters = λ x has. s.counters x (among x has);
+      groups = λ x has. same_group shape g (record g { held = addresses held }) x.address x.group.group x.group.own refl refl refl (s.groups x (among x has));
+      parent = λ b q bad of. none_is_not (sym none ∙ bad);
+      listed = refl;
+      apart = apart;
+      few = few;
+      inside = λ q has. let y = unmapped q held has in
+          s.inside q (subst (λ l. Has q l) (sym s.listed) (subst (λ a. Has a (addresses chip.held)) (sym y.2) (mapped y.0 chip.held (among y.0 y.1))));
+    }
+
+    length_addresses : (held : List HeldBlock) → length (addresses held) ≡ length held
+    length_addresses [] = refl
+    length_addresses (x ∷ held) = ap suc (length_addresses held)
+
+    by_found : (found : Option HeldBlock) → find (is_at p) chip.held ≡ found
+        → AreGroups shape plb (record g { held = addresses (option_map_or (λ (x : HeldBlock). x ∷ without_first (is_at p) chip.held) found chip.held) })
+        (record chip { held = option_map_or (λ (x : HeldBlock). x ∷ without_first (is_at p) chip.held) found chip.held })
+    by_found None is = keep chip.held (λ x has. has) distinct few_of
+    by_found (Some x) is =
+        let at : x.address ≡ p = eqb-true x.address p (find-holds (is_at p) chip.held x is) in
+        let rest = without_apart p chip.held distinct in
+        let counted = length-without_first (is_at p) chip.held x is in
+        keep (x ∷ without_first (is_at p) chip.held)
+        (λ y has. elim has [ inl same ↦ subst (λ z. Has z chip.held) (sym same) (find-has (is_at p) chip.held x is) | inr in_rest ↦ without_first-has (is_at p) chip.held y in_rest ])
+        ((λ has. rest.1 (subst (λ a. Has a (addresses (without_first (is_at p) chip.held))) at has)), rest.0)
+        (omega (arith, few_of, counted, length_addresses chip.held, length_addresses (without_first (is_at p) chip.held)))

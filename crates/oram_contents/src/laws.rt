@@ -21,6 +21,7 @@ ghost use Rattle.oram_contents.specs.Entries.{Keys, AreKeys, real, entry_of};
 ghost use Rattle.asc_base.specs.Has.{Has};
 ghost use Rattle.oram_contents.specs.Counts.{Ghost, IsAway, line_at, put_at};
 ghost use Rattle.oram_contents.specs.Chip.{HeldBlock, Chip, AreGroups, first_chip, root_place, root_stepped, with_group};
+ghost use Rattle.oram_contents.specs.Chip.{addresses, with_held, with_used};
 ghost use Rattle.oram_contents.specs.Groups.{IsGroupOf, AreCounters, AreSmall, moved_of};
 ghost use Rattle.oram_contents.specs.Home.{Home, AreInForm, flying};
 ghost use Rattle.oram_contents.specs.Fold.{Fold, IsCut, LogEnd, Whole, with_entry, is_open_for, fold_events, whole, contents_of_log};
@@ -305,6 +306,39 @@ pub fn chip_shows_counters()
         → (Has (first + child) g.held → ⊥)
         → AreGroups shape plb (taken g (first + child) (next_own (g.count (first + child))))
         (record { roots = roots; held = h ∷ rest }) }
+    ensures root_taken { (shape : Shape) → IsShape shape → (plb : ℕ) (g : Ghost) (chip : Chip)
+        → AreGroups shape plb g chip → (a : ℕ) → a < shape.total → parent_of shape.lines shape.layers a ≡ None
+        → g.stepped ≡ Some a → (Has a g.held → ⊥) → AreGroups shape plb (taken g a (next_group (g.count a))) chip }
+{}
+
+/// So it does over a group move, of whose children the first that isn't held moves in its slot; and where a block is held
+/// or a held one is used.
+pub fn chip_shows_moves()
+    ensures begins { (shape : Shape) → IsShape shape → (plb : ℕ) (g : Ghost) (roots : List ℕ) (h : HeldBlock)
+        (rest : List HeldBlock) → AreGroups shape plb g (record { roots = roots; held = h ∷ rest }) → g.move ≡ None
+        → AreGroups shape plb (record g { move = Some (h.address, 0) }) (record { roots = roots; held = h ∷ rest }) }
+    ensures child { (shape : Shape) → IsShape shape → (plb : ℕ) (g : Ghost) (roots : List ℕ) (h : HeldBlock)
+        (rest : List HeldBlock) → AreGroups shape plb g (record { roots = roots; held = h ∷ rest })
+        → (first number child : ℕ) → children_of shape.lines shape.layers h.address ≡ Some (first, number)
+        → child < number → g.stepped ≡ None → g.move ≡ Some (h.address, child) → (Has (first + child) g.held → ⊥)
+        → AreGroups shape plb (record (taken g (first + child) (next_group (g.count (first + child)))) {
+          move = Some (h.address, child + 1);
+        }) (record { roots = roots; held = h ∷ rest }) }
+    ensures ends { (shape : Shape) → IsShape shape → (plb : ℕ) (g : Ghost) (roots : List ℕ) (h : HeldBlock)
+        (rest : List HeldBlock) → AreGroups shape plb g (record { roots = roots; held = h ∷ rest })
+        → (first number : ℕ) → children_of shape.lines shape.layers h.address ≡ Some (first, number) → g.stepped ≡ None
+        → g.move ≡ Some (h.address, number) → AreGroups shape plb (record g { move = None }) (record {
+          roots = roots;
+          held = with_group h (record { group = (h.group.group + 1) % 2 ^ 64; own = replicate 32 0 }) ∷ rest;
+        }) }
+    ensures inserted { (shape : Shape) (plb : ℕ) (g : Ghost) (chip : Chip) → AreGroups shape plb g chip
+        → (h : HeldBlock) → h.counter ≡ g.count h.address
+        → IsGroupOf shape g h.address h.group.group h.group.own → (Has h.address g.held → ⊥)
+        → h.address < shape.total → g.pend ≡ None
+        → AreGroups shape plb (inserted g plb h.address) (with_held plb h chip) }
+    ensures used { (shape : Shape) (plb : ℕ) (g : Ghost) (chip : Chip) → AreGroups shape plb g chip → (p : ℕ)
+        → g.pend ≡ None
+        → AreGroups shape plb (record g { held = addresses (with_used p chip).held }) (with_used p chip) }
 {}
 
 /// Counters keep their room, and siblings their common group.
