@@ -2,7 +2,8 @@
 #![tactic(auto)]
 
 ghost use Rattle.std.specs.Prelude.{◌≡◌, ◌+◌, ◌≤◌, ◌<◌, ◌↔◌, [], ◌∷◌, ◌++◌, List, length, position, is_none};
-ghost use Rattle.std.specs.Prelude.{IsOk, IsErr, IsSome, IfNone, OnSome, OnOk, OnErr, vec_capacity};
+ghost use Rattle.std.specs.Prelude.{IsOk, IsErr, IsSome, IfNone, OnSome, OnOk, OnErr, slice_get, vec_capacity};
+ghost use Rattle.std.specs.Option.{option_copied};
 ghost use Rattle.oram_stash.specs.Entries.{is_of, held, without, AreApart};
 ghost use Rattle.path_evict.specs.Placed.{kept};
 
@@ -145,6 +146,13 @@ impl Stash {
         ensures { result ≡ self.now.spare }
     {
         self.entries.capacity() - self.entries.len()
+    }
+
+    /// The entry at this place in order of arrival, from 0 on; None past the last.
+    pub fn get(&self, at: usize) -> Option<&Entry>
+        ensures { option_copied result ≡ slice_get self.now.entries at }
+    {
+        self.entries.get(at)
     }
 
     /// The entries in order of arrival.
