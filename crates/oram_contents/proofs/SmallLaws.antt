@@ -1,6 +1,6 @@
 -- Counters stay small.
-use Rattle.std.proofs.Common.{◌≡◌, ◌<◌, ◌≤◌, ◌+◌, ◌-◌, ◌^◌, ◌⊎◌, inl, inr, ℕ, suc, zero, Bool, true, false, List, [], ◌∷◌, ◌++◌}
-use Rattle.std.proofs.Common.{count_by, Option, None, Some, refl, sym, ◌∙◌, ap, subst, arith}
+use Rattle.std.proofs.Common.{◌≡◌, ◌<◌, ◌≤◌, ◌+◌, ◌-◌, ◌^◌, ◌⊎◌, inl, inr, ℕ, List, [], ◌∷◌, ◌++◌}
+use Rattle.std.proofs.Common.{count_by, None, refl, sym, ◌∙◌, ap, subst, arith}
 use Rattle.std.proofs.Math.Pow.{pow_mono}
 use Rattle.std.proofs.lemmas.Bool.{cases_eq}
 use Rattle.asc_base.proofs.Lookups.{count_by-cons}
@@ -38,7 +38,13 @@ pub small_more : (shape : Shape) (ic : ℕ) (old new : LogLists) (events : List 
 small_more shape ic old new events altered count adds s = record {
   top = s.top;
   own = s.own;
-  drawn = λ a inside. omega (arith, s.drawn a inside, ap (count_by draws) adds.events_are, count_append old.events events);
+  drawn = λ a inside. omega (
+    arith,
+    s.drawn a inside,
+    ap
+        (count_by draws) adds.events_are,
+    count_append old.events events,
+  );
 }
 
 -- a block's counter changes within its room

@@ -21,7 +21,7 @@ ghost use Rattle.oram_contents.specs.Entries.{Keys, AreKeys, real, entry_of};
 ghost use Rattle.asc_base.specs.Has.{Has};
 ghost use Rattle.oram_contents.specs.Counts.{Ghost, IsAway, line_at, put_at};
 ghost use Rattle.oram_contents.specs.Chip.{HeldBlock, Chip, AreGroups, first_chip, root_place, root_stepped, with_group};
-ghost use Rattle.oram_contents.specs.Chip.{addresses, with_held, with_used};
+ghost use Rattle.oram_contents.specs.Chip.{addresses, recount_held, with_held, with_used};
 ghost use Rattle.oram_contents.specs.Groups.{IsGroupOf, AreCounters, AreSmall, moved_of};
 ghost use Rattle.oram_contents.specs.Home.{Home, AreInForm, flying};
 ghost use Rattle.oram_contents.specs.Fold.{Fold, IsCut, LogEnd, Whole, with_entry, is_open_for, fold_events, whole, contents_of_log};
@@ -311,8 +311,8 @@ pub fn chip_shows_counters()
         → g.stepped ≡ Some a → (Has a g.held → ⊥) → AreGroups shape plb (taken g a (next_group (g.count a))) chip }
 {}
 
-/// So it does over a group move, of whose children the first that isn't held moves in its slot; and where a block is held
-/// or a held one is used.
+/// So it does over a group move, in which each child is moved in its slot or, where it is held, renumbered; and where a block
+/// is held or a held one is used.
 pub fn chip_shows_moves()
     ensures begins { (shape : Shape) → IsShape shape → (plb : ℕ) (g : Ghost) (roots : List ℕ) (h : HeldBlock)
         (rest : List HeldBlock) → AreGroups shape plb g (record { roots = roots; held = h ∷ rest }) → g.move ≡ None
@@ -324,6 +324,17 @@ pub fn chip_shows_moves()
         → AreGroups shape plb (record (taken g (first + child) (next_group (g.count (first + child)))) {
           move = Some (h.address, child + 1);
         }) (record { roots = roots; held = h ∷ rest }) }
+    ensures renumbered { (shape : Shape) → IsShape shape → (plb : ℕ) (g : Ghost) (roots : List ℕ) (h : HeldBlock)
+        (rest : List HeldBlock) → AreGroups shape plb g (record { roots = roots; held = h ∷ rest })
+        → (first number child : ℕ) → children_of shape.lines shape.layers h.address ≡ Some (first, number)
+        → child < number → g.stepped ≡ None → g.move ≡ Some (h.address, child)
+        → AreGroups shape plb (record g {
+          count = put_at g.count (first + child) (next_group (g.count (first + child)));
+          move = Some (h.address, child + 1);
+        }) (record {
+          roots = roots;
+          held = h ∷ recount_held (first + child) (next_group (g.count (first + child))) rest;
+        }) }
     ensures ends { (shape : Shape) → IsShape shape → (plb : ℕ) (g : Ghost) (roots : List ℕ) (h : HeldBlock)
         (rest : List HeldBlock) → AreGroups shape plb g (record { roots = roots; held = h ∷ rest })
         → (first number : ℕ) → children_of shape.lines shape.layers h.address ≡ Some (first, number) → g.stepped ≡ None

@@ -1,4 +1,5 @@
-use Rattle.oram_contents.proofs.ChipLaws.{groups_start, groups_wait, groups_root, groups_stepped, groups_taken, groups_root_taken}
+use Rattle.oram_contents.proofs.ChipLaws.{groups_start, groups_wait, groups_root, groups_stepped, groups_taken}
+use Rattle.oram_contents.proofs.ChipLaws.{groups_root_taken}
 use Rattle.oram_contents.proofs.laws.chip_shows_counters.Goals as goal
 
 pub returns-clause-start : goal.returns-clause-start

@@ -1,4 +1,5 @@
-use Rattle.oram_contents.proofs.ChipLaws.{groups_begin, groups_moved, groups_end, groups_inserted, groups_used}
+use Rattle.oram_contents.proofs.ChipLaws.{groups_begin, groups_moved, groups_renumbered, groups_end, groups_inserted}
+use Rattle.oram_contents.proofs.ChipLaws.{groups_used}
 use Rattle.oram_contents.proofs.laws.chip_shows_moves.Goals as goal
 
 pub returns-clause-begins : goal.returns-clause-begins
@@ -15,3 +16,6 @@ returns-clause-inserted c = groups_inserted
 
 pub returns-clause-used : goal.returns-clause-used
 returns-clause-used c = groups_used
+
+pub returns-clause-renumbered : goal.returns-clause-renumbered
+returns-clause-renumbered c = groups_renumbered
