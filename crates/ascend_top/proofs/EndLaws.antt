@@ -1,5 +1,7 @@
--- How a command ends: over right files and a host that never fails it is its run that is reported, or there is no memory.
-use Rattle.std.proofs.Common.{◌≡◌, ◌⊎◌, ℕ, ◌≤◌, List, [], ◌∷◌, true, Option, Some, None, Result, Ok, Err, length, refl, sym, ap, subst, ◌∙◌, inl, inr, arith, rules}
+-- How a command ends: over right files and a host that never fails it is its run that is reported, or there is no
+-- memory.
+use Rattle.std.proofs.Common.{◌≡◌, ◌⊎◌, ℕ, ◌≤◌, List, [], ◌∷◌, true, Option, Some, None, Result, Ok, Err, length}
+use Rattle.std.proofs.Common.{refl, sym, ap, subst, ◌∙◌, inl, inr, arith, rules}
 use Rattle.std.specs.Prelude.{IsSome, is_some}
 use Rattle.std.specs.List.{AllByRecursion}
 use Rattle.asc_base.specs.declared.settings.Settings.{Settings}
@@ -11,14 +13,18 @@ use Rattle.ascend_words.specs.Settings.{text_in, settings_of}
 use Rattle.ascend_words.specs.declared.table.Command.{Command}
 use Rattle.ascend_words.specs.declared.table.Command.TheVariants.{Run, Flat}
 use Rattle.ascend_words.specs.declared.table.Name.TheVariants.{Input}
-use Rattle.ascend_top.specs.Command.{AreRight, CommandEnds, Completes, IsFirstRefusal, IsOfFiles, StepsEnd, Tells, steps_of}
+use Rattle.ascend_top.specs.Command.{AreRight, CommandEnds, Completes, IsFirstRefusal, IsOfFiles, StepsEnd, Tells}
+use Rattle.ascend_top.specs.Command.{steps_of}
 use Rattle.ascend_top.specs.Flat.{input_steps, report_steps}
 use Rattle.ascend_top.specs.FlatRun.{Report, flat_report}
 use Rattle.ascend_top.specs.Status.{status_of, status_of_ending, status_of_refusal}
-use Rattle.ascend_top.specs.Steps.{AKey, AllDone, AnElf, Anything, Breaks, Does, IsCause, IsDone, IsReadCause, IsRefused, IsRight, IsSettingCause, IsWriteCause, IsWrong, Judges, Prints, Reads, Refuses, Rule, Step, Writes, limit_of}
+use Rattle.ascend_top.specs.Steps.{AKey, AllDone, AnElf, Anything, Breaks, Does, IsCause, IsDone, IsReadCause}
+use Rattle.ascend_top.specs.Steps.{IsRefused, IsRight, IsSettingCause, IsWriteCause, IsWrong, Judges, Prints, Reads}
+use Rattle.ascend_top.specs.Steps.{Refuses, Rule, Step, Writes, limit_of}
 use Rattle.ascend_top.specs.Texts.{refusal_text}
 use Rattle.ascend_top.specs.declared.refusal.Refusal.{Refusal}
-use Rattle.ascend_top.specs.declared.refusal.Refusal.TheVariants.{Usage, OutOfRange, Elf, KeyLength, TooLong, Host, NoMemory}
+use Rattle.ascend_top.specs.declared.refusal.Refusal.TheVariants.{Usage, OutOfRange, Elf, KeyLength, TooLong, Host}
+use Rattle.ascend_top.specs.declared.refusal.Refusal.TheVariants.{NoMemory}
 use Rattle.ascend_top.specs.declared.refusal.Source.{Source}
 use Rattle.ascend_top.proofs.StepLaws.{asks_none}
 
@@ -38,7 +44,8 @@ judge_lost settings state = record {
   asked = inl refl;
 }
 
-pub lost_at_start : (command : Command) (given : List Pair) (state : HostState) → IsRefused (steps_of command given) NoMemory state state
+pub lost_at_start : (command : Command) (given : List Pair) (state : HostState)
+    → IsRefused (steps_of command given) NoMemory state state
 lost_at_start Run given state = inl (judge_lost (settings_of given) state)
 lost_at_start Flat given state = inl (judge_lost (settings_of given) state)
 
@@ -74,13 +81,16 @@ does_files (Reads source name rule) old new is does = does.files
 does_files (Writes name bytes) old new is does = absurd is
 does_files (Prints text) old new is does = absurd is
 
-all_files : (steps : List Step) (old new : HostState) → AllByRecursion IsReading steps → AllDone steps old new → new.files ≡ old.files
+all_files : (steps : List Step) (old new : HostState) → AllByRecursion IsReading steps → AllDone steps old new
+    → new.files ≡ old.files
 all_files [] old new are e = ap (λ (s : HostState). s.files) e
-all_files (step ∷ steps) old new are (mid, does, rest) = all_files steps mid new are.1 rest ∙ does_files step old mid are.0 does
+all_files (step ∷ steps) old new are (mid, does, rest) = all_files steps mid new are.1 rest
+    ∙ does_files step old mid are.0 does
 
 all_later : (steps : List Step) (old new : HostState) → AllDone steps old new → old.faults ≤ new.faults
 all_later [] old new e = let same : new.faults ≡ old.faults = ap (λ (s : HostState). s.faults) e in omega arith
-all_later (step ∷ steps) old new (mid, does, rest) = let later = all_later steps mid new rest in omega (arith, does.later, later)
+all_later (step ∷ steps) old new (mid, does, rest) = let later = all_later steps mid new rest in omega
+    (arith, does.later, later)
 
 input_reading : (o : Option (List ℕ)) → AllByRecursion IsReading (input_steps o)
 input_reading None = tt
@@ -109,7 +119,8 @@ one_file files name a b h k = let e : ◌≡◌ {A = Option (List ℕ)} (Some a)
 abbrev HasNone : Refusal → Type 0
 HasNone refusal = (refusal ≡ NoMemory) ⊎ (refusal ≡ Host)
 
-setting_free : (settings : Settings) (files : Files) (refusal : Refusal) → IsDone files (Judges settings) → IsSettingCause settings refusal → HasNone refusal
+setting_free : (settings : Settings) (files : Files) (refusal : Refusal) → IsDone files (Judges settings)
+    → IsSettingCause settings refusal → HasNone refusal
 setting_free settings files (OutOfRange setting) done cause = absurd (cause.fails (done setting))
 setting_free settings files NoMemory done cause = inl refl
 setting_free settings files Host done cause = absurd cause
@@ -118,7 +129,8 @@ setting_free settings files (Elf fault) done cause = absurd cause
 setting_free settings files (KeyLength count) done cause = absurd cause
 setting_free settings files (TooLong source) done cause = absurd cause
 
-read_free : (files : Files) (source : Source) (name : List ℕ) (rule : Rule) (refusal : Refusal) → IsRight files source name rule
+read_free : (files : Files) (source : Source) (name : List ℕ) (rule : Rule) (refusal : Refusal)
+    → IsRight files source name rule
     → IsReadCause files source name rule refusal → HasNone refusal
 read_free files source name rule (TooLong other) right (same, longer) =
     let e = ap length (one_file files name right.bytes (longer.0) right.is (longer.1)) in
@@ -131,7 +143,8 @@ read_free files source name (AnElf base size) (KeyLength count) right cause = ab
 read_free files source name Anything (Elf fault) right cause = absurd cause.breaks
 read_free files source name AKey (Elf fault) right cause = absurd cause.breaks
 read_free files source name (AnElf base size) (Elf fault) right cause =
-    let faultless : IsFaultless base size cause.bytes = subst (λ bytes. IsFaultless base size bytes) (one_file files name right.bytes cause.bytes right.is cause.is) right.keeps in
+    let faultless : IsFaultless base size cause.bytes = subst (λ bytes. IsFaultless base size bytes)
+    (one_file files name right.bytes cause.bytes right.is cause.is) right.keeps in
     absurd (faultless fault cause.breaks.present)
 read_free files source name rule Host right cause = inr refl
 read_free files source name rule NoMemory right cause = inl refl
@@ -147,33 +160,41 @@ write_free (Elf fault) cause = absurd cause
 write_free (KeyLength count) cause = absurd cause
 write_free (TooLong source) cause = absurd cause
 
-cause_free : (files : Files) (step : Step) (refusal : Refusal) → IsDone files step → IsCause files step refusal → HasNone refusal
+cause_free : (files : Files) (step : Step) (refusal : Refusal) → IsDone files step → IsCause files step refusal
+    → HasNone refusal
 cause_free files (Judges settings) refusal done cause = setting_free settings files refusal done cause
 cause_free files (Reads source name rule) refusal done cause = read_free files source name rule refusal done cause
 cause_free files (Writes name bytes) refusal done cause = write_free refusal cause
 cause_free files (Prints text) refusal done cause = write_free refusal cause
 
-step_free : (files : Files) (step : Step) (refusal : Refusal) (old new : HostState) → IsDone files step → old.files ≡ Some files → Refuses step refusal old new
+step_free : (files : Files) (step : Step) (refusal : Refusal) (old new : HostState) → IsDone files step
+    → old.files ≡ Some files → Refuses step refusal old new
     → IsFree refusal old.faults new.faults
-step_free files step refusal old new done told refuses = go (cause_free files step refusal done (refuses.cause files told))
+step_free files step refusal old new done told refuses = go (cause_free files step refusal done
+    (refuses.cause files told))
   where
     go : HasNone refusal → IsFree refusal old.faults new.faults
     go (inl e) = inl e
     go (inr e) = inr (e, refuses.fault e)
 
-before_free : (files : Files) (steps : List Step) (refusal : Refusal) (old new : HostState) → AllByRecursion IsReading steps → AllByRecursion (IsDone files) steps
+before_free : (files : Files) (steps : List Step) (refusal : Refusal) (old new : HostState)
+    → AllByRecursion IsReading steps → AllByRecursion (IsDone files) steps
     → old.files ≡ Some files → IsRefused steps refusal old new → IsFree refusal old.faults new.faults
 before_free files [] refusal old new are right told refused = absurd refused
-before_free files (step ∷ steps) refusal old new are right told (inl refuses) = step_free files step refusal old new right.0 told refuses
+before_free files (step ∷ steps) refusal old new are right told (inl refuses) = step_free files step refusal old new
+    right.0 told refuses
 before_free files (step ∷ steps) refusal old new are right told (inr (mid, does, rest)) =
     free_later refusal old.faults mid.faults new.faults new.faults does.later (omega arith)
     (before_free files steps refusal mid new are.1 right.1 (does_files step old mid are.0 does ∙ told) rest)
 
-still_told : (old new : Option Files) (files : Files) → is_some new ≡ is_some old → old ≡ Some files → (after : Files) × (new ≡ Some after)
-still_told old None files e told = let t : is_some old ≡ true = ap (is_some {T = Files}) told in absurd (let no : ⊥ = cc in no)
+still_told : (old new : Option Files) (files : Files) → is_some new ≡ is_some old → old ≡ Some files
+    → (after : Files) × (new ≡ Some after)
+still_told old None files e told = let t : is_some old ≡ true = ap (is_some {T = Files}) told in absurd
+    (let no : ⊥ = cc in no)
 still_told old (Some after) files e told = (after, refl)
 
-after_free : (given : List Pair) (report : Report) (files : Files) (refusal : Refusal) (old new : HostState) → old.files ≡ Some files
+after_free : (given : List Pair) (report : Report) (files : Files) (refusal : Refusal) (old new : HostState)
+    → old.files ≡ Some files
     → IsRefused (report_steps given report) refusal old new → IsFree refusal old.faults new.faults
 after_free given report files refusal old new told (inl refuses) = step_free files _ refusal old new tt told refuses
 after_free given report files refusal old new told (inr (mid, does, inl refuses)) =
@@ -182,25 +203,38 @@ after_free given report files refusal old new told (inr (mid, does, inl refuses)
     (step_free still.0 _ refusal mid new tt still.1 refuses)
 after_free given report files refusal old new told (inr (mid, does, inr (end, print, none))) = absurd none
 
-steps_free : (read : Read) (files : Files) (refusal : Refusal) (old new : HostState) → old.files ≡ Some files → AreRight read files
-    → StepsEnd (steps_of read.command read.given) read.given (Err refusal) old new → IsFree refusal old.faults new.faults
+steps_free : (read : Read) (files : Files) (refusal : Refusal) (old new : HostState) → old.files ≡ Some files
+    → AreRight read files
+    → StepsEnd (steps_of read.command read.given) read.given (Err refusal) old new
+    → IsFree refusal old.faults new.faults
 steps_free read files refusal old new told right (inl refused) =
-    before_free files (steps_of read.command read.given) refusal old new (steps_reading read.command read.given) right told refused
+    before_free files (steps_of read.command read.given) refusal old new (steps_reading read.command read.given)
+    right told refused
 steps_free read files refusal old new told right (inr (at, done, inl (e, same))) = inl e
 steps_free read files refusal old new told right (inr (at, done, inr (report, flat, refused))) =
     let reading = steps_reading read.command read.given in
-    free_later refusal old.faults at.faults new.faults new.faults (all_later (steps_of read.command read.given) old at done) (omega arith)
-    (after_free read.given report files refusal at new (all_files (steps_of read.command read.given) old at reading done ∙ told) refused)
+    free_later refusal old.faults at.faults new.faults new.faults
+    (all_later (steps_of read.command read.given) old at done) (omega arith)
+    (after_free read.given report files refusal at new (all_files (steps_of read.command read.given) old at reading
+    done ∙ told) refused)
 
-pub completes : (read : Read) (files : Files) (status : ℕ) (end : Result Report Refusal) (old new : HostState) → status ≡ status_of end → CommandEnds read end old new
+pub completes : (read : Read) (files : Files) (status : ℕ) (end : Result Report Refusal) (old new : HostState)
+    → status ≡ status_of end → CommandEnds read end old new
     → old.files ≡ Some files → AreRight read files → ¬ Rose old.faults new.faults → Completes read files status old new
 completes read files status (Ok report) old new is (at, before, flat, after) told right safe =
     let reading = steps_reading read.command read.given in
-    let e : report ≡ flat_report read.given files = flat files (all_files (steps_of read.command read.given) old at reading before ∙ told) in
-    inr (is ∙ ap (λ (r : Report). status_of_ending r.ending) e, subst (λ (r : Report). CommandEnds read (Ok r) old new) e (at, before, flat, after))
-completes read files status (Err end) old new is (refusal, mid, steps, tells) told right safe = go tells.same (steps_free read files refusal old mid told right steps)
+    let e : report ≡ flat_report read.given files = flat files
+    (all_files (steps_of read.command read.given) old at reading before ∙ told) in
+    inr (
+      is ∙ ap (λ (r : Report). status_of_ending r.ending) e,
+      subst
+          (λ (r : Report). CommandEnds read (Ok r) old new) e (at, before, flat, after),
+    )
+completes read files status (Err end) old new is (refusal, mid, steps, tells) told right safe = go tells.same
+    (steps_free read files refusal old mid told right steps)
   where
-    go : (end ≡ refusal) ⊎ (IsSome (refusal_text refusal) × (end ≡ NoMemory)) → IsFree refusal old.faults mid.faults → Completes read files status old new
+    go : (end ≡ refusal) ⊎ (IsSome (refusal_text refusal) × (end ≡ NoMemory)) → IsFree refusal old.faults mid.faults
+        → Completes read files status old new
     go (inr (some, none)) free = inl (is ∙ ap status_of_refusal none)
     go (inl same) (inl none) = inl (is ∙ ap status_of_refusal (same ∙ none))
     go (inl same) (inr (host, rose)) = absurd (safe (omega (arith, rose, tells.later)))
@@ -214,18 +248,21 @@ of_files_not_free refusal of (inr e) = absurd (subst IsOfFiles e of)
 abbrev Agrees : Refusal → Refusal → Type 0
 Agrees a b = HasNone a ⊎ (status_of_refusal a ≡ status_of_refusal b)
 
-wrong_not_long : {P : Type 0} (files : Files) (source : Source) (name : List ℕ) (rule : Rule) (refusal : Refusal) → IsWrong files source name rule refusal
+wrong_not_long : {P : Type 0} (files : Files) (source : Source) (name : List ℕ) (rule : Rule) (refusal : Refusal)
+    → IsWrong files source name rule refusal
     → IsLonger files name (limit_of source) → P
 wrong_not_long files source name rule refusal wrong longer =
     let e = ap length (one_file files name wrong.bytes (longer.0) wrong.is (longer.1)) in
     absurd (let no : ⊥ = omega (arith, e, wrong.within, longer.2) in no)
 
-key_not_elf : {P : Type 0} (rule : Rule) (x y : List ℕ) (count : ℕ) (fault : ElfFault) → Breaks rule x (KeyLength count) → Breaks rule y (Elf fault) → P
+key_not_elf : {P : Type 0} (rule : Rule) (x y : List ℕ) (count : ℕ) (fault : ElfFault)
+    → Breaks rule x (KeyLength count) → Breaks rule y (Elf fault) → P
 key_not_elf Anything x y count fault h k = absurd h
 key_not_elf AKey x y count fault h k = absurd k
 key_not_elf (AnElf base size) x y count fault h k = absurd h
 
-read_agrees : (files : Files) (source : Source) (name : List ℕ) (rule : Rule) (a b : Refusal) → IsReadCause files source name rule a
+read_agrees : (files : Files) (source : Source) (name : List ℕ) (rule : Rule) (a b : Refusal)
+    → IsReadCause files source name rule a
     → IsReadCause files source name rule b → IsOfFiles b → Agrees a b
 read_agrees files source name rule Host b h k of = inl (inr refl)
 read_agrees files source name rule NoMemory b h k of = inl (inl refl)
@@ -236,16 +273,23 @@ read_agrees files source name rule a NoMemory h k of = absurd of
 read_agrees files source name rule a (Usage word) h k of = absurd k
 read_agrees files source name rule a (OutOfRange setting) h k of = absurd k
 read_agrees files source name rule (TooLong other) (TooLong another) h k of = inr refl
-read_agrees files source name rule (TooLong other) (KeyLength count) h k of = wrong_not_long files source name rule (KeyLength count) k (h.1)
-read_agrees files source name rule (TooLong other) (Elf fault) h k of = wrong_not_long files source name rule (Elf fault) k (h.1)
-read_agrees files source name rule (KeyLength count) (TooLong other) h k of = wrong_not_long files source name rule (KeyLength count) h (k.1)
+read_agrees files source name rule (TooLong other) (KeyLength count) h k of = wrong_not_long files source name rule
+    (KeyLength count) k (h.1)
+read_agrees files source name rule (TooLong other) (Elf fault) h k of = wrong_not_long files source name rule
+    (Elf fault) k (h.1)
+read_agrees files source name rule (KeyLength count) (TooLong other) h k of = wrong_not_long files source name rule
+    (KeyLength count) h (k.1)
 read_agrees files source name rule (KeyLength count) (KeyLength other) h k of = inr refl
-read_agrees files source name rule (KeyLength count) (Elf fault) h k of = key_not_elf rule h.bytes k.bytes count fault h.breaks k.breaks
-read_agrees files source name rule (Elf fault) (TooLong other) h k of = wrong_not_long files source name rule (Elf fault) h (k.1)
-read_agrees files source name rule (Elf fault) (KeyLength count) h k of = key_not_elf rule k.bytes h.bytes count fault k.breaks h.breaks
+read_agrees files source name rule (KeyLength count) (Elf fault) h k of = key_not_elf rule h.bytes k.bytes count
+    fault h.breaks k.breaks
+read_agrees files source name rule (Elf fault) (TooLong other) h k of = wrong_not_long files source name rule
+    (Elf fault) h (k.1)
+read_agrees files source name rule (Elf fault) (KeyLength count) h k of = key_not_elf rule k.bytes h.bytes count
+    fault k.breaks h.breaks
 read_agrees files source name rule (Elf fault) (Elf other) h k of = inr refl
 
-setting_agrees : (settings : Settings) (a b : Refusal) → IsSettingCause settings a → IsSettingCause settings b → IsOfFiles b → Agrees a b
+setting_agrees : (settings : Settings) (a b : Refusal) → IsSettingCause settings a → IsSettingCause settings b
+    → IsOfFiles b → Agrees a b
 setting_agrees settings NoMemory b h k of = inl (inl refl)
 setting_agrees settings (OutOfRange x) (OutOfRange y) h k of = inr refl
 setting_agrees settings (OutOfRange x) NoMemory h k of = absurd of
@@ -260,7 +304,8 @@ setting_agrees settings (Elf fault) b h k of = absurd h
 setting_agrees settings (KeyLength count) b h k of = absurd h
 setting_agrees settings (TooLong source) b h k of = absurd h
 
-cause_agrees : (files : Files) (step : Step) (a b : Refusal) → IsCause files step a → IsCause files step b → IsOfFiles b → Agrees a b
+cause_agrees : (files : Files) (step : Step) (a b : Refusal) → IsCause files step a → IsCause files step b
+    → IsOfFiles b → Agrees a b
 cause_agrees files (Judges settings) a b h k of = setting_agrees settings a b h k of
 cause_agrees files (Reads source name rule) a b h k of = read_agrees files source name rule a b h k of
 cause_agrees files (Writes name bytes) a b h k of = of_files_not_free b of (write_free b k)
@@ -268,7 +313,8 @@ cause_agrees files (Prints text) a b h k of = of_files_not_free b of (write_free
 
 -- where a refusal comes first over the files, the steps aren't all done, and are refused with its status or as is free
 module _ (files : Files) (refusal : Refusal) (of : IsOfFiles refusal) where
-  pub never_done : (steps : List Step) (old at : HostState) → AllByRecursion IsReading steps → old.files ≡ Some files → AllDone steps old at
+  pub never_done : (steps : List Step) (old at : HostState) → AllByRecursion IsReading steps → old.files ≡ Some files
+      → AllDone steps old at
       → IsFirstRefusal files steps refusal → ⊥
   never_done [] old at are told done first = first
   never_done (step ∷ steps) old at are told (mid, does, rest) (inl cause) =
@@ -276,17 +322,21 @@ module _ (files : Files) (refusal : Refusal) (of : IsOfFiles refusal) where
   never_done (step ∷ steps) old at are told (mid, does, rest) (inr (right, first)) =
       never_done steps mid at are.1 (does_files step old mid are.0 does ∙ told) rest first
 
-  pub refused_first : (steps : List Step) (other : Refusal) (old new : HostState) → AllByRecursion IsReading steps → old.files ≡ Some files → IsRefused steps other old new
-      → IsFirstRefusal files steps refusal → IsFree other old.faults new.faults ⊎ (status_of_refusal other ≡ status_of_refusal refusal)
+  pub refused_first : (steps : List Step) (other : Refusal) (old new : HostState) → AllByRecursion IsReading steps
+      → old.files ≡ Some files → IsRefused steps other old new
+      → IsFirstRefusal files steps refusal → IsFree other old.faults new.faults
+      ⊎ (status_of_refusal other ≡ status_of_refusal refusal)
   refused_first [] other old new are told refused first = absurd first
   refused_first (step ∷ steps) other old new are told (inl refuses) (inl cause) =
       go (cause_agrees files step other refusal (refuses.cause files told) cause of)
     where
-      go : Agrees other refusal → IsFree other old.faults new.faults ⊎ (status_of_refusal other ≡ status_of_refusal refusal)
+      go : Agrees other refusal → IsFree other old.faults new.faults
+          ⊎ (status_of_refusal other ≡ status_of_refusal refusal)
       go (inl (inl e)) = inl (inl e)
       go (inl (inr e)) = inl (inr (e, refuses.fault e))
       go (inr e) = inr e
-  refused_first (step ∷ steps) other old new are told (inl refuses) (inr (right, first)) = inl (step_free files step other old new right told refuses)
+  refused_first (step ∷ steps) other old new are told (inl refuses) (inr (right, first)) = inl
+      (step_free files step other old new right told refuses)
   refused_first (step ∷ steps) other old new are told (inr (mid, does, rest)) (inl cause) =
       of_files_not_free refusal of (cause_free files step refusal (does.done files told) cause)
   refused_first (step ∷ steps) other old new are told (inr (mid, does, rest)) (inr (right, first)) =
@@ -298,19 +348,27 @@ module _ (files : Files) (refusal : Refusal) (of : IsOfFiles refusal) where
       go (inr e) = inr e
 
 -- where a refusal comes first over the files, and the host never fails, it gives the status
-pub refuses_first : (read : Read) (files : Files) (refusal : Refusal) (status : ℕ) (end : Result Report Refusal) (old new : HostState) → status ≡ status_of end
-    → CommandEnds read end old new → old.files ≡ Some files → IsOfFiles refusal → IsFirstRefusal files (steps_of read.command read.given) refusal
+pub refuses_first : (read : Read) (files : Files) (refusal : Refusal) (status : ℕ) (end : Result Report Refusal)
+    (old new : HostState) → status ≡ status_of end
+    → CommandEnds read end old new → old.files ≡ Some files → IsOfFiles refusal
+    → IsFirstRefusal files (steps_of read.command read.given) refusal
     → ¬ Rose old.faults new.faults → (status ≡ 11) ⊎ (status ≡ status_of_refusal refusal)
 refuses_first read files refusal status (Ok report) old new is (at, before, flat, after) told of first safe =
-    absurd (never_done files refusal of (steps_of read.command read.given) old at (steps_reading read.command read.given) told before first)
-refuses_first read files refusal status (Err end) old new is (other, mid, steps, tells) told of first safe = go tells.same (ends steps)
+    absurd (never_done files refusal of (steps_of read.command read.given) old at
+    (steps_reading read.command read.given) told before first)
+refuses_first read files refusal status (Err end) old new is (other, mid, steps, tells) told of first safe = go
+    tells.same (ends steps)
   where
-    ends : StepsEnd (steps_of read.command read.given) read.given (Err other) old mid → IsFree other old.faults mid.faults ⊎ (status_of_refusal other ≡ status_of_refusal refusal)
-    ends (inl refused) = refused_first files refusal of (steps_of read.command read.given) other old mid (steps_reading read.command read.given) told refused first
+    ends : StepsEnd (steps_of read.command read.given) read.given (Err other) old mid
+        → IsFree other old.faults mid.faults ⊎ (status_of_refusal other ≡ status_of_refusal refusal)
+    ends (inl refused) = refused_first files refusal of (steps_of read.command read.given) other old mid
+        (steps_reading read.command read.given) told refused first
     ends (inr (at, before, rest)) =
-        absurd (never_done files refusal of (steps_of read.command read.given) old at (steps_reading read.command read.given) told before first)
+        absurd (never_done files refusal of (steps_of read.command read.given) old at
+        (steps_reading read.command read.given) told before first)
 
-    go : (end ≡ other) ⊎ (IsSome (refusal_text other) × (end ≡ NoMemory)) → IsFree other old.faults mid.faults ⊎ (status_of_refusal other ≡ status_of_refusal refusal)
+    go : (end ≡ other) ⊎ (IsSome (refusal_text other) × (end ≡ NoMemory)) → IsFree other old.faults mid.faults
+        ⊎ (status_of_refusal other ≡ status_of_refusal refusal)
         → (status ≡ 11) ⊎ (status ≡ status_of_refusal refusal)
     go (inr (some, none)) free = inl (is ∙ ap status_of_refusal none)
     go (inl same) (inl (inl none)) = inl (is ∙ ap status_of_refusal (same ∙ none))

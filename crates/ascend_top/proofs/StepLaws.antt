@@ -1,16 +1,20 @@
 -- Laws of steps: what a host's answers make of each.
-use Rattle.std.proofs.Common.{◌≡◌, ℕ, ◌≤◌, List, [], ◌∷◌, Option, Some, None, Err, IfSome, refl, sym, ap, subst, ◌∙◌, inl, inr, arith, append-nil}
+use Rattle.std.proofs.Common.{◌≡◌, ℕ, ◌≤◌, List, [], ◌∷◌, Option, Some, None, Err, IfSome, refl, sym, ap, subst}
+use Rattle.std.proofs.Common.{◌∙◌, inl, inr, arith, append-nil}
 use Rattle.std.specs.Prelude.{unwrap_or}
 use Rattle.asc_base.specs.Settings.{AreAllowed, IsFirstFault as IsFirstSetting, config_of}
 use Rattle.asc_base.specs.declared.settings.Setting.{Setting}
 use Rattle.asc_base.specs.declared.settings.Settings.{Settings}
-use Rattle.asc_outside.specs.Host.{HostCall, Reads as ReadsFile, Writes as WritesFile, Prints as PrintsText, HostState, Files, Rose, IsLonger, OthersStay, asked_after}
+use Rattle.asc_outside.specs.Host.{HostCall, Reads as ReadsFile, Writes as WritesFile, Prints as PrintsText}
+use Rattle.asc_outside.specs.Host.{HostState, Files, Rose, IsLonger, OthersStay, asked_after}
 use Rattle.asc_outside.specs.declared.host.HostFault.{HostFault}
-use Rattle.asc_outside.specs.declared.host.HostFault.TheVariants.{Failed, TooLong as TooLongFile, NoMemory as OutOfMemory}
+use Rattle.asc_outside.specs.declared.host.HostFault.TheVariants.{Failed, TooLong as TooLongFile}
+use Rattle.asc_outside.specs.declared.host.HostFault.TheVariants.{NoMemory as OutOfMemory}
 use Rattle.elf_loader.specs.declared.fault.ElfFault.{ElfFault}
 use Rattle.ascend_top.specs.FlatRun.{bytes_in}
 use Rattle.ascend_top.specs.Parts.{WasRead, unread, unwritten}
-use Rattle.ascend_top.specs.Steps.{AsksMore, PrintsMore, Breaks, Keeps, Does, Refuses, Rule, Judges, Reads, Writes, Prints, IsWrong, limit_of}
+use Rattle.ascend_top.specs.Steps.{AsksMore, PrintsMore, Breaks, Keeps, Does, Refuses, Rule, Judges, Reads, Writes}
+use Rattle.ascend_top.specs.Steps.{Prints, IsWrong, limit_of}
 use Rattle.ascend_top.specs.declared.refusal.Refusal.{Refusal}
 use Rattle.ascend_top.specs.declared.refusal.Refusal.TheVariants.{OutOfRange, Elf, KeyLength, NoMemory}
 use Rattle.ascend_top.specs.declared.refusal.Source.{Source}
@@ -51,9 +55,12 @@ misjudged settings setting state first = record {
 }
 
 -- the read of a file was refused
-pub read_refused : (T : Type 0) (source : Source) (name : List ℕ) (rule : Rule) (fault : HostFault) (old new : HostState)
-    → (fault ≡ TooLongFile → IfSome old.files (λ files. IsLonger files name (limit_of source))) → (fault ≡ Failed → Rose old.faults new.faults)
-    → old.faults ≤ new.faults → new.files ≡ old.files → new.printed ≡ old.printed → new.asked ≡ asked_after {T = T} old.asked (ReadsFile name) (Err fault)
+pub read_refused : (T : Type 0) (source : Source) (name : List ℕ) (rule : Rule) (fault : HostFault)
+    (old new : HostState)
+    → (fault ≡ TooLongFile → IfSome old.files (λ files. IsLonger files name (limit_of source)))
+    → (fault ≡ Failed → Rose old.faults new.faults)
+    → old.faults ≤ new.faults → new.files ≡ old.files → new.printed ≡ old.printed
+    → new.asked ≡ asked_after {T = T} old.asked (ReadsFile name) (Err fault)
     → Refuses (Reads source name rule) (unread source fault) old new
 read_refused T source name rule Failed old new long cause later files printed asked = record {
   cause = λ files' told. tt;
@@ -80,11 +87,18 @@ read_refused T source name rule OutOfMemory old new long cause later files print
   asked = inl asked;
 }
 
-module _ (source : Source) (name bytes : List ℕ) (rule : Rule) (old new : HostState) (read : WasRead source name bytes old new) where
+module _ (source : Source) (name bytes : List ℕ) (rule : Rule) (old new : HostState)
+    (read : WasRead source name bytes old new) where
   -- the file was read, and its bytes keep the rule
   pub read_done : Keeps rule bytes → Does (Reads source name rule) old new
   read_done keeps = record {
-    done = λ files told. record { bytes = bytes; is = at_some (λ (f : Files). f name ≡ Some bytes) old.files files read.told told; within = read.within; keeps = keeps };
+    done = λ files told. record {
+      bytes = bytes;
+      is = at_some (λ (f : Files). f name ≡ Some bytes) old.files files
+          read.told told;
+      within = read.within;
+      keeps = keeps;
+    };
     files = read.files;
     printed = read.printed ∙ prints_none old.printed old.printed refl;
     later = read.later;
@@ -102,7 +116,8 @@ module _ (source : Source) (name bytes : List ℕ) (rule : Rule) (old new : Host
     asked = inr read.asked;
   }
 
-  wrong : (refusal : Refusal) → Breaks rule bytes refusal → (files : Files) → old.files ≡ Some files → IsWrong files source name rule refusal
+  wrong : (refusal : Refusal) → Breaks rule bytes refusal → (files : Files) → old.files ≡ Some files
+      → IsWrong files source name rule refusal
   wrong refusal breaks files told = record {
     bytes = bytes;
     is = at_some (λ (f : Files). f name ≡ Some bytes) old.files files read.told told;
@@ -111,7 +126,8 @@ module _ (source : Source) (name bytes : List ℕ) (rule : Rule) (old new : Host
   }
 
   -- its bytes break the rule
-  pub key_short : (count : ℕ) → Breaks rule bytes (KeyLength count) → Refuses (Reads source name rule) (KeyLength count) old new
+  pub key_short : (count : ℕ) → Breaks rule bytes (KeyLength count)
+      → Refuses (Reads source name rule) (KeyLength count) old new
   key_short count breaks = record {
     cause = wrong (KeyLength count) breaks;
     fault = λ e. absurd (let no : ⊥ = cc in no);
@@ -121,7 +137,8 @@ module _ (source : Source) (name bytes : List ℕ) (rule : Rule) (old new : Host
     asked = read.asked;
   }
 
-  pub elf_faulty : (fault : ElfFault) → Breaks rule bytes (Elf fault) → Refuses (Reads source name rule) (Elf fault) old new
+  pub elf_faulty : (fault : ElfFault) → Breaks rule bytes (Elf fault)
+      → Refuses (Reads source name rule) (Elf fault) old new
   elf_faulty fault breaks = record {
     cause = wrong (Elf fault) breaks;
     fault = λ e. absurd (let no : ⊥ = cc in no);
@@ -135,11 +152,14 @@ module _ (source : Source) (name bytes : List ℕ) (rule : Rule) (old new : Host
 pub read_bytes : (source : Source) (name bytes : List ℕ) (old new : HostState) → WasRead source name bytes old new
     → (files : Files) → new.files ≡ Some files → bytes ≡ bytes_in files name
 read_bytes source name bytes old new read files told =
-    sym (ap (λ o. unwrap_or o []) (at_some (λ (f : Files). f name ≡ Some bytes) old.files files read.told (sym read.files ∙ told)))
+    sym (ap (λ o. unwrap_or o []) (at_some (λ (f : Files). f name ≡ Some bytes) old.files files read.told
+    (sym read.files ∙ told)))
 
 -- a file was written, or its write refused
-pub write_done : (name bytes : List ℕ) (old new : HostState) → IfSome new.files (λ files. files name ≡ Some bytes) → OthersStay name old.files new.files
-    → old.faults ≤ new.faults → new.printed ≡ old.printed → AsksMore old.asked (WritesFile name ∷ []) new.asked → Does (Writes name bytes) old new
+pub write_done : (name bytes : List ℕ) (old new : HostState) → IfSome new.files (λ files. files name ≡ Some bytes)
+    → OthersStay name old.files new.files
+    → old.faults ≤ new.faults → new.printed ≡ old.printed → AsksMore old.asked (WritesFile name ∷ []) new.asked
+    → Does (Writes name bytes) old new
 write_done name bytes old new written others later printed asked = record {
   done = λ files told. tt;
   files = (others, written);
@@ -148,9 +168,12 @@ write_done name bytes old new written others later printed asked = record {
   asked = asked;
 }
 
-pub write_refused : (T : Type 0) (name bytes : List ℕ) (fault : HostFault) (old new : HostState) → (fault ≡ TooLongFile → ⊥)
-    → (fault ≡ Failed → Rose old.faults new.faults) → OthersStay name old.files new.files → old.faults ≤ new.faults → new.printed ≡ old.printed
-    → new.asked ≡ asked_after {T = T} old.asked (WritesFile name) (Err fault) → Refuses (Writes name bytes) (unwritten fault) old new
+pub write_refused : (T : Type 0) (name bytes : List ℕ) (fault : HostFault) (old new : HostState)
+    → (fault ≡ TooLongFile → ⊥)
+    → (fault ≡ Failed → Rose old.faults new.faults) → OthersStay name old.files new.files → old.faults ≤ new.faults
+    → new.printed ≡ old.printed
+    → new.asked ≡ asked_after {T = T} old.asked (WritesFile name) (Err fault)
+    → Refuses (Writes name bytes) (unwritten fault) old new
 write_refused T name bytes Failed old new long cause others later printed asked = record {
   cause = λ files told. tt;
   fault = λ e. cause refl;
@@ -170,7 +193,8 @@ write_refused T name bytes OutOfMemory old new long cause others later printed a
 }
 
 -- a text was printed, or its print refused
-pub print_done : (text : List ℕ) (old new : HostState) → PrintsMore old.printed text new.printed → old.faults ≤ new.faults → new.files ≡ old.files
+pub print_done : (text : List ℕ) (old new : HostState) → PrintsMore old.printed text new.printed
+    → old.faults ≤ new.faults → new.files ≡ old.files
     → AsksMore old.asked (PrintsText ∷ []) new.asked → Does (Prints text) old new
 print_done text old new printed later files asked = record {
   done = λ files' told. tt;
@@ -213,6 +237,7 @@ print_lost text state = record {
 }
 
 -- the numbers of a configuration
-pub config_numbers : (settings : Settings) → ((config_of settings).base ≡ settings.base) × ((config_of settings).size ≡ settings.size) × ((config_of settings).budget ≡ settings.budget)
+pub config_numbers : (settings : Settings) → ((config_of settings).base ≡ settings.base)
+    × ((config_of settings).size ≡ settings.size) × ((config_of settings).budget ≡ settings.budget)
 unfolding config_of
 config_numbers settings = (refl, refl, refl)

@@ -5,7 +5,8 @@ use Rattle.asc_base.specs.declared.settings.Config.{Config}
 use Rattle.asc_base.specs.declared.settings.Settings.{Settings}
 use Rattle.asc_outside.specs.Host.{HostState, Files, Reads as ReadsFile}
 use Rattle.asc_outside.specs.declared.host.HostFault.{HostFault}
-use Rattle.asc_outside.specs.declared.host.HostFault.TheVariants.{Failed, TooLong as TooLongFile, NoMemory as OutOfMemory}
+use Rattle.asc_outside.specs.declared.host.HostFault.TheVariants.{Failed, TooLong as TooLongFile}
+use Rattle.asc_outside.specs.declared.host.HostFault.TheVariants.{NoMemory as OutOfMemory}
 use Rattle.elf_loader.specs.Elf.{entry_of}
 use Rattle.elf_loader.specs.Layout.{image_bytes, first_break}
 use Rattle.elf_loader.specs.Memory.{IsImage}
@@ -63,7 +64,8 @@ pub record CanRun (program : Program) : Type 0 where
 -- the report of a program's flat run
 abbrev pub program_report : Program → Report
 program_report program =
-    report_of (run_over program.budget program.image.entry program.base program.size program.image.heap program.image.bytes.items program.input.items)
+    report_of (run_over program.budget program.image.entry program.base program.size program.image.heap
+    program.image.bytes.items program.input.items)
 
 -- a flat run finishes so many instructions, ends so, and has this output
 pub record EndsAs (run : FlatRun) (instructions : ℕ) (end : Ending) (output : List ℕ) : Type 0 where
@@ -71,8 +73,8 @@ pub record EndsAs (run : FlatRun) (instructions : ℕ) (end : Ending) (output : 
   pub ending : ending_of end ≡ run.ending
   pub written : output ≡ run.machine.files.output
 
--- The run and the steps after it end so, where this is the run's report: all were done, or there was no memory for the run,
--- or one was refused.
+-- The run and the steps after it end so, where this is the run's report: all were done, or there was no memory for the
+-- run, or one was refused.
 abbrev pub WorkEnds : List Pair → Report → Result Report Refusal → HostState → HostState → Type 0
 WorkEnds given expected (Ok report) old new = (report ≡ expected) × AllDone (report_steps given report) old new
 WorkEnds given expected (Err refusal) old new =

@@ -3,7 +3,8 @@ use Rattle.std.specs.Prelude.{ℕ, Result, Ok, Err}
 use Rattle.rv32_core.specs.FlatRun.{FlatEnding, Exited, Trapped, Budget}
 use Rattle.ascend_top.specs.FlatRun.{Report}
 use Rattle.ascend_top.specs.declared.refusal.Refusal.{Refusal}
-use Rattle.ascend_top.specs.declared.refusal.Refusal.TheVariants.{Usage, OutOfRange, Elf, KeyLength, TooLong, Host, NoMemory}
+use Rattle.ascend_top.specs.declared.refusal.Refusal.TheVariants.{Usage, OutOfRange, Elf, KeyLength, TooLong, Host}
+use Rattle.ascend_top.specs.declared.refusal.Refusal.TheVariants.{NoMemory}
 
 -- the status of a command whose run ended so
 abbrev pub status_of_ending : FlatEnding → ℕ

@@ -2,18 +2,26 @@
 use Rattle.std.specs.Prelude.{ℕ, List, [], ◌∷◌, ◌++◌, Option, Some, None, codes}
 use Rattle.std.specs.Fmt.{decimal}
 use Rattle.asc_base.specs.declared.settings.Setting.{Setting}
-use Rattle.asc_base.specs.declared.settings.Setting.TheVariants.{Size, Base, Sets, Ways, Plb, Roots, Ic, Stash, Budget as BudgetSetting, Time, Leak, Rates, First, Epoch}
+use Rattle.asc_base.specs.declared.settings.Setting.TheVariants.{Size, Base, Sets, Ways, Plb, Roots, Ic, Stash}
+use Rattle.asc_base.specs.declared.settings.Setting.TheVariants.{Budget as BudgetSetting, Time, Leak, Rates, First}
+use Rattle.asc_base.specs.declared.settings.Setting.TheVariants.{Epoch}
 use Rattle.elf_loader.specs.declared.fault.ElfFault.{ElfFault}
-use Rattle.elf_loader.specs.declared.fault.ElfFault.TheVariants.{Short, Magic, Class, Order, Version, FileType, Machine, Compressed, HeaderSize, Table, Interp, Segment, Outside, Overlap, Entry, NoMemory as NoElfMemory}
+use Rattle.elf_loader.specs.declared.fault.ElfFault.TheVariants.{Short, Magic, Class, Order, Version, FileType}
+use Rattle.elf_loader.specs.declared.fault.ElfFault.TheVariants.{Machine, Compressed, HeaderSize, Table, Interp}
+use Rattle.elf_loader.specs.declared.fault.ElfFault.TheVariants.{Segment, Outside, Overlap, Entry}
+use Rattle.elf_loader.specs.declared.fault.ElfFault.TheVariants.{NoMemory as NoElfMemory}
 use Rattle.rv32_core.specs.declared.outcome.TrapKind.{TrapKind}
-use Rattle.rv32_core.specs.declared.outcome.TrapKind.TheVariants.{FetchFault, Illegal, FetchMisaligned, LoadMisaligned, StoreMisaligned, LoadFault, StoreFault, Breakpoint, OutputLimit}
+use Rattle.rv32_core.specs.declared.outcome.TrapKind.TheVariants.{FetchFault, Illegal, FetchMisaligned}
+use Rattle.rv32_core.specs.declared.outcome.TrapKind.TheVariants.{LoadMisaligned, StoreMisaligned, LoadFault}
+use Rattle.rv32_core.specs.declared.outcome.TrapKind.TheVariants.{StoreFault, Breakpoint, OutputLimit}
 use Rattle.rv32_core.specs.FlatRun.{FlatEnding, Exited, Trapped, Budget}
 use Rattle.ascend_words.specs.Tables.{name_text}
 use Rattle.ascend_words.specs.declared.table.Name.{Name}
 use Rattle.ascend_words.specs.declared.table.Name.TheVariants.{Key, Elf as ElfName, Input}
 use Rattle.ascend_top.specs.FlatRun.{Report}
 use Rattle.ascend_top.specs.declared.refusal.Refusal.{Refusal}
-use Rattle.ascend_top.specs.declared.refusal.Refusal.TheVariants.{Usage, OutOfRange, Elf, KeyLength, TooLong, Host, NoMemory}
+use Rattle.ascend_top.specs.declared.refusal.Refusal.TheVariants.{Usage, OutOfRange, Elf, KeyLength, TooLong, Host}
+use Rattle.ascend_top.specs.declared.refusal.Refusal.TheVariants.{NoMemory}
 use Rattle.ascend_top.specs.declared.refusal.Source.{Source}
 use Rattle.ascend_top.specs.declared.refusal.Source.TheVariants.{Key as KeyFile, Elf as ElfFile, Input as InputFile}
 
