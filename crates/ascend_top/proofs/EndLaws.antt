@@ -1,6 +1,7 @@
--- How a command ends: over right files and a host that never fails it is its run that is reported, or there is no memory.
-use Rattle.std.proofs.Common.{◌≡◌, ◌⊎◌, ℕ, ◌≤◌, List, [], ◌∷◌, true, Option, Some, None, Result, Ok, Err, length, refl}
-use Rattle.std.proofs.Common.{sym, ap, subst, ◌∙◌, inl, inr, arith, rules}
+-- How a command ends: over right files and a host that never fails it is its run that is reported, or there is no
+-- memory.
+use Rattle.std.proofs.Common.{◌≡◌, ◌⊎◌, ℕ, ◌≤◌, List, [], ◌∷◌, true, Option, Some, None, Result, Ok, Err, length}
+use Rattle.std.proofs.Common.{refl, sym, ap, subst, ◌∙◌, inl, inr, arith, rules}
 use Rattle.std.specs.Prelude.{IsSome, is_some}
 use Rattle.std.specs.List.{AllByRecursion}
 use Rattle.asc_base.specs.declared.settings.Settings.{Settings}
@@ -144,7 +145,7 @@ read_free files source name Anything (Elf fault) right cause = absurd cause.brea
 read_free files source name AKey (Elf fault) right cause = absurd cause.breaks
 read_free files source name (AnElf base size) (Elf fault) right cause =
     let faultless : IsFaultless base size cause.bytes = subst (λ bytes. IsFaultless base size bytes)
-        (one_file files name right.bytes cause.bytes right.is cause.is) right.keeps in
+    (one_file files name right.bytes cause.bytes right.is cause.is) right.keeps in
     absurd (faultless fault cause.breaks.present)
 read_free files source name rule Host right cause = inr refl
 read_free files source name rule NoMemory right cause = inl refl
@@ -170,8 +171,8 @@ cause_free files (Prints text) refusal done cause = write_free refusal cause
 step_free : (files : Files) (step : Step) (refusal : Refusal) (old new : HostState) → IsDone files step
     → old.files ≡ Some files → Refuses step refusal old new
     → IsFree refusal old.faults new.faults
-step_free files step refusal old new done told refuses = go
-    (cause_free files step refusal done (refuses.cause files told))
+step_free files step refusal old new done told refuses = go (cause_free files step refusal done
+    (refuses.cause files told))
   where
     go : HasNone refusal → IsFree refusal old.faults new.faults
     go (inl e) = inl e
@@ -181,8 +182,8 @@ before_free : (files : Files) (steps : List Step) (refusal : Refusal) (old new :
     → AllByRecursion IsReading steps → AllByRecursion (IsDone files) steps
     → old.files ≡ Some files → IsRefused steps refusal old new → IsFree refusal old.faults new.faults
 before_free files [] refusal old new are right told refused = absurd refused
-before_free files (step ∷ steps) refusal old new are right told
-    (inl refuses) = step_free files step refusal old new right.0 told refuses
+before_free files (step ∷ steps) refusal old new are right told (inl refuses) = step_free files step refusal old new
+    right.0 told refuses
 before_free files (step ∷ steps) refusal old new are right told (inr (mid, does, rest)) =
     free_later refusal old.faults mid.faults new.faults new.faults does.later (omega arith)
     (before_free files steps refusal mid new are.1 right.1 (does_files step old mid are.0 does ∙ told) rest)
@@ -206,17 +207,17 @@ after_free given report files refusal old new told (inr (mid, does, inr (end, pr
 steps_free : (read : Read) (files : Files) (refusal : Refusal) (old new : HostState) → old.files ≡ Some files
     → AreRight read files
     → StepsEnd (steps_of read.command read.given) read.given (Err refusal) old new
-        → IsFree refusal old.faults new.faults
+    → IsFree refusal old.faults new.faults
 steps_free read files refusal old new told right (inl refused) =
-    before_free files (steps_of read.command read.given) refusal old new
-        (steps_reading read.command read.given) right told refused
+    before_free files (steps_of read.command read.given) refusal old new (steps_reading read.command read.given)
+    right told refused
 steps_free read files refusal old new told right (inr (at, done, inl (e, same))) = inl e
 steps_free read files refusal old new told right (inr (at, done, inr (report, flat, refused))) =
     let reading = steps_reading read.command read.given in
     free_later refusal old.faults at.faults new.faults new.faults
-        (all_later (steps_of read.command read.given) old at done) (omega arith)
-    (after_free read.given report files refusal at new
-        (all_files (steps_of read.command read.given) old at reading done ∙ told) refused)
+    (all_later (steps_of read.command read.given) old at done) (omega arith)
+    (after_free read.given report files refusal at new (all_files (steps_of read.command read.given) old at reading
+    done ∙ told) refused)
 
 pub completes : (read : Read) (files : Files) (status : ℕ) (end : Result Report Refusal) (old new : HostState)
     → status ≡ status_of end → CommandEnds read end old new
@@ -224,9 +225,12 @@ pub completes : (read : Read) (files : Files) (status : ℕ) (end : Result Repor
 completes read files status (Ok report) old new is (at, before, flat, after) told right safe =
     let reading = steps_reading read.command read.given in
     let e : report ≡ flat_report read.given files = flat files
-        (all_files (steps_of read.command read.given) old at reading before ∙ told) in
-    inr (is ∙ ap (λ (r : Report). status_of_ending r.ending) e, subst
-        (λ (r : Report). CommandEnds read (Ok r) old new) e (at, before, flat, after))
+    (all_files (steps_of read.command read.given) old at reading before ∙ told) in
+    inr (
+      is ∙ ap (λ (r : Report). status_of_ending r.ending) e,
+      subst
+          (λ (r : Report). CommandEnds read (Ok r) old new) e (at, before, flat, after),
+    )
 completes read files status (Err end) old new is (refusal, mid, steps, tells) told right safe = go tells.same
     (steps_free read files refusal old mid told right steps)
   where
@@ -277,12 +281,12 @@ read_agrees files source name rule (TooLong other) (Elf fault) h k of = wrong_no
 read_agrees files source name rule (KeyLength count) (TooLong other) h k of = wrong_not_long files source name rule
     (KeyLength count) h (k.1)
 read_agrees files source name rule (KeyLength count) (KeyLength other) h k of = inr refl
-read_agrees files source name rule (KeyLength count) (Elf fault) h k of = key_not_elf rule h.bytes k.bytes count fault
-    h.breaks k.breaks
+read_agrees files source name rule (KeyLength count) (Elf fault) h k of = key_not_elf rule h.bytes k.bytes count
+    fault h.breaks k.breaks
 read_agrees files source name rule (Elf fault) (TooLong other) h k of = wrong_not_long files source name rule
     (Elf fault) h (k.1)
-read_agrees files source name rule (Elf fault) (KeyLength count) h k of = key_not_elf rule k.bytes h.bytes count fault
-    k.breaks h.breaks
+read_agrees files source name rule (Elf fault) (KeyLength count) h k of = key_not_elf rule k.bytes h.bytes count
+    fault k.breaks h.breaks
 read_agrees files source name rule (Elf fault) (Elf other) h k of = inr refl
 
 setting_agrees : (settings : Settings) (a b : Refusal) → IsSettingCause settings a → IsSettingCause settings b
@@ -322,7 +326,7 @@ module _ (files : Files) (refusal : Refusal) (of : IsOfFiles refusal) where
   pub refused_first : (steps : List Step) (other : Refusal) (old new : HostState) → AllByRecursion IsReading steps
       → old.files ≡ Some files → IsRefused steps other old new
       → IsFirstRefusal files steps refusal → IsFree other old.faults new.faults
-          ⊎ (status_of_refusal other ≡ status_of_refusal refusal)
+      ⊎ (status_of_refusal other ≡ status_of_refusal refusal)
   refused_first [] other old new are told refused first = absurd first
   refused_first (step ∷ steps) other old new are told (inl refuses) (inl cause) =
       go (cause_agrees files step other refusal (refuses.cause files told) cause of)
@@ -348,13 +352,13 @@ module _ (files : Files) (refusal : Refusal) (of : IsOfFiles refusal) where
 pub refuses_first : (read : Read) (files : Files) (refusal : Refusal) (status : ℕ) (end : Result Report Refusal)
     (old new : HostState) → status ≡ status_of end
     → CommandEnds read end old new → old.files ≡ Some files → IsOfFiles refusal
-        → IsFirstRefusal files (steps_of read.command read.given) refusal
+    → IsFirstRefusal files (steps_of read.command read.given) refusal
     → ¬ Rose old.faults new.faults → (status ≡ 11) ⊎ (status ≡ status_of_refusal refusal)
 refuses_first read files refusal status (Ok report) old new is (at, before, flat, after) told of first safe =
     absurd (never_done files refusal of (steps_of read.command read.given) old at
-        (steps_reading read.command read.given) told before first)
-refuses_first read files refusal status (Err end) old new is
-    (other, mid, steps, tells) told of first safe = go tells.same (ends steps)
+    (steps_reading read.command read.given) told before first)
+refuses_first read files refusal status (Err end) old new is (other, mid, steps, tells) told of first safe = go
+    tells.same (ends steps)
   where
     ends : StepsEnd (steps_of read.command read.given) read.given (Err other) old mid
         → IsFree other old.faults mid.faults ⊎ (status_of_refusal other ≡ status_of_refusal refusal)
@@ -362,10 +366,10 @@ refuses_first read files refusal status (Err end) old new is
         (steps_reading read.command read.given) told refused first
     ends (inr (at, before, rest)) =
         absurd (never_done files refusal of (steps_of read.command read.given) old at
-            (steps_reading read.command read.given) told before first)
+        (steps_reading read.command read.given) told before first)
 
-    go : (end ≡ other) ⊎ (IsSome (refusal_text other) × (end ≡ NoMemory))
-        → IsFree other old.faults mid.faults ⊎ (status_of_refusal other ≡ status_of_refusal refusal)
+    go : (end ≡ other) ⊎ (IsSome (refusal_text other) × (end ≡ NoMemory)) → IsFree other old.faults mid.faults
+        ⊎ (status_of_refusal other ≡ status_of_refusal refusal)
         → (status ≡ 11) ⊎ (status ≡ status_of_refusal refusal)
     go (inr (some, none)) free = inl (is ∙ ap status_of_refusal none)
     go (inl same) (inl (inl none)) = inl (is ∙ ap status_of_refusal (same ∙ none))

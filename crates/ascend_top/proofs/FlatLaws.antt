@@ -19,18 +19,26 @@ abbrev pub TellsStep : Machine → List ℕ → Machine → List ℕ → Done �
 TellsStep machine memory next after done =
     (told : List ℕ) → ◌≡◌ {A = Option (List ℕ)} (Some after) (Some told)
     → (before : List ℕ) × ◌≡◌ {A = Option (List ℕ)} (Some memory) (Some before)
-        × (flat_step machine before ≡ record { machine = next; memory = told; done = done })
+    × (flat_step machine before ≡ record { machine = next; memory = told; done = done })
 
 step_told : (machine next : Machine) (memory after : List ℕ) (done : Done) (ended : Ended)
     → TellsStep machine memory next after done → done.ended ≡ ended
-    → flat_step machine memory ≡ record { machine = next; memory = after; done = record
-        { ended = ended; cost = done.cost } }
+    → flat_step machine memory ≡ record {
+      machine = next;
+      memory = after;
+      done = record
+          { ended = ended; cost = done.cost };
+    }
 step_told machine next memory after done ended told e =
     let t = told after refl in
     let same : memory ≡ t.0 = cc in
     ap (flat_step machine) same ∙ t.2
-    ∙ ap (λ (x : Ended). let s : FlatStep = record { machine = next; memory = after; done = record
-        { ended = x; cost = done.cost } } in s) e
+    ∙ ap (λ (x : Ended). let s : FlatStep = record {
+      machine = next;
+      memory = after;
+      done = record
+          { ended = x; cost = done.cost };
+    } in s) e
 
 ends_as : (whole run : FlatRun) (end : Ending) → whole ≡ run → ending_of end ≡ run.ending
     → EndsAs whole run.instructions end run.machine.files.output

@@ -18,7 +18,7 @@ pub reported : (run : FlatRun) (outcome : Outcome) → EndsAs run outcome.instru
     outcome.output.items → outcome_report outcome ≡ report_of run
 reported run outcome is =
     let made : ℕ → FlatEnding → List ℕ → Report = λ instructions ending output. record
-        { instructions = instructions; ending = ending; output = output } in
+    { instructions = instructions; ending = ending; output = output } in
     ap (λ n. made n (ending_of outcome.ending) outcome.output.items) is.finished
     ∙ ap (λ e. made run.instructions e outcome.output.items) is.ending
     ∙ ap (λ o. made run.instructions run.ending o) is.written
@@ -39,12 +39,12 @@ module _ (given : List Pair) (files : Files) (base size budget : ℕ) (image : I
       ap (λ e. report_over budget e base size image.heap image.bytes.items input) is.entry
       ∙ ap (λ h. report_over budget (entry_of elf) base size h image.bytes.items input) is.heap
       ∙ ap (λ b. report_over budget (entry_of elf) base size (first_break base size elf) b input) is.bytes
-      ∙ ap (λ i. report_over budget (entry_of elf) base size (first_break base size elf) (image_bytes base size elf) i)
-          input_is
+      ∙ ap (λ i. report_over budget (entry_of elf) base size (first_break base size elf) (image_bytes base size elf)
+      i) input_is
       ∙ ap (λ b. report_over budget (entry_of elf) b size (first_break b size elf) (image_bytes b size elf) in_full)
-          base_is
+      base_is
       ∙ ap (λ s. report_over budget (entry_of elf) (settings_of given).base s
-          (first_break (settings_of given).base s elf) (image_bytes (settings_of given).base s elf) in_full) size_is
+      (first_break (settings_of given).base s elf) (image_bytes (settings_of given).base s elf) in_full) size_is
       ∙ ap (λ n. report_over n (entry_of elf) (settings_of given).base (settings_of given).size
-          (first_break (settings_of given).base (settings_of given).size elf)
-          (image_bytes (settings_of given).base (settings_of given).size elf) in_full) budget_is
+      (first_break (settings_of given).base (settings_of given).size elf)
+      (image_bytes (settings_of given).base (settings_of given).size elf) in_full) budget_is

@@ -1,12 +1,12 @@
 -- Laws of steps: what a host's answers make of each.
-use Rattle.std.proofs.Common.{◌≡◌, ℕ, ◌≤◌, List, [], ◌∷◌, Option, Some, None, Err, IfSome, refl, sym, ap, subst, ◌∙◌}
-use Rattle.std.proofs.Common.{inl, inr, arith, append-nil}
+use Rattle.std.proofs.Common.{◌≡◌, ℕ, ◌≤◌, List, [], ◌∷◌, Option, Some, None, Err, IfSome, refl, sym, ap, subst}
+use Rattle.std.proofs.Common.{◌∙◌, inl, inr, arith, append-nil}
 use Rattle.std.specs.Prelude.{unwrap_or}
 use Rattle.asc_base.specs.Settings.{AreAllowed, IsFirstFault as IsFirstSetting, config_of}
 use Rattle.asc_base.specs.declared.settings.Setting.{Setting}
 use Rattle.asc_base.specs.declared.settings.Settings.{Settings}
-use Rattle.asc_outside.specs.Host.{HostCall, Reads as ReadsFile, Writes as WritesFile, Prints as PrintsText, HostState}
-use Rattle.asc_outside.specs.Host.{Files, IsLonger, OthersStay, asked_after}
+use Rattle.asc_outside.specs.Host.{HostCall, Reads as ReadsFile, Writes as WritesFile, Prints as PrintsText}
+use Rattle.asc_outside.specs.Host.{HostState, Files, IsLonger, OthersStay, asked_after}
 use Rattle.asc_outside.specs.Rose.{Rose}
 use Rattle.asc_outside.specs.declared.host.HostFault.{HostFault}
 use Rattle.asc_outside.specs.declared.host.HostFault.TheVariants.{Failed, TooLong as TooLongFile}
@@ -59,9 +59,9 @@ misjudged settings setting state first = record {
 pub read_refused : (T : Type 0) (source : Source) (name : List ℕ) (rule : Rule) (fault : HostFault)
     (old new : HostState)
     → (fault ≡ TooLongFile → IfSome old.files (λ files. IsLonger files name (limit_of source)))
-        → (fault ≡ Failed → Rose old.faults new.faults)
+    → (fault ≡ Failed → Rose old.faults new.faults)
     → old.faults ≤ new.faults → new.files ≡ old.files → new.printed ≡ old.printed
-        → new.asked ≡ asked_after {T = T} old.asked (ReadsFile name) (Err fault)
+    → new.asked ≡ asked_after {T = T} old.asked (ReadsFile name) (Err fault)
     → Refuses (Reads source name rule) (unread source fault) old new
 read_refused T source name rule Failed old new long cause later files printed asked = record {
   cause = λ files' told. tt;
@@ -93,8 +93,13 @@ module _ (source : Source) (name bytes : List ℕ) (rule : Rule) (old new : Host
   -- the file was read, and its bytes keep the rule
   pub read_done : Keeps rule bytes → Does (Reads source name rule) old new
   read_done keeps = record {
-    done = λ files told. record { bytes = bytes; is = at_some
-        (λ (f : Files). f name ≡ Some bytes) old.files files read.told told; within = read.within; keeps = keeps };
+    done = λ files told. record {
+      bytes = bytes;
+      is = at_some (λ (f : Files). f name ≡ Some bytes) old.files files
+          read.told told;
+      within = read.within;
+      keeps = keeps;
+    };
     files = read.files;
     printed = read.printed ∙ prints_none old.printed old.printed refl;
     later = read.later;
@@ -149,13 +154,13 @@ pub read_bytes : (source : Source) (name bytes : List ℕ) (old new : HostState)
     → (files : Files) → new.files ≡ Some files → bytes ≡ bytes_in files name
 read_bytes source name bytes old new read files told =
     sym (ap (λ o. unwrap_or o []) (at_some (λ (f : Files). f name ≡ Some bytes) old.files files read.told
-        (sym read.files ∙ told)))
+    (sym read.files ∙ told)))
 
 -- a file was written, or its write refused
 pub write_done : (name bytes : List ℕ) (old new : HostState) → IfSome new.files (λ files. files name ≡ Some bytes)
     → OthersStay name old.files new.files
     → old.faults ≤ new.faults → new.printed ≡ old.printed → AsksMore old.asked (WritesFile name ∷ []) new.asked
-        → Does (Writes name bytes) old new
+    → Does (Writes name bytes) old new
 write_done name bytes old new written others later printed asked = record {
   done = λ files told. tt;
   files = (others, written);
@@ -167,9 +172,9 @@ write_done name bytes old new written others later printed asked = record {
 pub write_refused : (T : Type 0) (name bytes : List ℕ) (fault : HostFault) (old new : HostState)
     → (fault ≡ TooLongFile → ⊥)
     → (fault ≡ Failed → Rose old.faults new.faults) → OthersStay name old.files new.files → old.faults ≤ new.faults
-        → new.printed ≡ old.printed
+    → new.printed ≡ old.printed
     → new.asked ≡ asked_after {T = T} old.asked (WritesFile name) (Err fault)
-        → Refuses (Writes name bytes) (unwritten fault) old new
+    → Refuses (Writes name bytes) (unwritten fault) old new
 write_refused T name bytes Failed old new long cause others later printed asked = record {
   cause = λ files told. tt;
   fault = λ e. cause refl;

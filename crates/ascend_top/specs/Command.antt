@@ -1,4 +1,5 @@
--- What a command does, by how it ends: its steps before the run, the run, the steps after it, and the text of a refusal.
+-- What a command does, by how it ends: its steps before the run, the run, the steps after it, and the text of a
+-- refusal.
 use Rattle.std.specs.Prelude.{◌≡◌, ◌⊎◌, ℕ, ◌≤◌, List, [], ◌∷◌, Option, Some, None, IsSome, Result, Ok, Err}
 use Rattle.std.specs.List.{AllByRecursion}
 use Rattle.asc_outside.specs.Host.{HostCall, Prints as PrintsText, HostState, Files}
@@ -22,13 +23,13 @@ abbrev pub steps_of : Command → List Pair → List Step
 steps_of Run given = run_steps given
 steps_of Flat given = flat_steps given
 
--- The steps and the run end so. All steps were done with the run's report: its output is the output file, and its text is
--- printed. Or one before the run was refused; or there was no memory for the run; or one after it was refused. Where files
--- are told the report is always that of the flat run.
+-- The steps and the run end so. All steps were done with the run's report: its output is the output file, and its text
+-- is printed. Or one before the run was refused; or there was no memory for the run; or one after it was refused. Where
+-- files are told the report is always that of the flat run.
 abbrev pub StepsEnd : List Step → List Pair → Result Report Refusal → HostState → HostState → Type 0
 StepsEnd before given (Ok report) old new =
     (at : HostState) × AllDone before old at × ((files : Files) → at.files ≡ Some files
-        → report ≡ flat_report given files)
+    → report ≡ flat_report given files)
     × AllDone (report_steps given report) at new
 StepsEnd before given (Err refusal) old new =
     IsRefused before refusal old new
@@ -42,8 +43,8 @@ abbrev pub print_calls : Option (List ℕ) → List HostCall
 print_calls None = []
 print_calls (Some text) = PrintsText ∷ []
 
--- What was printed of a refusal: its text, or the host failed. Where it has none nothing was, but where there was no memory
--- for the print of another refusal's text.
+-- What was printed of a refusal: its text, or the host failed. Where it has none nothing was, but where there was no
+-- memory for the print of another refusal's text.
 abbrev pub TextPrinted : Refusal → Option (List ℕ) → HostState → HostState → Type 0
 TextPrinted refusal None old new = (new.printed ≡ old.printed) ⊎ IsSome (refusal_text refusal)
 TextPrinted refusal (Some text) old new = PrintsMore old.printed text new.printed ⊎ Rose old.faults new.faults
@@ -60,8 +61,8 @@ pub record Tells (refusal end : Refusal) (old new : HostState) : Type 0 where
 abbrev pub CommandEnds : Read → Result Report Refusal → HostState → HostState → Type 0
 CommandEnds read (Ok report) old new = StepsEnd (steps_of read.command read.given) read.given (Ok report) old new
 CommandEnds read (Err end) old new =
-    (refusal : Refusal) × (mid : HostState) × StepsEnd (steps_of read.command read.given) read.given
-        (Err refusal) old mid
+    (refusal : Refusal) × (mid : HostState) × StepsEnd (steps_of read.command read.given) read.given (Err refusal)
+    old mid
     × Tells refusal end mid new
 
 -- over these files nothing is refused before the run

@@ -1,5 +1,5 @@
--- The command `flat`: it judges the settings and reads the ELF file and the input, and after the run it writes the output
--- and prints the report. `run` has the same steps after its run.
+-- The command `flat`: it judges the settings and reads the ELF file and the input, and after the run it writes the
+-- output and prints the report. `run` has the same steps after its run.
 use Rattle.std.specs.Prelude.{ℕ, List, [], ◌∷◌, Option, Some, None}
 use Rattle.asc_base.specs.declared.settings.Settings.{Settings}
 use Rattle.ascend_words.specs.Grammar.{Pair}

@@ -65,7 +65,7 @@ pub record CanRun (program : Program) : Type 0 where
 abbrev pub program_report : Program → Report
 program_report program =
     report_of (run_over program.budget program.image.entry program.base program.size program.image.heap
-        program.image.bytes.items program.input.items)
+    program.image.bytes.items program.input.items)
 
 -- a flat run finishes so many instructions, ends so, and has this output
 pub record EndsAs (run : FlatRun) (instructions : ℕ) (end : Ending) (output : List ℕ) : Type 0 where
@@ -73,8 +73,8 @@ pub record EndsAs (run : FlatRun) (instructions : ℕ) (end : Ending) (output : 
   pub ending : ending_of end ≡ run.ending
   pub written : output ≡ run.machine.files.output
 
--- The run and the steps after it end so, where this is the run's report: all were done, or there was no memory for the run,
--- or one was refused.
+-- The run and the steps after it end so, where this is the run's report: all were done, or there was no memory for the
+-- run, or one was refused.
 abbrev pub WorkEnds : List Pair → Report → Result Report Refusal → HostState → HostState → Type 0
 WorkEnds given expected (Ok report) old new = (report ≡ expected) × AllDone (report_steps given report) old new
 WorkEnds given expected (Err refusal) old new =

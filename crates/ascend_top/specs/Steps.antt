@@ -1,10 +1,10 @@
--- The steps of commands. Each has the call that it asks of the host, what it takes to be done, and the refusals that it may
--- end with, each with its cause.
+-- The steps of commands. Each has the call that it asks of the host, what it takes to be done, and the refusals that it
+-- may end with, each with its cause.
 use Rattle.std.specs.Prelude.{◌≡◌, ◌⊎◌, ℕ, ◌≤◌, ◌<◌, List, [], ◌∷◌, ◌++◌, length, Option, Some, IfSome, option_map}
 use Rattle.asc_base.specs.Settings.{AreAllowed, IsFirstFault as IsFirstSetting}
 use Rattle.asc_base.specs.declared.settings.Settings.{Settings}
-use Rattle.asc_outside.specs.Host.{HostCall, Reads as ReadsFile, Writes as WritesFile, Prints as PrintsText, HostState}
-use Rattle.asc_outside.specs.Host.{Files, IsLonger, OthersStay}
+use Rattle.asc_outside.specs.Host.{HostCall, Reads as ReadsFile, Writes as WritesFile, Prints as PrintsText}
+use Rattle.asc_outside.specs.Host.{HostState, Files, IsLonger, OthersStay}
 use Rattle.asc_outside.specs.Rose.{Rose}
 use Rattle.elf_loader.specs.Faults.{IsFaultless, IsFirstFault}
 use Rattle.ascend_top.specs.declared.refusal.Refusal.{Refusal}
@@ -41,8 +41,8 @@ Breaks AKey bytes (KeyLength count) = (length bytes ≡ count) × (count < key_l
 Breaks (AnElf base size) bytes (Elf fault) = IsFirstFault base size bytes fault
 Breaks rule bytes refusal = ⊥
 
--- A step of a command: it judges the settings, reads the file of this name, writes these bytes to the file of this name, or
--- prints this text.
+-- A step of a command: it judges the settings, reads the file of this name, writes these bytes to the file of this
+-- name, or prints this text.
 pub data Step : Type 0 where
   Judges : Settings → Step
   Reads : Source → (name : List ℕ) → Rule → Step

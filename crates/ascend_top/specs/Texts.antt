@@ -6,13 +6,14 @@ use Rattle.asc_base.specs.declared.settings.Setting.TheVariants.{Size, Base, Set
 use Rattle.asc_base.specs.declared.settings.Setting.TheVariants.{Budget as BudgetSetting, Time, Leak, Rates, First}
 use Rattle.asc_base.specs.declared.settings.Setting.TheVariants.{Epoch}
 use Rattle.elf_loader.specs.declared.fault.ElfFault.{ElfFault}
-use Rattle.elf_loader.specs.declared.fault.ElfFault.TheVariants.{Short, Magic, Class, Order, Version, FileType, Machine}
-use Rattle.elf_loader.specs.declared.fault.ElfFault.TheVariants.{Compressed, HeaderSize, Table, Interp, Segment}
-use Rattle.elf_loader.specs.declared.fault.ElfFault.TheVariants.{Outside, Overlap, Entry, NoMemory as NoElfMemory}
+use Rattle.elf_loader.specs.declared.fault.ElfFault.TheVariants.{Short, Magic, Class, Order, Version, FileType}
+use Rattle.elf_loader.specs.declared.fault.ElfFault.TheVariants.{Machine, Compressed, HeaderSize, Table, Interp}
+use Rattle.elf_loader.specs.declared.fault.ElfFault.TheVariants.{Segment, Outside, Overlap, Entry}
+use Rattle.elf_loader.specs.declared.fault.ElfFault.TheVariants.{NoMemory as NoElfMemory}
 use Rattle.rv32_core.specs.declared.outcome.TrapKind.{TrapKind}
-use Rattle.rv32_core.specs.declared.outcome.TrapKind.TheVariants.{FetchFault, Illegal, FetchMisaligned, LoadMisaligned}
-use Rattle.rv32_core.specs.declared.outcome.TrapKind.TheVariants.{StoreMisaligned, LoadFault, StoreFault, Breakpoint}
-use Rattle.rv32_core.specs.declared.outcome.TrapKind.TheVariants.{OutputLimit}
+use Rattle.rv32_core.specs.declared.outcome.TrapKind.TheVariants.{FetchFault, Illegal, FetchMisaligned}
+use Rattle.rv32_core.specs.declared.outcome.TrapKind.TheVariants.{LoadMisaligned, StoreMisaligned, LoadFault}
+use Rattle.rv32_core.specs.declared.outcome.TrapKind.TheVariants.{StoreFault, Breakpoint, OutputLimit}
 use Rattle.rv32_core.specs.FlatRun.{FlatEnding, Exited, Trapped, Budget}
 use Rattle.ascend_words.specs.Tables.{name_text}
 use Rattle.ascend_words.specs.declared.table.Name.{Name}

@@ -1,7 +1,7 @@
 //! The commands of `ascend`, over any host.
 //!
-//! A command is a list of steps: the settings are judged, files are read, the program is run, files are written, the report
-//! is printed. The first refusal ends it, and its text is printed.
+//! A command is a list of steps: the settings are judged, files are read, the program is run, files are written, the
+//! report is printed. The first refusal ends it, and its text is printed.
 #![tactic(auto)]
 
 mod commands;
@@ -14,7 +14,8 @@ ghost use Rattle.std.specs.Prelude.{◌≡◌, ◌⊎◌, ℕ, List, Some, Err, 
 ghost use Rattle.asc_outside.specs.Host.{Files};
 ghost use Rattle.asc_outside.specs.Rose.{Rose};
 ghost use Rattle.ascend_words.specs.Grammar.{Read, IsFault, IsWords, texts};
-ghost use Rattle.ascend_top.specs.Command.{AreRight, CommandEnds, Completes, IsFirstRefusal, IsOfFiles, StepsEnd, Tells, end_of, steps_of};
+ghost use Rattle.ascend_top.specs.Command.{AreRight, CommandEnds, Completes, IsFirstRefusal, IsOfFiles, StepsEnd};
+ghost use Rattle.ascend_top.specs.Command.{Tells, end_of, steps_of};
 ghost use Rattle.ascend_top.specs.FlatRun.{Report};
 ghost use Rattle.ascend_top.specs.Status.{status_of, status_of_refusal};
 ghost use Rattle.ascend_top.specs.declared.refusal.Refusal.{Refusal as WhyRefused};

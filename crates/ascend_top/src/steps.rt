@@ -2,7 +2,8 @@
 ghost use Rattle.std.specs.Prelude.{◌≡◌, ◌≢◌, ◌≤◌, ◌∷◌, ℕ, List, [], Some, IfErr, IfOk, OnOk, IfSome, length};
 ghost use Rattle.asc_base.specs.Memory.{IsMemory};
 ghost use Rattle.asc_outside.specs.Host.{Files, HostState};
-ghost use Rattle.asc_outside.specs.declared.host.HostFault.TheVariants.{Failed, TooLong as TooLongFile, NoMemory as OutOfMemory};
+ghost use Rattle.asc_outside.specs.declared.host.HostFault.TheVariants.{Failed, TooLong as TooLongFile};
+ghost use Rattle.asc_outside.specs.declared.host.HostFault.TheVariants.{NoMemory as OutOfMemory};
 ghost use Rattle.elf_loader.specs.Memory.{IsImage};
 ghost use Rattle.ascend_top.specs.Parts.{IsImageOf, WasRead, IsConfigOf, unread, unwritten};
 ghost use Rattle.ascend_top.specs.Steps.{AKey, AnElf, Anything, Judges, Reads, Writes, Prints, Rule, Does, Refuses};
@@ -18,7 +19,8 @@ use std::alloc::Global;
 pub(crate) fn judge(settings: &Settings) -> Result<Config, Refusal>
     ensures config { IfOk result (λ config. IsConfigOf settings.now config) }
     ensures judged { OnOk result ((state : HostState) → Does (Judges settings.now) state state) }
-    ensures refused { IfErr result (λ refusal. (state : HostState) → Refuses (Judges settings.now) refusal state state) }
+    ensures refused { IfErr result (λ refusal. (state : HostState)
+        → Refuses (Judges settings.now) refusal state state) }
 {
     match Config::check(settings) {
         Ok(config) => Ok(config),

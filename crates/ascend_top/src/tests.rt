@@ -58,8 +58,8 @@ const COPY: [u32; 11] = [
     0x0000_0073, // ecall
 ];
 
-/// A host with a key of 32 bytes in `k`, one of 31 in `s` and one of 33 in `l`, a program in `a`, and the input `hello` in
-/// `i`.
+/// A host with a key of 32 bytes in `k`, one of 31 in `s` and one of 33 in `l`, a program in `a`, and the input `hello`
+/// in `i`.
 fn host(alloc: Global, failing: &[u64], program: &[u8]) -> Result<MemHost, Fail> {
     let mut host = MemHost::new(alloc, failing.to_vec(alloc)?);
     for (name, length) in [("k", 32), ("s", 31), ("l", 33)] {

@@ -1,5 +1,7 @@
--- Laws of the command line's grammar: what is read and what is refused exclude each other, and each is of one value only.
-use Rattle.std.proofs.Common.{suc, Bool, true, false, cond, not, ◌&&◌, eqb, add-one, ◌≡◌, ◌≢◌, ℕ, ◌+◌, ◌<◌, List, [], ◌∷◌, ◌++◌, length, take, drop, get_or, Some, None, refl, sym, ap, subst, ◌∙◌, append_assoc, append-nil, arith, length-append, map, ◌≤◌}
+-- Laws of the command line's grammar: what is read and what is refused exclude each other, and each is of one value.
+use Rattle.std.proofs.Common.{suc, Bool, true, false, cond, not, ◌&&◌, eqb, add-one, ◌≡◌, ◌≢◌, ℕ, ◌+◌, ◌<◌, List}
+use Rattle.std.proofs.Common.{[], ◌∷◌, ◌++◌, length, take, drop, get_or, Some, None, refl, sym, ap, subst, ◌∙◌}
+use Rattle.std.proofs.Common.{append_assoc, append-nil, arith, length-append, map, ◌≤◌}
 use Rattle.std.specs.Prelude.{String, string_bytes, option_map}
 use Rattle.std.specs.List.{find, list_all}
 use Rattle.std.specs.Str.{bytes_eq}
@@ -9,7 +11,8 @@ use Rattle.std.proofs.lemmas.Grind.{common_steps}
 use Rattle.std.proofs.lemmas.List.{take-map, map-append, take-append-drop, length-map}
 use Rattle.std.proofs.lemmas.Option.{same_Some}
 use Rattle.std.proofs.lemmas.Slice.Eq.{bytes_eq-Decides}
-use Rattle.ascend_words.specs.Grammar.{Pair, Read, AllFollow, AreGiven, IsFault, IsWords, KeepRules, Keeps, MayFollow, has_required, texts, value_in, word_of, breaks, missing}
+use Rattle.ascend_words.specs.Grammar.{Pair, Read, AllFollow, AreGiven, IsFault, IsWords, KeepRules, Keeps}
+use Rattle.ascend_words.specs.Grammar.{MayFollow, has_required, texts, value_in, word_of, breaks, missing}
 use Rattle.ascend_words.specs.Reading.{pair_of, pairs, IsMisfit}
 use Rattle.ascend_words.specs.Tables.{commanded, command_text, commands, is_same, name_text, named, names}
 use Rattle.ascend_words.specs.declared.given.Given.{Given}
@@ -53,11 +56,13 @@ find-passes : {X : Type 0} (test : X → Bool) (xs : List X) (x : X) → find te
 find-passes test [] x e = absurd (let no : ⊥ = cc in no)
 find-passes test (y ∷ ys) x e = go (find-passes test ys x) (test y) refl e
   where
-    go : (find test ys ≡ Some x → test x ≡ true) → (b : Bool) → test y ≡ b → cond b (Some y) (find test ys) ≡ Some x → test x ≡ true
+    go : (find test ys ≡ Some x → test x ≡ true) → (b : Bool) → test y ≡ b → cond b (Some y) (find test ys) ≡ Some x
+        → test x ≡ true
     go later true is e = let one : y ≡ x = same_Some y x e in subst (λ z. test z ≡ true) one is
     go later false is e = later e
 
-find-map : {X Y : Type 0} (f : X → Y) (test : Y → Bool) (xs : List X) → find test (map f xs) ≡ option_map f (find (λ x. test (f x)) xs)
+find-map : {X Y : Type 0} (f : X → Y) (test : Y → Bool) (xs : List X)
+    → find test (map f xs) ≡ option_map f (find (λ x. test (f x)) xs)
 find-map f test [] = refl
 find-map f test (x ∷ xs) = go (find-map f test xs) (test (f x))
   where
@@ -67,10 +72,12 @@ find-map f test (x ∷ xs) = go (find-map f test xs) (test (f x))
     go later false = later
 
 pub named-some : (text : List ℕ) (name : Name) → named text ≡ Some name → text ≡ name_text name
-named-some text name e = sym ((bytes_eq-Decides (name_text name) text).0 (find-passes (λ n. bytes_eq (name_text n) text) names name e))
+named-some text name e = sym ((bytes_eq-Decides (name_text name) text).0
+    (find-passes (λ n. bytes_eq (name_text n) text) names name e))
 
 pub commanded-some : (text : List ℕ) (command : Command) → commanded text ≡ Some command → text ≡ command_text command
-commanded-some text command e = sym ((bytes_eq-Decides (command_text command) text).0 (find-passes (λ c. bytes_eq (command_text c) text) commands command e))
+commanded-some text command e = sym ((bytes_eq-Decides (command_text command) text).0
+    (find-passes (λ c. bytes_eq (command_text c) text) commands command e))
 
 name_text-one : (a b : Name) → name_text a ≡ name_text b → a ≡ b
 name_text-one a b e = same_Some a b (sym (named-text a) ∙ ap named e ∙ named-text b)
@@ -79,7 +86,8 @@ pub command_text-one : (a b : Command) → command_text a ≡ command_text b →
 command_text-one a b e = same_Some a b (sym (commanded-text a) ∙ ap commanded e ∙ commanded-text b)
 
 -- what stands before the first `=`, and what follows it
-first_split : (xs ys v w : List ℕ) → lacks xs ≡ true → lacks ys ≡ true → xs ++ 61 ∷ v ≡ ys ++ 61 ∷ w → (xs ≡ ys) × (v ≡ w)
+first_split : (xs ys v w : List ℕ) → lacks xs ≡ true → lacks ys ≡ true → xs ++ 61 ∷ v ≡ ys ++ 61 ∷ w → (xs ≡ ys)
+    × (v ≡ w)
 first_split [] [] v w a b e = (refl, cc)
 first_split [] (y ∷ ys) v w a b e =
     let same : y ≡ 61 = cc in
@@ -92,12 +100,14 @@ first_split (x ∷ xs) [] v w a b e =
 first_split (x ∷ xs) (y ∷ ys) v w a b e =
     let same : x ≡ y = cc in
     let tail : xs ++ 61 ∷ v ≡ ys ++ 61 ∷ w = cc in
-    let rest = first_split xs ys v w (both_true (not (eqb x 61)) (lacks xs) a).1 (both_true (not (eqb y 61)) (lacks ys) b).1 tail in
+    let rest = first_split xs ys v w (both_true (not (eqb x 61)) (lacks xs) a).1
+    (both_true (not (eqb y 61)) (lacks ys) b).1 tail in
     (ap (λ z. z ∷ xs) same ∙ ap (λ l. y ∷ l) rest.0, rest.1)
 
 pub word_of-one : (p q : Pair) → word_of p ≡ word_of q → p ≡ q
 word_of-one p q e =
-    let parts = first_split (name_text p.name) (name_text q.name) p.value q.value (name_lacks p.name) (name_lacks q.name) e in
+    let parts = first_split (name_text p.name) (name_text q.name) p.value q.value (name_lacks p.name)
+    (name_lacks q.name) e in
     let made : Name → List ℕ → Pair = λ name value. record { name = name; value = value } in
     ap (λ name. made name p.value) (name_text-one p.name q.name parts.0) ∙ ap (λ value. made q.name value) parts.1
 
@@ -119,21 +129,25 @@ at_equals [] ys = refl
 at_equals (x ∷ xs) ys = at_equals xs ys
 
 -- a word without a `=` gives none, nor does one without a name before it
-pub no_equals : (word : List ℕ) → ((i : ℕ) → i < length word → get_or word i 0 ≢ 61) → (pair : Pair) → ¬ (word ≡ word_of pair)
+pub no_equals : (word : List ℕ) → ((i : ℕ) → i < length word → get_or word i 0 ≢ 61) → (pair : Pair)
+    → ¬ (word ≡ word_of pair)
 no_equals word h pair e =
     let front = name_text pair.name in
     h (length front) (omega (arith, ap length e, length-append front (61 ∷ pair.value)))
     (ap (λ l. get_or l (length front) 0) e ∙ at_equals front pair.value)
 
-pub no_name : (word text value : List ℕ) → word ≡ text ++ 61 ∷ value → ((i : ℕ) → i < length text → get_or text i 0 ≢ 61) → named text ≡ None
+pub no_name : (word text value : List ℕ) → word ≡ text ++ 61 ∷ value
+    → ((i : ℕ) → i < length text → get_or text i 0 ≢ 61) → named text ≡ None
     → (pair : Pair) → ¬ (word ≡ word_of pair)
 no_name word text value e h none pair is =
-    let parts = first_split text (name_text pair.name) value pair.value (lacks-all text h) (name_lacks pair.name) (sym e ∙ is) in
+    let parts = first_split text (name_text pair.name) value pair.value (lacks-all text h) (name_lacks pair.name)
+    (sym e ∙ is) in
     let some : named text ≡ Some pair.name = ap named parts.0 ∙ named-text pair.name in
     absurd (let no : ⊥ = cc in no)
 
 -- what is held for a name
-pub held_some : (given : List Given) (name : Name) (one : Given) → find (λ (g : Given). is_same g.name name) given ≡ Some one
+pub held_some : (given : List Given) (name : Name) (one : Given)
+    → find (λ (g : Given). is_same g.name name) given ≡ Some one
     → Some (string_bytes one.value) ≡ value_in (pairs given) name
 held_some given name one e =
     sym (ap (option_map (λ (pair : Pair). pair.value)) (find-map pair_of (λ (pair : Pair). is_same pair.name name) given
@@ -147,21 +161,28 @@ held_none given name e =
 
 module _ (command : Command) where
   -- all of some pairs keep the rules, and then one more does
-  pub AllFollow-last : (earlier given : List Pair) (pair : Pair) → AllFollow command earlier given → MayFollow command (earlier ++ given) pair
+  pub AllFollow-last : (earlier given : List Pair) (pair : Pair) → AllFollow command earlier given
+      → MayFollow command (earlier ++ given) pair
       → AllFollow command earlier (given ++ pair ∷ [])
   AllFollow-last earlier [] pair all next = (subst (λ l. MayFollow command l pair) (append-nil earlier) next, tt)
-  AllFollow-last earlier (one ∷ given) pair all next =
-      (all.0, AllFollow-last (earlier ++ one ∷ []) given pair all.1 (subst (λ l. MayFollow command l pair) (sym (append_assoc earlier (one ∷ []) given)) next))
+  AllFollow-last earlier (one ∷ given) pair all next = (
+    all.0,
+    AllFollow-last (earlier ++ one ∷ []) given pair all.1
+        (subst (λ l. MayFollow command l pair) (sym (append_assoc earlier (one ∷ []) given)) next),
+  )
 
   -- a pair among those that keep the rules keeps them after those before it
-  pub AllFollow-at : (earlier before after : List Pair) (pair : Pair) → AllFollow command earlier (before ++ pair ∷ after)
+  pub AllFollow-at : (earlier before after : List Pair) (pair : Pair)
+      → AllFollow command earlier (before ++ pair ∷ after)
       → MayFollow command (earlier ++ before) pair
   AllFollow-at earlier [] after pair all = subst (λ l. MayFollow command l pair) (sym (append-nil earlier)) all.0
   AllFollow-at earlier (one ∷ before) after pair all =
-      subst (λ l. MayFollow command l pair) (append_assoc earlier (one ∷ []) before) (AllFollow-at (earlier ++ one ∷ []) before after pair all.1)
+      subst (λ l. MayFollow command l pair) (append_assoc earlier (one ∷ []) before)
+      (AllFollow-at (earlier ++ one ∷ []) before after pair all.1)
 
   -- the first of pairs that keep the rules keep them
-  pub AllFollow-first : (earlier xs ys : List Pair) → AllFollow command earlier (xs ++ ys) → AllFollow command earlier xs
+  pub AllFollow-first : (earlier xs ys : List Pair) → AllFollow command earlier (xs ++ ys)
+      → AllFollow command earlier xs
   AllFollow-first earlier [] ys all = tt
   AllFollow-first earlier (x ∷ xs) ys all = (all.0, AllFollow-first (earlier ++ x ∷ []) xs ys all.1)
 
@@ -203,7 +224,14 @@ KeepRules-first [] ys keeps = tt
 KeepRules-first (x ∷ xs) ys (read, keeps) =
     let s = map_split read.given xs ys keeps.1.written in (
       record { command = read.command; given = s.front },
-      (keeps.0, record { written = s.first; follow = AllFollow-first read.command [] s.front s.back (subst (λ l. AllFollow read.command [] l) s.whole keeps.1.follow) }),
+      (
+        keeps.0,
+        record {
+          written = s.first;
+          follow = AllFollow-first read.command [] s.front s.back
+              (subst (λ l. AllFollow read.command [] l) s.whole keeps.1.follow);
+        },
+      ),
     )
 
 -- words are read in one way
@@ -221,7 +249,8 @@ keep_rules (first ∷ rest) read keeps = (read, keeps)
 -- words that are read have no fault
 pub IsWords-not-IsFault : (words : List (List ℕ)) (read : Read) (n : ℕ) → IsWords words read → IsFault words n → ⊥
 IsWords-not-IsFault words read n is (breaks before after word split kept broken place) =
-    broken (KeepRules-first (before ++ word ∷ []) after (subst KeepRules (split ∙ sym (append_assoc before (word ∷ []) after)) (keep_rules words read is.keeps)))
+    broken (KeepRules-first (before ++ word ∷ []) after (subst KeepRules
+    (split ∙ sym (append_assoc before (word ∷ []) after)) (keep_rules words read is.keeps)))
 IsWords-not-IsFault words read n is (missing kept none place) = none read is
 
 -- of two places in a list, they are the same or one stands before the other
@@ -254,9 +283,11 @@ IsFault-one words m n (breaks bs us b split kept broken place) (breaks cs ds c s
     go (at_first more k) = absurd (broken (KeepRules-first (bs ++ b ∷ []) more (subst KeepRules k kept')))
     go (at_second more k) = absurd (broken' (KeepRules-first (cs ++ c ∷ []) more (subst KeepRules k kept)))
 IsFault-one words m n (breaks bs us b split kept broken place) (missing kept' none place') =
-    absurd (broken (KeepRules-first (bs ++ b ∷ []) us (subst KeepRules (split ∙ sym (append_assoc bs (b ∷ []) us)) kept')))
+    absurd (broken (KeepRules-first (bs ++ b ∷ []) us (subst KeepRules (split ∙ sym (append_assoc bs (b ∷ []) us))
+    kept')))
 IsFault-one words m n (missing kept none place) (breaks cs ds c split' kept' broken' place') =
-    absurd (broken' (KeepRules-first (cs ++ c ∷ []) ds (subst KeepRules (split' ∙ sym (append_assoc cs (c ∷ []) ds)) kept)))
+    absurd (broken' (KeepRules-first (cs ++ c ∷ []) ds (subst KeepRules (split' ∙ sym (append_assoc cs (c ∷ []) ds))
+    kept)))
 IsFault-one words m n (missing kept none place) (missing kept' none' place') = place ∙ sym place'
 
 -- the faults that are named
@@ -266,10 +297,12 @@ fault_of_none = missing tt (λ read is. is.keeps) refl
 
 pub fault_of_command : (first : List ℕ) (rest : List (List ℕ)) → commanded first ≡ None → IsFault (first ∷ rest) 1
 fault_of_command first rest none = breaks [] rest first refl tt
-    (λ kept. let some : commanded first ≡ Some (kept.0).command = ap commanded (kept.1).0 ∙ commanded-text (kept.0).command in absurd (let no : ⊥ = cc in no))
+    (λ kept. let some : commanded first ≡ Some (kept.0).command = ap commanded (kept.1).0
+    ∙ commanded-text (kept.0).command in absurd (let no : ⊥ = cc in no))
     refl
 
-pub fault_of_word : (command : Command) (first : List ℕ) (rest : List (List ℕ)) (index : ℕ) → first ≡ command_text command → IsMisfit command rest index
+pub fault_of_word : (command : Command) (first : List ℕ) (rest : List (List ℕ)) (index : ℕ)
+    → first ≡ command_text command → IsMisfit command rest index
     → IsFault (first ∷ rest) (index + 2)
 fault_of_word command first rest index is m =
     breaks (first ∷ take index rest) (drop (index + 1) rest) m.word (ap (λ l. first ∷ l) m.split)
@@ -280,17 +313,22 @@ fault_of_word command first rest index is m =
         let same : read.command ≡ command = command_text-one read.command command (sym keeps.0 ∙ is) in
         let s = map_split read.given (take index rest) (m.word ∷ []) keeps.1.written in
         let front : s.front ≡ m.given = map_one s.front m.given (sym s.first ∙ m.before.written) in
-        last s.back s.second (subst (λ l. AllFollow command [] (l ++ s.back)) front (subst (λ l. AllFollow command [] l) s.whole (subst (λ c. AllFollow c [] read.given) same keeps.1.follow)))
+        last s.back s.second (subst (λ l. AllFollow command [] (l ++ s.back)) front
+        (subst (λ l. AllFollow command [] l) s.whole (subst (λ c. AllFollow c [] read.given) same
+        keeps.1.follow)))
       where
         last : (back : List Pair) → m.word ∷ [] ≡ map word_of back → AllFollow command [] (m.given ++ back) → ⊥
         last [] e all = let no : ⊥ = cc in no
-        last (pair ∷ back) e all = let word : m.word ≡ word_of pair = cc in m.breaks pair word (AllFollow-at command [] m.given back pair all)
+        last (pair ∷ back) e all = let word : m.word ≡ word_of pair = cc in m.breaks pair word
+            (AllFollow-at command [] m.given back pair all)
 
     place : index + 2 ≡ length (first ∷ take index rest) + 1
     place = let inside = m.place in grind (arith, common_steps)
 
-pub fault_of_lack : (command : Command) (first : List ℕ) (rest : List (List ℕ)) (given : List Pair) → first ≡ command_text command → AreGiven command rest given
-    → has_required (record { command = command; given = given }) ≡ false → IsFault (first ∷ rest) (length (first ∷ rest) + 1)
+pub fault_of_lack : (command : Command) (first : List ℕ) (rest : List (List ℕ)) (given : List Pair)
+    → first ≡ command_text command → AreGiven command rest given
+    → has_required (record { command = command; given = given }) ≡ false
+    → IsFault (first ∷ rest) (length (first ∷ rest) + 1)
 fault_of_lack command first rest given is are lack =
     let read : Read = record { command = command; given = given } in
     missing (read, (is, are))
@@ -302,8 +340,10 @@ fault_of_lack command first rest given is are lack =
 take-map-more : {X Y : Type 0} (f : X → Y) (xs : List X) (i : ℕ) (x : X) → i < length xs → x ≡ get_or xs i x
     → take (i + 1) (map f xs) ≡ take i (map f xs) ++ f x ∷ []
 take-map-more f xs i x inside e =
-    let more : take (i + 1) xs ≡ take i xs ++ x ∷ [] = rw add-one (take-suc xs i x inside ∙ ap (λ y. take i xs ++ y ∷ []) (sym e)) in
-    take-map f (i + 1) xs ∙ ap (map f) more ∙ map-append f (take i xs) (x ∷ []) ∙ ap (λ l. l ++ f x ∷ []) (sym (take-map f i xs))
+    let more : take (i + 1) xs ≡ take i xs ++ x ∷ [] = rw add-one
+    (take-suc xs i x inside ∙ ap (λ y. take i xs ++ y ∷ []) (sym e)) in
+    take-map f (i + 1) xs ∙ ap (map f) more ∙ map-append f (take i xs) (x ∷ [])
+    ∙ ap (λ l. l ++ f x ∷ []) (sym (take-map f i xs))
 
 -- the texts are those before one, that one and those after it
 map-at : {X Y : Type 0} (f : X → Y) (xs : List X) (i : ℕ) (x : X) → i < length xs → x ≡ get_or xs i x
@@ -312,16 +352,20 @@ map-at f xs i x inside e =
     sym (take-append-drop (i + 1) (map f xs)) ∙ ap (λ l. l ++ drop (i + 1) (map f xs)) (take-map-more f xs i x inside e)
     ∙ append_assoc (take i (map f xs)) (f x ∷ []) (drop (i + 1) (map f xs))
 
-module _ (command : Command) {Z : Type 0} (words : List (String Z)) (i : ℕ) (word : String Z) (text : List ℕ) (given : List Given) where
+module _ (command : Command) {Z : Type 0} (words : List (String Z)) (i : ℕ) (word : String Z) (text : List ℕ)
+    (given : List Given) where
   -- a word that keeps the rules was taken in
-  pub AreGiven-more : (after : List Given) (one : Given) (name : Name) (value : List ℕ) → i < length words → word ≡ get_or words i word → text ≡ string_bytes word
+  pub AreGiven-more : (after : List Given) (one : Given) (name : Name) (value : List ℕ) → i < length words
+      → word ≡ get_or words i word → text ≡ string_bytes word
       → AreGiven command (take i (texts words)) (pairs given) → text ≡ word_of (record { name = name; value = value })
-      → MayFollow command (pairs given) (record { name = name; value = value }) → one.name ≡ name → string_bytes one.value ≡ value
+      → MayFollow command (pairs given) (record { name = name; value = value }) → one.name ≡ name
+      → string_bytes one.value ≡ value
       → after ≡ given ++ one ∷ [] → AreGiven command (take (i + 1) (texts words)) (pairs after)
   AreGiven-more after one name value inside at is are written follow name_is value_is added =
       let pair : Pair = record { name = name; value = value } in
       let made : Name → List ℕ → Pair = λ n v. record { name = n; value = v } in
-      let one_is : pair_of one ≡ pair = ap (λ n. made n (string_bytes one.value)) name_is ∙ ap (λ v. made name v) value_is in
+      let one_is : pair_of one ≡ pair = ap (λ n. made n (string_bytes one.value)) name_is
+      ∙ ap (λ v. made name v) value_is in
       let all : pairs given ++ pair ∷ [] ≡ pairs after =
       sym (ap pairs added ∙ map-append pair_of given (one ∷ []) ∙ ap (λ q. pairs given ++ q ∷ []) one_is) in
       subst (AreGiven command (take (i + 1) (texts words))) all (record {
@@ -334,14 +378,16 @@ module _ (command : Command) {Z : Type 0} (words : List (String Z)) (i : ℕ) (w
 
   -- a word that breaks a rule stands here
   pub misfit : i < length words → word ≡ get_or words i word → text ≡ string_bytes word
-      → AreGiven command (take i (texts words)) (pairs given) → ((pair : Pair) → text ≡ word_of pair → ¬ MayFollow command (pairs given) pair)
+      → AreGiven command (take i (texts words)) (pairs given)
+      → ((pair : Pair) → text ≡ word_of pair → ¬ MayFollow command (pairs given) pair)
       → IsMisfit command (texts words) i
   misfit inside at is are breaks_rule = record {
     given = pairs given;
     before = are;
     place = grind (arith, common_steps);
     word = text;
-    split = map-at string_bytes words i word inside at ∙ ap (λ t. take i (texts words) ++ t ∷ drop (i + 1) (texts words)) (sym is);
+    split = map-at string_bytes words i word inside at ∙ ap (λ t. take i (texts words) ++ t ∷ drop (i + 1)
+        (texts words)) (sym is);
     breaks = breaks_rule;
   }
 

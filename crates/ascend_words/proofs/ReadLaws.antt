@@ -31,7 +31,9 @@ refused_fault words (Usage word) is other fault = inl (ap (λ k. Err (Usage k)) 
 refused_fault words NoMemory is other fault = inr refl
 
 -- why the words after the command aren't read is why the words aren't
-pub stop_fault : (command : Command) (first : List ℕ) (rest : List (List ℕ)) (fault : WordFault) → first ≡ command_text command
+pub stop_fault : (command : Command) (first : List ℕ) (rest : List (List ℕ)) (fault : WordFault)
+    → first ≡ command_text command
     → IsStop command rest fault → IsFaultOf (first ∷ rest) fault
-stop_fault command first rest (Usage word) is (index, e, m) = subst (IsFault (first ∷ rest)) (sym e) (fault_of_word command first rest index is m)
+stop_fault command first rest (Usage word) is (index, e, m) = subst (IsFault (first ∷ rest)) (sym e)
+    (fault_of_word command first rest index is m)
 stop_fault command first rest NoMemory is stop = tt

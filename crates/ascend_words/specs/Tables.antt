@@ -1,5 +1,5 @@
--- The tables of the command line: how each command and each name is written, the names that a command requires and those
--- that it may have, and what the value of a name is. A further command or name is a further row.
+-- The tables of the command line: how each command and each name is written, the names that a command requires and
+-- those that it may have, and what the value of a name is. A further command or name is a further row.
 use Rattle.std.specs.Prelude.{ℕ, List, [], ◌∷◌, codes, Bool, ◌||◌, Option}
 use Rattle.std.specs.List.{find, list_any}
 use Rattle.std.specs.Str.{bytes_eq}

@@ -1,4 +1,5 @@
-ghost use Rattle.std.specs.Prelude.{◌≡◌, ◌↔◌, ℕ, List, IsTrue, MatchOption, IfOk, IfErr, IsOkUnless, option_copied, string_bytes};
+ghost use Rattle.std.specs.Prelude.{◌≡◌, ◌↔◌, ℕ, List, IsTrue, MatchOption, IfOk, IfErr, IsOkUnless, option_copied};
+ghost use Rattle.std.specs.Prelude.{string_bytes};
 ghost use Rattle.std.specs.List.{find};
 ghost use Rattle.ascend_words.specs.Grammar.{Pair, HasForm, MayFollow, AreGiven, texts, value_in, word_of};
 ghost use Rattle.ascend_words.specs.Reading.{pairs, IsStop};

@@ -1,6 +1,7 @@
 //! The words of the command line: which are right, what they say, and which is the first wrong one.
 //!
-//! The tables of `specs/Tables.antt` say which commands and names there are, and `specs/Grammar.antt` which words are right.
+//! The tables of `specs/Tables.antt` say which commands and names there are, and `specs/Grammar.antt` which words are
+//! right.
 #![tactic(auto)]
 
 mod fault;

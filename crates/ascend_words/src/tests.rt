@@ -12,7 +12,11 @@ const READ: [(&str, Command, &str); 9] = [
     ("flat elf=a output=o", Command::Flat, "o"),
     ("flat size=0 output=size=1 elf=a", Command::Flat, "size=1"),
     ("flat elf=a output=o budget=9999999999", Command::Flat, "o"),
-    ("run elf=a key=k output=o input=i size=1 base=2 budget=3", Command::Run, "o"),
+    (
+        "run elf=a key=k output=o input=i size=1 base=2 budget=3",
+        Command::Run,
+        "o",
+    ),
 ];
 
 /// Words that are wrong: the line, and the number of the first word that breaks a rule.

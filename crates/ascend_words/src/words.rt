@@ -76,9 +76,9 @@ fn has_required(command: Command, given: &[Given]) -> bool
 
 /// Reads the words of the command line, without the program's own name.
 ///
-/// The first word is the command, and each other one is `name=value` with a name of the command, each at most once, in
-/// any order; the value is what follows the first `=`. Each required name is given. The value of a file is any text that
-/// isn't empty; a number is `0`, or a digit from 1 to 9 and at most nine more digits.
+/// The first word is the command, and each other one is `name=value` with a name of the command, each at most once,
+/// in any order; the value is what follows the first `=`. Each required name is given. The value of a file is any text
+/// that isn't empty; a number is `0`, or a digit from 1 to 9 and at most nine more digits.
 ///
 /// `Usage` is exact: it names the first word that breaks a rule.
 pub fn read_words(alloc: Global, words: &[String]) -> Result<Words, WordFault>

@@ -14,19 +14,23 @@ use Rattle.ascend_top.proofs.ascend.Goals as goal
 abbrev Answer : Type 0
 Answer = Result Read WordFault
 
-read_one : (words read : Read) → (◌≡◌ {A = Answer} (Ok words) (Ok read)) ⊎ (◌≡◌ {A = Answer} (Ok words) (Err NoWords)) → words ≡ read
+read_one : (words read : Read) → (◌≡◌ {A = Answer} (Ok words) (Ok read))
+    ⊎ (◌≡◌ {A = Answer} (Ok words) (Err NoWords)) → words ≡ read
 read_one words read (inl e) = cc
 read_one words read (inr e) = absurd (let no : ⊥ = cc in no)
 
-read_right : {P : Type 0} (words : Read) (word : ℕ) → (◌≡◌ {A = Answer} (Ok words) (Err (WrongWord word))) ⊎ (◌≡◌ {A = Answer} (Ok words) (Err NoWords)) → P
+read_right : {P : Type 0} (words : Read) (word : ℕ) → (◌≡◌ {A = Answer} (Ok words) (Err (WrongWord word)))
+    ⊎ (◌≡◌ {A = Answer} (Ok words) (Err NoWords)) → P
 read_right words word (inl e) = absurd (let no : ⊥ = cc in no)
 read_right words word (inr e) = absurd (let no : ⊥ = cc in no)
 
-wrong_one : (a b : ℕ) → (◌≡◌ {A = Answer} (Err (WrongWord a)) (Err (WrongWord b))) ⊎ (◌≡◌ {A = Answer} (Err (WrongWord a)) (Err NoWords)) → a ≡ b
+wrong_one : (a b : ℕ) → (◌≡◌ {A = Answer} (Err (WrongWord a)) (Err (WrongWord b)))
+    ⊎ (◌≡◌ {A = Answer} (Err (WrongWord a)) (Err NoWords)) → a ≡ b
 wrong_one a b (inl e) = cc
 wrong_one a b (inr e) = absurd (let no : ⊥ = cc in no)
 
-wrong_right : {P : Type 0} (a : ℕ) (read : Read) → (◌≡◌ {A = Answer} (Err (WrongWord a)) (Ok read)) ⊎ (◌≡◌ {A = Answer} (Err (WrongWord a)) (Err NoWords)) → P
+wrong_right : {P : Type 0} (a : ℕ) (read : Read) → (◌≡◌ {A = Answer} (Err (WrongWord a)) (Ok read))
+    ⊎ (◌≡◌ {A = Answer} (Err (WrongWord a)) (Err NoWords)) → P
 wrong_right a read (inl e) = absurd (let no : ⊥ = cc in no)
 wrong_right a read (inr e) = absurd (let no : ⊥ = cc in no)
 
@@ -35,7 +39,8 @@ returns-in-Ok-clause-usage g c word fault = read_right _ word (c.in-Ok.ensures.r
 
 pub returns-in-Ok-clause-command : goal.returns-in-Ok-clause-command
 returns-in-Ok-clause-command g c read is =
-    subst (λ r. (end : Result Report Refusal) × (c.finish.result ≡ status_of end) × CommandEnds r end (g.H.Host.state c.args.host.now) (g.H.Host.state c.finish.new.host))
+    subst (λ r. (end : Result Report Refusal) × (c.finish.result ≡ status_of end)
+    × CommandEnds r end (g.H.Host.state c.args.host.now) (g.H.Host.state c.finish.new.host))
     (read_one _ read (c.in-Ok.ensures.accepted read is)) c.finish.ensures
 
 pub returns-in-Ok-clause-complete : goal.returns-in-Ok-clause-complete
@@ -46,7 +51,8 @@ returns-in-Ok-clause-complete g c read files is told right safe =
 pub returns-in-Err-Usage-clause-usage : goal.returns-in-Err-Usage-clause-usage
 returns-in-Err-Usage-clause-usage g c word fault =
     let refused = rw c.in-Err-Usage.field-0-is at c.in-Err-Usage.ensures.refused in
-    subst (λ n. (end : Refusal) × (c.refuse.result ≡ status_of_refusal end) × Tells (Usage n) end (g.H.Host.state c.args.host.now) (g.H.Host.state c.refuse.new.host))
+    subst (λ n. (end : Refusal) × (c.refuse.result ≡ status_of_refusal end)
+    × Tells (Usage n) end (g.H.Host.state c.args.host.now) (g.H.Host.state c.refuse.new.host))
     (wrong_one c.in-Err-Usage.word word (refused word fault)) c.refuse.ensures
 
 pub returns-in-Err-Usage-clause-command : goal.returns-in-Err-Usage-clause-command
@@ -60,7 +66,12 @@ returns-in-Err-Usage-clause-complete g c read files is told right safe =
     wrong_right c.in-Err-Usage.word read (accepted read is)
 
 pub returns-in-Err-NoMemory-clause-usage : goal.returns-in-Err-NoMemory-clause-usage
-returns-in-Err-NoMemory-clause-usage g c word fault = (NoMemory, refl, tells_no_text word (g.H.Host.state c.args.host.now))
+returns-in-Err-NoMemory-clause-usage g c word fault = (
+  NoMemory,
+  refl,
+  tells_no_text word
+      (g.H.Host.state c.args.host.now),
+)
 
 pub returns-in-Err-NoMemory-clause-command : goal.returns-in-Err-NoMemory-clause-command
 returns-in-Err-NoMemory-clause-command g c read is =

@@ -11,14 +11,22 @@ returns-in-Err g c =
     let state = g.H.Host.state c.args.host.now in (
       NoMemory,
       c.status-in-Err.ensures,
-      record { same = inr (c.in-Err.ensures.err, refl); files = refl; later = omega arith; asked = asks_none state.asked state.asked refl; printed = inl refl },
+      record {
+        same = inr (c.in-Err.ensures.err, refl);
+        files = refl;
+        later = omega arith;
+        asked = asks_none
+            state.asked state.asked refl;
+        printed = inl refl;
+      },
     )
 
 pub returns-in-Err-NoMemory : goal.returns-in-Err-NoMemory
 returns-in-Err-NoMemory g c =
     let old = g.H.Host.state c.args.host.now in
     let new = g.H.Host.state c.print.new.self in
-    let some = some_text (refusal_text c.args.refusal.now) (string_bytes c.in-Ok-Some.text) (rw c.in-Ok-Some.field-0-is at c.in-Ok-Some.ensures.text) in (
+    let some = some_text (refusal_text c.args.refusal.now) (string_bytes c.in-Ok-Some.text)
+    (rw c.in-Ok-Some.field-0-is at c.in-Ok-Some.ensures.text) in (
       NoMemory,
       c.status-in-Err-NoMemory.ensures,
       record {

@@ -118,7 +118,8 @@ fn run_flat(alloc: Global, program: &Program) -> Result<Outcome, NoMemory>
 fn step_on(core: &mut Core, bytes: &mut FlatBytes, files: &mut Files, budget: u64) -> (u64, Ending)
     requires base { bytes.old.base ≡ core.old.base }
     requires size { length bytes.old.bytes ≡ core.old.size }
-    ensures { EndsAs (flat_run budget (machine_of core.old files.old) bytes.old.bytes) result.0 result.1 files.new.output }
+    ensures { EndsAs (flat_run budget (machine_of core.old files.old) bytes.old.bytes)
+        result.0 result.1 files.new.output }
 {
     for finished in 0..budget {
         let done = match core.step(bytes, files) {

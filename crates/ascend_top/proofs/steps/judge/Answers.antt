@@ -14,4 +14,5 @@ returns-in-Ok-clause-config c =
     }
 
 pub returns-in-Err-clause-refused : goal.returns-in-Err-clause-refused
-returns-in-Err-clause-refused c = λ state. misjudged c.args.settings.now c.in-Err.setting state ((c.in-Err.ensures.fault c.in-Err.setting).0 refl)
+returns-in-Err-clause-refused c = λ state. misjudged c.args.settings.now c.in-Err.setting state
+    ((c.in-Err.ensures.fault c.in-Err.setting).0 refl)

@@ -9,5 +9,6 @@ abbrev pub invariant-loop-finished : goal.invariant-loop-finished
 invariant-loop-finished l = record {
   base : l.bytes.base ≡ l.core.base;
   size : length l.bytes.bytes ≡ l.core.size;
-  run : RunsOn (flat_run l.budget (machine_of l.fn.core l.fn.files) l.fn.bytes.bytes) l.budget l.finished (machine_of l.core l.files) l.bytes.bytes;
+  run : RunsOn (flat_run l.budget (machine_of l.fn.core l.fn.files) l.fn.bytes.bytes) l.budget l.finished
+      (machine_of l.core l.files) l.bytes.bytes;
 }

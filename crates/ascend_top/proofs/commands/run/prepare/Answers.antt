@@ -10,7 +10,8 @@ returns-in-Err-read_key-clause-refused g c =
     inr (
       old,
       subst (λ settings. Does (Judges settings) old old) c.settings.ensures (c.in-Ok.ensures.judged old),
-      inl (subst (λ name. Refuses (Reads KeyFile name AKey) c.in-Err-read_key.refusal old (g.H.Host.state c.read_key.new.host)) c.file_of-key.ensures c.in-Err-read_key.ensures.refused),
+      inl (subst (λ name. Refuses (Reads KeyFile name AKey) c.in-Err-read_key.refusal old
+          (g.H.Host.state c.read_key.new.host)) c.file_of-key.ensures c.in-Err-read_key.ensures.refused),
     )
 
 pub returns-clause-done : goal.returns-clause-done
