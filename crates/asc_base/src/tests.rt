@@ -2,7 +2,7 @@
 
 use crate::{
     Address, Config, Leaf, Setting, Settings, Shape, WideRates, first_is_changed,
-    first_is_promoted, first_is_taken_out,
+    first_is_promoted, first_is_taken_out, items_stand_in_lists,
 };
 
 /// The settings that stand where none are given.
