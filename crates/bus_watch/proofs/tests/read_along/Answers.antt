@@ -1,4 +1,4 @@
-use Rattle.std.proofs.Common.{false, ◌+◌, ◌-◌, ◌*◌, ap, refl, arith}
+use Rattle.std.proofs.Common.{false, ◌+◌, ◌*◌, ap, refl, arith}
 use Rattle.bus_watch.proofs.MadeLaws.{ready_after, ready_less}
 use Rattle.bus_watch.proofs.PathLaws.{ran_root, ran_next}
 use Rattle.bus_watch.proofs.tests.read_along.Goals as goal
