@@ -1,6 +1,4 @@
-pub mod Moves
-pub mod Replies
-pub mod ReadLaws
-pub mod Written
 pub mod Places
-pub mod Rooms
+pub mod ReadLaws
+pub mod Replies
+pub mod Written

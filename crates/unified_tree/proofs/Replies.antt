@@ -14,6 +14,7 @@ use Rattle.unified_tree.specs.declared.stop.TreeStop.{TreeStop}
 use Rattle.unified_tree.specs.declared.stop.TreeStop.TheVariants.{BadSlot, OffPath, Doubled, Full, Device, NoMemory}
 use Rattle.oram_contents.specs.PathRead.{reply_at, path_read}
 use Rattle.unified_tree.specs.Reads.{log_with, log_after}
+use Rattle.unified_tree.specs.Joined.{path_joined}
 use Rattle.unified_tree.specs.Slot.{WasRead}
 use Rattle.unified_tree.specs.Stops.{Says, IfRead}
 
@@ -91,15 +92,21 @@ same_replies levels start leaf mirror before k (text ∷ texts) = both (is_bucke
 -- a path read, from what its two parts say
 pub was_read_of : (key : List ℕ) (shape : Shape) (start leaf : ℕ) (result : Result (Unit {0}) TreeStop) (tap tap' : TapState) (hand hand' : List Entry) (texts : List (List ℕ))
     → length texts ≡ shape.levels + 1 → tap'.log ≡ log_after shape.levels start leaf tap.mirror 0 tap.log texts → Says result (path_read key shape leaf texts hand) hand'
-    → WasRead key shape start leaf result tap tap' hand hand'
-was_read_of key shape start leaf result tap tap' hand hand' texts counted log says = record {
-  altered = altered_of shape.levels start leaf tap.mirror (length tap.log.events) 0 texts;
-  gained = ap (λ (l : LogLists). l.altered) log ∙ log_after-altered shape.levels start leaf tap.mirror 0 tap.log texts;
-  noted = altered_of-noted shape.levels start leaf tap.mirror (length tap.log.events) 0 texts;
-  says = subst (λ t. Says result (path_read key shape leaf t hand) hand')
-      (sym (ap (λ n. replies_from shape.levels start leaf tap.mirror (altered_of shape.levels start leaf tap.mirror (length tap.log.events) 0 texts) 0 n) (sym counted)
-      ∙ same_replies shape.levels start leaf tap.mirror (length tap.log.events) 0 texts)) says;
-}
+    → hand' ≡ path_joined key shape leaf texts hand → WasRead key shape start leaf result tap tap' hand hand'
+was_read_of key shape start leaf result tap tap' hand hand' texts counted log says joined =
+    let altered = altered_of shape.levels start leaf tap.mirror (length tap.log.events) 0 texts in
+    let same : texts ≡ replies_from shape.levels start leaf tap.mirror altered 0 (shape.levels + 1) =
+        sym (ap (λ n. replies_from shape.levels start leaf tap.mirror altered 0 n) (sym counted)
+        ∙ same_replies shape.levels start leaf tap.mirror (length tap.log.events) 0 texts) in
+    record {
+      gains = record {
+        altered = altered;
+        gained = ap (λ (l : LogLists). l.altered) log ∙ log_after-altered shape.levels start leaf tap.mirror 0 tap.log texts;
+        noted = altered_of-noted shape.levels start leaf tap.mirror (length tap.log.events) 0 texts;
+      };
+      says = subst (λ t. Says result (path_read key shape leaf t hand) hand') same says;
+      joined = subst (λ t. hand' ≡ path_joined key shape leaf t hand) same joined;
+    }
 
 -- what holds for each answer that says something of the verdict
 pub if_read : (result : Result (Unit {0}) TreeStop) (verdict : Result (List Entry) Evidence) (hand : List Entry) (P : Type 0) (Q : BusStop → Type 0) → Says result verdict hand → P → IfRead result P Q

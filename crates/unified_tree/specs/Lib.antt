@@ -1,5 +1,6 @@
-pub mod Bus
+pub mod Cut
 pub mod Inside
+pub mod Joined
 pub mod Reads
 pub mod Slot
 pub mod Stops

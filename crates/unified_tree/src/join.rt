@@ -1,12 +1,13 @@
 //! The entries of a path's buckets join the hand.
 
-ghost use Rattle.std.specs.Prelude.{◌≡◌, ◌==◌, ◌<◌, ◌≤◌, ◌+◌, ◌-◌, ◌*◌, ◌/◌, ◌^◌, map, length};
+ghost use Rattle.std.specs.Prelude.{◌≡◌, ◌==◌, ◌<◌, ◌≤◌, ◌+◌, ◌*◌, ◌^◌, length};
 ghost use Rattle.asc_base.specs.Shape.{IsShape};
 ghost use Rattle.asc_base.specs.TreeShape.{bucket_of};
 ghost use Rattle.bucket_codec.specs.Bucket.{opened, AreSlots, AreInRange};
 ghost use Rattle.bucket_codec.specs.Slot.{IsSlot, IsInRange};
 ghost use Rattle.oram_contents.specs.Shapes.{AreOfShape};
 ghost use Rattle.oram_contents.specs.PathRead.{join_slot, join_slots, join_bucket, path_read};
+ghost use Rattle.unified_tree.specs.Joined.{hand_then, slots_joined, bucket_joined, path_joined};
 ghost use Rattle.unified_tree.specs.Stops.{Says};
 
 use crate::stop::TreeStop;
@@ -43,6 +44,8 @@ fn join_slot(
     requires room { 0 < hand.old.spare }
     requires found { IsSlot found.now × IsInRange shape.now found.now }
     ensures says { Says result (join_slot shape.now.levels leaf.0 level slot found.now hand.old.entries) hand.new.entries }
+    ensures joined { hand.new.entries ≡ hand_then (join_slot shape.now.levels leaf.0 level slot found.now hand.old.entries)
+        hand.old.entries (λ next. next) }
     ensures spare { hand.old.spare ≤ hand.new.spare + 1 }
     ensures more { length hand.new.entries ≤ length hand.old.entries + 1 }
     ensures of_shape { AreOfShape shape.now hand.old.entries → AreOfShape shape.now hand.new.entries }
@@ -78,6 +81,7 @@ fn join_slots(
     requires room { 4 ≤ hand.old.spare }
     requires slots { AreSlots slots.now × AreInRange shape.now slots.now }
     ensures says { Says result (join_slots shape.now.levels leaf.0 level 0 slots.now hand.old.entries) hand.new.entries }
+    ensures joined { hand.new.entries ≡ slots_joined shape.now.levels leaf.0 level 0 slots.now hand.old.entries }
     ensures spare { hand.old.spare ≤ hand.new.spare + 4 }
     ensures more { length hand.new.entries ≤ length hand.old.entries + 4 }
     ensures of_shape { AreOfShape shape.now hand.old.entries → AreOfShape shape.now hand.new.entries }
@@ -107,6 +111,8 @@ fn join_bucket(
     requires room { 4 ≤ hand.old.spare }
     ensures says { Says result (join_bucket shape.now.levels leaf.0 level
         (opened codec.now shape.now text.now) hand.old.entries) hand.new.entries }
+    ensures joined { hand.new.entries ≡ bucket_joined shape.now.levels leaf.0 level
+        (opened codec.now shape.now text.now) hand.old.entries }
     ensures spare { hand.old.spare ≤ hand.new.spare + 4 }
     ensures more { length hand.new.entries ≤ length hand.old.entries + 4 }
     ensures of_shape { AreOfShape shape.now hand.old.entries → AreOfShape shape.now hand.new.entries }
@@ -134,6 +140,7 @@ pub(crate) fn join_buckets(
     requires all { length texts.now ≡ shape.now.levels + 1 }
     requires room { 4 * (shape.now.levels + 1) ≤ hand.old.spare }
     ensures says { Says result (path_read codec.now shape.now leaf.0 texts.now hand.old.entries) hand.new.entries }
+    ensures joined { hand.new.entries ≡ path_joined codec.now shape.now leaf.0 texts.now hand.old.entries }
     ensures spare { hand.old.spare ≤ hand.new.spare + 4 * (shape.now.levels + 1) }
     ensures more { length hand.new.entries ≤ length hand.old.entries + 4 * (shape.now.levels + 1) }
     ensures of_shape { AreOfShape shape.now hand.old.entries → AreOfShape shape.now hand.new.entries }

@@ -1,16 +1,16 @@
-ghost use Rattle.std.specs.Prelude.{◌≡◌, ◌<◌, ◌≤◌, ◌+◌, ◌*◌, ◌^◌, ◌++◌, ◌∷◌, [], ℕ, false, Some, None, length, IfOk, OnOk, OnErr, OnSome, IfNone, IsErr, IsOk, IsSome, IsErrOf, ◌↔◌};
+ghost use Rattle.std.specs.Prelude.{◌≡◌, ◌<◌, ◌≤◌, ◌+◌, ◌*◌, ◌^◌, ◌++◌, ◌∷◌, ◌↔◌, [], ℕ, ⊤, Some, None, length};
+ghost use Rattle.std.specs.Prelude.{IfOk, OnOk, OnErr, OnSome, IfNone, IsErr, IsOk, IsSome, IsErrOf};
 ghost use Rattle.asc_base.specs.Shape.{IsShape};
 ghost use Rattle.asc_outside.specs.Rose.{Rose};
-ghost use Rattle.bus_watch.specs.Made.{Made};
+ghost use Rattle.bus_watch.specs.Made.{Ran};
+ghost use Rattle.bus_watch.specs.Path.{reads, reads_end, writes};
+ghost use Rattle.bus_watch.specs.Ready.{IsReady};
 ghost use Rattle.bus_watch.specs.RunEnd.{Whole, end_at};
-ghost use Rattle.bus_watch.specs.Same.{IsSameBus};
-ghost use Rattle.std.specs.Prelude.{true, ⊤};
-ghost use Rattle.bus_watch.specs.Path.{along, reads, reads_end, writes};
-ghost use Rattle.oram_stash.specs.Entries.{held, without};
-ghost use Rattle.unified_tree.specs.Bus.{HasRoom, TookRoom, CutAt};
-ghost use Rattle.oram_contents.specs.Shapes.{AreOfShape};
-ghost use Rattle.unified_tree.specs.Slot.{WasRead};
 ghost use Rattle.oram_contents.specs.PathWritten.{stays, sealed, rest_of};
+ghost use Rattle.oram_contents.specs.Shapes.{AreOfShape};
+ghost use Rattle.oram_stash.specs.Entries.{held, without};
+ghost use Rattle.unified_tree.specs.Cut.{CutRead, CutWrite};
+ghost use Rattle.unified_tree.specs.Slot.{WasRead, GainsNow};
 ghost use Rattle.unified_tree.specs.Stops.{IfRead, IfWritten};
 ghost use Rattle.unified_tree.specs.Tree.{TreeState, IsSameTree};
 
@@ -18,7 +18,7 @@ use crate::join::{SLOTS, join_buckets};
 use crate::reads::read_buckets;
 use crate::stop::{OpenPath, TreeStop, stop_of};
 use crate::writes::{depths_on, write_buckets};
-use asc_base::{Address, Entry, Leaf, NoMemory, Shape};
+use asc_base::{Address, Entry, Leaf, MOVE_CYCLES, NoMemory, Shape, TURN_CYCLES};
 use asc_outside::{BUCKET_BYTES, UntrustedMemory};
 use bucket_codec::Codec;
 use bus_watch::{Bus, Watch};
@@ -69,6 +69,7 @@ impl Tree {
         ensures spare { IfOk result (λ tree. stash + 4 * (shape.now.levels + 1) + 2 ≤ tree.spare) }
         ensures seed { IfOk result (λ tree. tree.seed ≡ 1) }
         ensures path { IfOk result (λ tree. tree.path ≡ None) }
+        ensures ended { IfOk result (λ tree. tree.ended ≡ 0) }
     {
         let buckets = shape.levels as usize + 1;
         let room = stash as usize + SLOTS * buckets + 2;
@@ -112,6 +113,7 @@ impl Tree {
         ensures hand { self.new.hand ≡ self.old.hand }
         ensures seed { self.new.seed ≡ self.old.seed }
         ensures path { self.new.path ≡ self.old.path }
+        ensures ended { self.new.ended ≡ self.old.ended }
         ensures ok { OnOk result (4 * (self.old.shape.levels + 1) + 2 ≤ self.new.spare) }
         ensures kept { self.old.spare ≤ self.new.spare }
         ensures free { 4 * (self.old.shape.levels + 1) + 2 ≤ self.old.spare → IsOk result }
@@ -134,8 +136,13 @@ impl Tree {
         }
     }
 
-    /// Reads the path of a leaf in the slot that starts at a time, in cycles: its entries join those at hand, up to the
+    /// Reads the path of a leaf in the slot that starts at a time, in cycles: a read every 40 cycles from there on, of the
+    /// path's buckets from the root down. After the last one the entries in the replies join those at hand, up to the
     /// first evidence. An Ok leaves the path open.
+    ///
+    /// A bucket with a slot that isn't in the form is a `BadSlot`, and none of its entries joins. Slot by slot, an entry
+    /// whose leaf doesn't have the bucket on its path is an `OffPath`, and one of whose address there is one at hand a
+    /// `Doubled`. `Device` and `NoMemory` are the bus's; no further move is made then, and nothing joins.
     pub fn read_path<M: UntrustedMemory, W: Watch>(
         &mut self,
         bus: &mut Bus<'_, M, W>,
@@ -147,40 +154,34 @@ impl Tree {
         requires start { start < 2 ^ 39 }
         requires spare { 4 * (self.old.shape.levels + 1) ≤ self.old.spare }
         requires few { length self.old.hand < 2 ^ 20 }
-        requires room { HasRoom self.old.shape (self.old.shape.levels + 1)
+        requires ready { IsReady self.old.shape.buckets (self.old.shape.levels + 1) 0
             (M.state bus.old.memory.now) (W.state bus.old.tap.now) }
-        ensures same { IsSameBus bus.old bus.new }
-        ensures kept { IsSameTree self.old self.new }
-        ensures seed { self.new.seed ≡ self.old.seed }
-        ensures path { OnOk result (self.new.path ≡ Some (record { start = start; leaf = leaf })) }
-        ensures spare { self.old.spare ≤ self.new.spare + 4 * (self.old.shape.levels + 1) }
-        ensures of_shape { AreOfShape self.new.shape self.new.hand }
-        ensures more { length self.new.hand ≤ length self.old.hand + 4 * (self.old.shape.levels + 1) }
-        ensures made { IfRead result
-            (Made Whole (reads self.old.shape.levels start leaf.0)
-            (M.state bus.old.memory.now) (M.state bus.new.memory.now)
-            (W.state bus.old.tap.now) (W.state bus.new.tap.now))
-            (λ stop. CutAt (end_at stop) self.old.shape.levels start
-            (along self.old.shape.levels false start leaf.0) (λ _. (W.state bus.old.tap.now).mirror) self.new.ended
-            (M.state bus.old.memory.now) (M.state bus.new.memory.now)
-            (W.state bus.old.tap.now) (W.state bus.new.tap.now)) }
-        ensures took { TookRoom (self.old.shape.levels + 1)
-            (M.state bus.old.memory.now) (M.state bus.new.memory.now)
-            (W.state bus.old.tap.now) (W.state bus.new.tap.now) }
-        ensures mirror { (W.state bus.new.tap.now).mirror ≡ (W.state bus.old.tap.now).mirror }
+        ensures ran { IfRead result
+            (Ran M.state W.state Whole (reads self.old.shape.levels start leaf.0) [] bus.old bus.new)
+            (λ stop. CutRead M.state W.state (end_at stop) start leaf.0 self.old self.new bus.old bus.new) }
         ensures read { IfRead result
             (WasRead self.old.key self.old.shape start leaf.0 result
             (W.state bus.old.tap.now) (W.state bus.new.tap.now) self.old.hand self.new.hand)
             (λ _. self.new.hand ≡ self.old.hand) }
+        ensures gains { GainsNow (W.state bus.old.tap.now).log (W.state bus.new.tap.now).log }
+        ensures mirror { (W.state bus.new.tap.now).mirror ≡ (W.state bus.old.tap.now).mirror }
+        ensures kept { IsSameTree self.old self.new }
+        ensures seed { self.new.seed ≡ self.old.seed }
+        ensures path { OnOk result (self.new.path ≡ Some (record { start = start; leaf = leaf })) }
+        ensures path_err { OnErr result (self.new.path ≡ None) }
         ensures ended { OnErr result (IfRead result (self.new.ended ≡ reads_end self.old.shape.levels start)
             (λ _. self.new.ended ≤ reads_end self.old.shape.levels start)) }
+        ensures ended_ok { OnOk result (self.new.ended ≡ self.old.ended) }
+        ensures spare { self.old.spare ≤ self.new.spare + 4 * (self.old.shape.levels + 1) }
+        ensures more { length self.new.hand ≤ length self.old.hand + 4 * (self.old.shape.levels + 1) }
+        ensures of_shape { AreOfShape self.new.shape self.new.hand }
         ensures cause { IsErrOf result TreeStop.Device
             → Rose (M.state bus.old.memory.now).faults (M.state bus.new.memory.now).faults }
     {
         match read_buckets(bus, &self.shape, start, leaf, &mut self.texts) {
             Ok(()) => {}
             Err(cut) => {
-                self.ended = cut.ended;
+                self.ended = start + MOVE_CYCLES * u64::from(cut.level) + 1;
                 return Err(stop_of(cut.stop));
             }
         }
@@ -190,14 +191,18 @@ impl Tree {
                 Ok(())
             }
             Err(stop) => {
-                self.ended = start + 40 * (u64::from(self.shape.levels) + 1);
+                self.ended = start + MOVE_CYCLES * (u64::from(self.shape.levels) + 1);
                 Err(stop)
             }
         }
     }
 
-    /// Writes the path that is open. What its buckets take leaves the hand, unless more entries would stay than may; then
-    /// no move is made. An Ok leaves no path open.
+    /// Writes the path that is open: 16 cycles after its reads, a write every 40 cycles, of its buckets from the root down,
+    /// each sealed under the next seed. What the rule of eviction puts into them leaves the hand. An Ok leaves no path
+    /// open, and at most as many entries at hand as may stay.
+    ///
+    /// `Full` where more would stay, with their number, and then no write is made. `Device` and `NoMemory` are the bus's;
+    /// no further move is made then, the buckets above are written, and the hand is as before.
     pub fn write_path<M: UntrustedMemory, W: Watch>(
         &mut self,
         bus: &mut Bus<'_, M, W>,
@@ -206,27 +211,12 @@ impl Tree {
     ) -> Result<(), TreeStop>
         requires path { self.old.path ≡ Some (record { start = start; leaf = leaf }) }
         requires seed { self.old.seed < 2 ^ 63 }
-        requires room { HasRoom self.old.shape (self.old.shape.levels + 1)
+        requires ready { IsReady self.old.shape.buckets (self.old.shape.levels + 1) 0
             (M.state bus.old.memory.now) (W.state bus.old.tap.now) }
-        ensures same { IsSameBus bus.old bus.new }
-        ensures kept { IsSameTree self.old self.new }
-        ensures seed { OnOk result (self.new.seed ≡ self.old.seed + (self.old.shape.levels + 1)) }
-        ensures path { OnOk result (self.new.path ≡ None) }
-        ensures spare { self.old.spare ≤ self.new.spare }
-        ensures made { IfWritten result
-            (Made Whole (writes self.old.shape.levels start leaf.0)
-            (M.state bus.old.memory.now) (M.state bus.new.memory.now)
-            (W.state bus.old.tap.now) (W.state bus.new.tap.now))
+        ensures ran { IfWritten result
+            (Ran M.state W.state Whole (writes self.old.shape.levels start leaf.0) [] bus.old bus.new)
             (λ _. bus.new ≡ bus.old)
-            (λ stop. CutAt (end_at stop) self.old.shape.levels (reads_end self.old.shape.levels start + 16)
-            (along self.old.shape.levels true (reads_end self.old.shape.levels start + 16) leaf.0)
-            (sealed self.old.key self.old.shape.levels leaf.0 self.old.seed self.old.hand (W.state bus.old.tap.now).mirror)
-            self.new.ended
-            (M.state bus.old.memory.now) (M.state bus.new.memory.now)
-            (W.state bus.old.tap.now) (W.state bus.new.tap.now)) }
-        ensures took { TookRoom (self.old.shape.levels + 1)
-            (M.state bus.old.memory.now) (M.state bus.new.memory.now)
-            (W.state bus.old.tap.now) (W.state bus.new.tap.now) }
+            (λ stop. CutWrite M.state W.state (end_at stop) start leaf.0 self.old self.new bus.old bus.new) }
         ensures altered { (W.state bus.new.tap.now).log.altered ≡ (W.state bus.old.tap.now).log.altered }
         ensures mirror { OnOk result ((W.state bus.new.tap.now).mirror
             ≡ sealed self.old.key self.old.shape.levels leaf.0 self.old.seed self.old.hand
@@ -236,14 +226,25 @@ impl Tree {
         ensures full { IfWritten result (rest_of self.old.shape.levels leaf.0 self.old.hand ≤ self.old.stash)
             (λ held. (held ≡ rest_of self.old.shape.levels leaf.0 self.old.hand) × (self.old.stash < held))
             (λ _. rest_of self.old.shape.levels leaf.0 self.old.hand ≤ self.old.stash) }
-        ensures ended { IfWritten result ⊤ (λ _. self.new.ended ≡ reads_end self.old.shape.levels start) (λ _. ⊤) }
+        ensures stay { OnOk result (length self.new.hand ≡ rest_of self.old.shape.levels leaf.0 self.old.hand) }
+        ensures few { OnOk result (length self.new.hand ≤ self.old.stash) }
+        ensures of_shape { AreOfShape self.new.shape self.new.hand }
+        ensures kept { IsSameTree self.old self.new }
+        ensures seed { OnOk result (self.new.seed ≡ self.old.seed + (self.old.shape.levels + 1)) }
+        ensures path { OnOk result (self.new.path ≡ None) }
+        ensures path_err { OnErr result (self.new.path ≡ self.old.path) }
+        ensures spare { self.old.spare ≤ self.new.spare }
+        ensures refused { IfWritten result (self.new.ended ≡ self.old.ended)
+            (λ _. (self.new.ended ≡ reads_end self.old.shape.levels start) × (self.new.seed ≡ self.old.seed))
+            (λ _. ⊤) }
         ensures cause { IsErrOf result TreeStop.Device
             → Rose (M.state bus.old.memory.now).faults (M.state bus.new.memory.now).faults }
     {
+        let reads_end = start + MOVE_CYCLES * (u64::from(self.shape.levels) + 1);
         depths_on(&self.hand, self.shape.levels, leaf, &mut self.depths);
         let (rest, _) = remainder(&self.depths, self.shape.levels);
         if rest > self.stash as usize {
-            self.ended = start + 40 * (u64::from(self.shape.levels) + 1);
+            self.ended = reads_end;
             return Err(TreeStop::Full { held: rest as u32 });
         }
         match plan(&self.depths, self.shape.levels, &mut self.places) {
@@ -262,7 +263,8 @@ impl Tree {
         ) {
             Ok(()) => {}
             Err(cut) => {
-                self.ended = cut.ended;
+                self.seed += u64::from(cut.level) + 1;
+                self.ended = reads_end + TURN_CYCLES + MOVE_CYCLES * u64::from(cut.level) + 1;
                 return Err(stop_of(cut.stop));
             }
         }
@@ -279,6 +281,7 @@ impl Tree {
         ensures hand { self.new.hand ≡ without self.old.hand address }
         ensures seed { self.new.seed ≡ self.old.seed }
         ensures path { self.new.path ≡ self.old.path }
+        ensures ended { self.new.ended ≡ self.old.ended }
         ensures spare { OnSome result (self.old.spare + 1 ≤ self.new.spare) }
         ensures none { IfNone result (self.new ≡ self.old) }
     {
@@ -297,6 +300,7 @@ impl Tree {
         ensures hand_err { OnErr result (self.new.hand ≡ self.old.hand) }
         ensures seed { self.new.seed ≡ self.old.seed }
         ensures path { self.new.path ≡ self.old.path }
+        ensures ended { self.new.ended ≡ self.old.ended }
         ensures spare { self.old.spare ≤ self.new.spare + 1 }
     {
         self.hand.put(entry)

@@ -1,24 +1,23 @@
 //! A path is written.
 
-ghost use Rattle.std.specs.Prelude.{◌≡◌, ◌==◌, ◌<◌, ◌≤◌, ◌+◌, ◌*◌, ◌^◌, ℕ, true, List, Option, length, slice_get, vec_capacity, OnOk, IfErr};
+ghost use Rattle.std.specs.Prelude.{◌≡◌, ◌==◌, ◌<◌, ◌≤◌, ◌+◌, ◌^◌, ℕ, true, [], List, Option, length, slice_get};
+ghost use Rattle.std.specs.Prelude.{vec_capacity, OnOk, IfErr};
 ghost use Rattle.asc_base.specs.Shape.{IsShape};
 ghost use Rattle.asc_base.specs.TreeShape.{shared_of};
-ghost use Rattle.asc_outside.specs.Rose.{Rose};
-ghost use Rattle.bus_watch.specs.Made.{Made};
+ghost use Rattle.bus_watch.specs.Made.{Ran};
+ghost use Rattle.bus_watch.specs.Path.{along, writes, writes_start};
+ghost use Rattle.bus_watch.specs.Ready.{IsReady};
 ghost use Rattle.bus_watch.specs.RunEnd.{Whole, end_at};
-ghost use Rattle.bus_watch.specs.Same.{IsSameBus};
-ghost use Rattle.bus_watch.specs.Path.{along, reads_end, writes};
-ghost use Rattle.oram_stash.specs.Entries.{where_placed};
-ghost use Rattle.path_evict.specs.Placement.{stands_at};
-ghost use Rattle.unified_tree.specs.Bus.{HasRoom, TookRoom, CutAt};
 ghost use Rattle.oram_contents.specs.PathWritten.{depths_of, places_of, four_slots, sealed};
+ghost use Rattle.path_evict.specs.Placed.{taken_at};
+ghost use Rattle.path_evict.specs.Placement.{stands_at};
 
 use crate::join::{SLOTS, shares};
 use crate::stop::Cut;
-use asc_base::{Entry, Leaf, Shape};
+use asc_base::{Entry, Leaf, MOVE_CYCLES, Shape, TURN_CYCLES};
 use asc_outside::{UntrustedMemory, empty_bucket};
 use bucket_codec::Codec;
-use bus_watch::{Bus, BusStop, Watch};
+use bus_watch::{Bus, Watch};
 use oram_stash::Stash;
 
 /// The greatest level at which the paths to two leaves have the same bucket.
@@ -42,11 +41,7 @@ pub(crate) fn depths_on(hand: &Stash, levels: u32, leaf: Leaf, into: &mut Vec<u3
     ensures capacity { vec_capacity into.old ≤ vec_capacity into.new }
 {
     into.clear();
-    for at in 0..hand.len() {
-        let entry = match hand.get(at) {
-            Some(entry) => *entry,
-            None => unreachable!(),
-        };
+    for entry in hand.iter() {
         match into.push(depth(levels, entry.leaf, leaf)) {
             Ok(()) => {}
             Err(_) => unreachable!(),
@@ -67,15 +62,18 @@ fn stands(place: Option<u32>, level: u32) -> bool
 /// The entry of this number, from 0 on, among those whose place is this level.
 fn nth_at(hand: &Stash, places: &[Option<u32>], level: u32, number: u32) -> Option<Entry>
     requires { length places.now ≡ length hand.now.entries }
-    ensures { result ≡ slice_get (where_placed (stands_at level) places.now hand.now.entries) number }
+    ensures { result ≡ slice_get (taken_at level places.now hand.now.entries) number }
 {
+    let mut at = 0;
     let mut left = number;
-    for at in 0..places.len() {
-        if !stands(places[at], level) {
+    for entry in hand.iter() {
+        let place = places[at];
+        at += 1;
+        if !stands(place, level) {
             continue;
         }
         if left == 0 {
-            return hand.get(at).copied();
+            return Some(*entry);
         }
         left -= 1;
     }
@@ -85,7 +83,7 @@ fn nth_at(hand: &Stash, places: &[Option<u32>], level: u32, number: u32) -> Opti
 /// The slots of the bucket at a level.
 fn slots_on(hand: &Stash, places: &[Option<u32>], level: u32) -> [Option<Entry>; SLOTS]
     requires { length places.now ≡ length hand.now.entries }
-    ensures { result ≡ four_slots (where_placed (stands_at level) places.now hand.now.entries) }
+    ensures { result ≡ four_slots (taken_at level places.now hand.now.entries) }
 {
     let first = nth_at(hand, places, level, 0);
     let second = nth_at(hand, places, level, 1);
@@ -113,36 +111,27 @@ pub(crate) fn write_buckets<M: UntrustedMemory, W: Watch>(
     requires seed { seed < 2 ^ 63 }
     requires counted { length places.now ≡ length hand.now.entries }
     requires places { places.now ≡ places_of shape.now.levels leaf.0 hand.now.entries }
-    requires room { HasRoom shape.now (shape.now.levels + 1) (M.state bus.old.memory.now) (W.state bus.old.tap.now) }
-    ensures same { IsSameBus bus.old bus.new }
-    ensures made { OnOk result (Made Whole (writes shape.now.levels start leaf.0)
-        (M.state bus.old.memory.now) (M.state bus.new.memory.now)
-        (W.state bus.old.tap.now) (W.state bus.new.tap.now)) }
-    ensures cut { IfErr result (λ cut. CutAt (end_at cut.stop) shape.now.levels (reads_end shape.now.levels start + 16)
-        (along shape.now.levels true (reads_end shape.now.levels start + 16) leaf.0)
-        (sealed codec.now shape.now.levels leaf.0 seed hand.now.entries (W.state bus.old.tap.now).mirror) cut.ended
-        (M.state bus.old.memory.now) (M.state bus.new.memory.now)
-        (W.state bus.old.tap.now) (W.state bus.new.tap.now)) }
-    ensures took { TookRoom (shape.now.levels + 1) (M.state bus.old.memory.now) (M.state bus.new.memory.now)
-        (W.state bus.old.tap.now) (W.state bus.new.tap.now) }
+    requires ready { IsReady shape.now.buckets (shape.now.levels + 1) 0
+        (M.state bus.old.memory.now) (W.state bus.old.tap.now) }
+    ensures ran { OnOk result (Ran M.state W.state Whole (writes shape.now.levels start leaf.0) [] bus.old bus.new) }
+    ensures within { IfErr result (λ cut. cut.level ≤ shape.now.levels) }
+    ensures cut { IfErr result (λ cut. Ran M.state W.state (end_at cut.stop)
+        (along shape.now.levels true (writes_start shape.now.levels start) leaf.0 (cut.level + 1)) [] bus.old bus.new) }
     ensures altered { (W.state bus.new.tap.now).log.altered ≡ (W.state bus.old.tap.now).log.altered }
     ensures mirror { OnOk result ((W.state bus.new.tap.now).mirror ≡ sealed codec.now shape.now.levels leaf.0 seed
         hand.now.entries (W.state bus.old.tap.now).mirror (shape.now.levels + 1)) }
-    ensures cause { IfErr result (λ cut. cut.stop ≡ BusStop.Device
-        → Rose (M.state bus.old.memory.now).faults (M.state bus.new.memory.now).faults) }
+    ensures mirror_cut { IfErr result (λ cut. (W.state bus.new.tap.now).mirror
+        ≡ sealed codec.now shape.now.levels leaf.0 seed hand.now.entries (W.state bus.old.tap.now).mirror cut.level) }
 {
-    let first = start + 40 * (u64::from(shape.levels) + 1) + 16;
+    let first = start + MOVE_CYCLES * (u64::from(shape.levels) + 1) + TURN_CYCLES;
     for level in 0..shape.levels + 1 {
-        let at = first + 40 * u64::from(level);
+        let at = first + MOVE_CYCLES * u64::from(level);
         let slots = slots_on(hand, places, level);
         let mut text = empty_bucket();
         codec.seal(seed + u64::from(level), &slots, &mut text);
         match bus.write(at, shape.bucket_on(leaf, level), &text) {
             Ok(()) => {}
-            Err(stop) => return Err(Cut {
-                stop,
-                ended: at + 1,
-            }),
+            Err(stop) => return Err(Cut { stop, level }),
         }
     }
     Ok(())

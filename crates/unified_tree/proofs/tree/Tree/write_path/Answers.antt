@@ -2,9 +2,9 @@ use Rattle.std.proofs.Common.{Some, ◌≤◌, ◌∙◌, ℕ, List, All, length
 use Rattle.asc_base.specs.declared.block.Entry.{Entry}
 use Rattle.bucket_codec.specs.Slot.{IsEntry, IsInRange}
 use Rattle.oram_contents.specs.Shapes.{AreOfShape}
-use Rattle.oram_contents.proofs.ContentsLaws.{All-where_placed}
+use Rattle.path_evict.proofs.Placed.{All-where_placed, length-where_all}
 use Rattle.unified_tree.specs.Tree.{TreeState}
-use Rattle.unified_tree.proofs.Places.{depths_within, length-where_placed-le}
+use Rattle.unified_tree.proofs.Places.{depths_within, kept_fewer}
 use Rattle.unified_tree.proofs.tree.Tree.write_path.Goals as goal
 
 pub plan-requires : goal.plan-requires
@@ -15,7 +15,7 @@ plan-requires g c =
 pub invariant_of-self-2 : goal.invariant_of-self-2
 invariant_of-self-2 g c =
     let i = c.self.invariant in
-    let less = length-where_placed-le is_none c.deref-4.result.now c.self.inside.hand.entries in
+    let less = kept_fewer c.deref-4.result.now c.self.inside.hand.entries in
     let same = ap length c.keep_unplaced.ensures.entries in
     record {
       shape = i.shape;
@@ -24,14 +24,24 @@ invariant_of-self-2 g c =
       texts = i.texts;
       depths = omega (arith, i.depths, c.depths_on.ensures.capacity);
       places = omega (arith, i.places, c.plan.ensures.capacity);
-      of_shape = subst (λ (entries : List Entry). AreOfShape c.self.inside.shape entries) (sym c.keep_unplaced.ensures.entries) (All-where_placed (λ (e : Entry). IsEntry e × IsInRange c.self.inside.shape (Some e)) is_none c.deref-4.result.now c.self.inside.hand.entries i.of_shape);
+      of_shape = subst (λ (entries : List Entry). AreOfShape c.self.inside.shape entries) (sym c.keep_unplaced.ensures.entries)
+          (All-where_placed (λ (e : Entry). IsEntry e × IsInRange c.self.inside.shape (Some e)) is_none c.deref-4.result.now c.self.inside.hand.entries i.of_shape);
       few = omega (arith, i.few);
       path = tt;
     }
 
 pub returns-clause-spare : goal.returns-clause-spare
 returns-clause-spare g c =
-    let less = length-where_placed-le is_none c.deref-4.result.now c.self.inside.hand.entries in
+    let less = kept_fewer c.deref-4.result.now c.self.inside.hand.entries in
     let same = ap length c.keep_unplaced.ensures.entries in
     let seen = ap (λ (s : TreeState). s.spare) c.self.view_is in
     omega (arith, c.depths_on.ensures.capacity, c.plan.ensures.capacity, c.keep_unplaced.ensures.spare)
+
+pub returns-clause-stay : goal.returns-clause-stay
+returns-clause-stay g c = ?
+
+pub returns-clause-few : goal.returns-clause-few
+returns-clause-few g c = ?
+
+pub returns-clause-of_shape : goal.returns-clause-of_shape
+returns-clause-of_shape g c = ?
