@@ -1,5 +1,6 @@
 -- Entries at hand beside their places, and what taking them out leaves.
-use Rattle.std.proofs.Common.{◌≡◌, ◌<◌, ◌≤◌, ◌+◌, ◌-◌, ℕ, zero, suc, min, Bool, true, false, if◌then◌else◌, List, [], ◌∷◌, length, drop}
+use Rattle.std.proofs.Common.{◌≡◌, ◌<◌, ◌≤◌, ◌+◌, ◌-◌, ℕ, zero, suc, min, Bool, true, false, if◌then◌else◌, List, []}
+use Rattle.std.proofs.Common.{◌∷◌, length, drop}
 use Rattle.std.proofs.Common.{get_or, slice_get, All, Option, None, Some, OnSome, refl, sym, ◌∙◌, ap, ap₂, arith}
 use Rattle.std.specs.Prelude.{is_none}
 use Rattle.std.proofs.lemmas.List.{drop_more}
@@ -35,8 +36,10 @@ kept_fewer (place ∷ places) (entry ∷ entries) = by (is_none place) (kept_few
     by false less = omega arith
 
 -- the room that an entry leaves which is taken out
-pub take_spare : (o : Option Entry) (entries new : List Entry) (address : Address) (old spare spare' one other : ℕ) → o ≡ held entries address → new ≡ without entries address → OnSome o (spare' ≡ spare + 1)
-    → old ≡ min spare (min (one - length entries) (other - length entries)) → length entries ≤ one → length entries ≤ other
+pub take_spare : (o : Option Entry) (entries new : List Entry) (address : Address) (old spare spare' one other : ℕ)
+    → o ≡ held entries address → new ≡ without entries address → OnSome o (spare' ≡ spare + 1)
+    → old ≡ min spare (min (one - length entries) (other - length entries)) → length entries ≤ one
+        → length entries ≤ other
     → OnSome o (old + 1 ≤ min spare' (min (one - length new) (other - length new)))
 take_spare None entries new address old spare spare' one other is new_is more old_is in_one in_other = tt
 take_spare (Some e) entries new address old spare spare' one other is new_is more old_is in_one in_other =
@@ -47,7 +50,8 @@ take_spare (Some e) entries new address old spare spare' one other is new_is mor
 -- no depth is below the leaves
 pub depths_within : (levels leaf : ℕ) (hand : List Entry) → All (λ depth. depth ≤ levels) (depths_of levels leaf hand)
 depths_within levels leaf [] = λ k d less. absurd (omega arith)
-depths_within levels leaf (entry ∷ hand) = All-cons (λ depth. depth ≤ levels) (shared_of levels entry.leaf.0 leaf) (depths_of levels leaf hand) (shared_of-le levels entry.leaf.0 leaf) (depths_within levels leaf hand)
+depths_within levels leaf (entry ∷ hand) = All-cons (λ depth. depth ≤ levels) (shared_of levels entry.leaf.0 leaf)
+    (depths_of levels leaf hand) (shared_of-le levels entry.leaf.0 leaf) (depths_within levels leaf hand)
 
 -- an entry whose place meets the test is the next of those, and another one is passed over
 pub nth_now : (test : Option ℕ → Bool) (places : List (Option ℕ)) (entry : Entry) (rest : List Entry) (at : ℕ)

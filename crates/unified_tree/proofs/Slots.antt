@@ -42,7 +42,8 @@ read_is keys old tap tap' tree tree' start asked p shape_is pads_is drawn silent
         altered_are = was.gains.gained ∙ ap (λ before. before ++ altered) drawn_altered;
       };
       noted = subst (λ n. All (λ (reply : Altered). reply.before ≡ n) altered) number was.gains.noted;
-      read = subst (λ (s : Shape). IsReadTo keys.pads s start (keys.leaf_of p) altered (contents_of tree tap) tree'.hand)
+      read = subst (λ (s : Shape). IsReadTo keys.pads s start (keys.leaf_of p) altered
+          (contents_of tree tap) tree'.hand)
           (sym shape_is)
           (subst (λ k. IsReadTo k tree.shape start (keys.leaf_of p) altered (contents_of tree tap) tree'.hand)
           (sym pads_is) was.says);

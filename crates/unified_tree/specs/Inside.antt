@@ -12,7 +12,8 @@ tree_of tree = record {
   stash = tree.stash;
   key = tree.codec;
   hand = tree.hand.entries;
-  spare = min tree.hand.spare (min (vec_capacity tree.depths - length tree.hand.entries) (vec_capacity tree.places - length tree.hand.entries));
+  spare = min tree.hand.spare (min (vec_capacity tree.depths - length tree.hand.entries)
+      (vec_capacity tree.places - length tree.hand.entries));
   seed = tree.seed;
   path = tree.path;
   ended = tree.ended;

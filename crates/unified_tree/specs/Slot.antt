@@ -26,5 +26,6 @@ pub record GainsNow (log log' : LogLists) : Type 0 where
 pub record WasRead (key : List ℕ) (shape : Shape) (start leaf : ℕ) (result : Result (Unit {0}) TreeStop)
     (tap tap' : TapState) (hand hand' : List Entry) : Type 0 where
   pub gains : GainsNow tap.log tap'.log
-  pub says : Says result (path_read key shape leaf (replies shape.levels start leaf tap.mirror gains.altered) hand) hand'
+  pub says : Says result (path_read key shape leaf (replies shape.levels start leaf tap.mirror gains.altered) hand)
+      hand'
   pub joined : hand' ≡ path_joined key shape leaf (replies shape.levels start leaf tap.mirror gains.altered) hand

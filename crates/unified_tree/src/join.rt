@@ -43,8 +43,10 @@ fn join_slot(
     requires level { level ≤ shape.now.levels }
     requires room { 0 < hand.old.spare }
     requires found { IsSlot found.now × IsInRange shape.now found.now }
-    ensures says { Says result (join_slot shape.now.levels leaf.0 level slot found.now hand.old.entries) hand.new.entries }
-    ensures joined { hand.new.entries ≡ hand_then (join_slot shape.now.levels leaf.0 level slot found.now hand.old.entries)
+    ensures says { Says result (join_slot shape.now.levels leaf.0 level slot found.now hand.old.entries)
+        hand.new.entries }
+    ensures joined { hand.new.entries
+        ≡ hand_then (join_slot shape.now.levels leaf.0 level slot found.now hand.old.entries)
         hand.old.entries (λ next. next) }
     ensures spare { hand.old.spare ≤ hand.new.spare + 1 }
     ensures more { length hand.new.entries ≤ length hand.old.entries + 1 }
@@ -80,7 +82,8 @@ fn join_slots(
     requires level { level ≤ shape.now.levels }
     requires room { 4 ≤ hand.old.spare }
     requires slots { AreSlots slots.now × AreInRange shape.now slots.now }
-    ensures says { Says result (join_slots shape.now.levels leaf.0 level 0 slots.now hand.old.entries) hand.new.entries }
+    ensures says { Says result (join_slots shape.now.levels leaf.0 level 0 slots.now hand.old.entries)
+        hand.new.entries }
     ensures joined { hand.new.entries ≡ slots_joined shape.now.levels leaf.0 level 0 slots.now hand.old.entries }
     ensures spare { hand.old.spare ≤ hand.new.spare + 4 }
     ensures more { length hand.new.entries ≤ length hand.old.entries + 4 }

@@ -20,8 +20,8 @@ use asc_base::{Leaf, Point};
 use asc_outside::UntrustedMemory;
 use bus_watch::{Bus, Event, Watch};
 
-/// The slot of the dummy of a number, which starts at a time, in cycles, and takes nothing out and puts nothing back. Its
-/// start and its leaf are noted first. It is refused where the path's read or its write is.
+/// The slot of the dummy of a number, which starts at a time, in cycles, and takes nothing out and puts nothing back.
+/// Its start and its leaf are noted first. It is refused where the path's read or its write is.
 pub fn pass_by<M: UntrustedMemory, W: Watch>(
     tree: &mut Tree,
     bus: &mut Bus<'_, M, W>,
@@ -42,7 +42,8 @@ pub fn pass_by<M: UntrustedMemory, W: Watch>(
     ensures passed { OnOk result ((keys : Keys) → keys.shape ≡ tree.old.shape → keys.pads ≡ tree.old.key
         → keys.leaf_of (Dummy number) ≡ leaf.0
         → IsPass keys (W.state bus.old.tap.now).log (W.state bus.new.tap.now).log
-        (contents_of tree.old (W.state bus.old.tap.now)) (contents_of tree.new (W.state bus.new.tap.now)) start number) }
+        (contents_of tree.old (W.state bus.old.tap.now)) (contents_of tree.new (W.state bus.new.tap.now))
+        start number) }
     ensures sound { OnOk result ((keys : Keys) → AreKeys keys → keys.shape ≡ tree.old.shape → keys.pads ≡ tree.old.key
         → keys.leaf_of (Dummy number) ≡ leaf.0 → (g : Ghost) → g.path ≡ None → number ≡ g.dummies
         → Always keys (W.state bus.old.tap.now).log (contents_of tree.old (W.state bus.old.tap.now))

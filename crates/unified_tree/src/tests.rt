@@ -4,7 +4,9 @@ ghost use Rattle.unified_tree.specs.Tree.{TreeState};
 
 use crate::{Tree, TreeStop, pass_by};
 use asc_base::{Address, Entry, Leaf, Line, Shape};
-use asc_outside::{BUCKET_BYTES, FaultyMemory, HonestMemory, ScriptedMemory, UntrustedMemory, empty_bucket};
+use asc_outside::{
+    BUCKET_BYTES, FaultyMemory, HonestMemory, ScriptedMemory, UntrustedMemory, empty_bucket,
+};
 use bucket_codec::Codec;
 use bus_watch::{Bus, Recorder, Watch};
 use std::alloc::Global;

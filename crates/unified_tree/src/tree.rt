@@ -136,13 +136,13 @@ impl Tree {
         }
     }
 
-    /// Reads the path of a leaf in the slot that starts at a time, in cycles: a read every 40 cycles from there on, of the
-    /// path's buckets from the root down. After the last one the entries in the replies join those at hand, up to the
-    /// first evidence. An Ok leaves the path open.
+    /// Reads the path of a leaf in the slot that starts at a time, in cycles: a read every 40 cycles from there on, of
+    /// the path's buckets from the root down. After the last one the entries in the replies join those at hand, up to
+    /// the first evidence. An Ok leaves the path open.
     ///
-    /// A bucket with a slot that isn't in the form is a `BadSlot`, and none of its entries joins. Slot by slot, an entry
-    /// whose leaf doesn't have the bucket on its path is an `OffPath`, and one of whose address there is one at hand a
-    /// `Doubled`. `Device` and `NoMemory` are the bus's; no further move is made then, and nothing joins.
+    /// A bucket with a slot that isn't in the form is a `BadSlot`, and none of its entries joins. Slot by slot, an
+    /// entry whose leaf doesn't have the bucket on its path is an `OffPath`, and one of whose address there is one at
+    /// hand a `Doubled`. `Device` and `NoMemory` are the bus's; no further move is made then, and nothing joins.
     pub fn read_path<M: UntrustedMemory, W: Watch>(
         &mut self,
         bus: &mut Bus<'_, M, W>,
@@ -197,12 +197,12 @@ impl Tree {
         }
     }
 
-    /// Writes the path that is open: 16 cycles after its reads, a write every 40 cycles, of its buckets from the root down,
-    /// each sealed under the next seed. What the rule of eviction puts into them leaves the hand. An Ok leaves no path
-    /// open, and at most as many entries at hand as may stay.
+    /// Writes the path that is open: 16 cycles after its reads, a write every 40 cycles, of its buckets from the root
+    /// down, each sealed under the next seed. What the rule of eviction puts into them leaves the hand. An Ok leaves no
+    /// path open, and at most as many entries at hand as may stay.
     ///
-    /// `Full` where more would stay, with their number, and then no write is made. `Device` and `NoMemory` are the bus's;
-    /// no further move is made then, the buckets above are written, and the hand is as before.
+    /// `Full` where more would stay, with their number, and then no write is made. `Device` and `NoMemory` are the
+    /// bus's; no further move is made then, the buckets above are written, and the hand is as before.
     pub fn write_path<M: UntrustedMemory, W: Watch>(
         &mut self,
         bus: &mut Bus<'_, M, W>,

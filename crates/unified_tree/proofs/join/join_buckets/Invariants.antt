@@ -12,7 +12,10 @@ invariant-loop-level l = record {
   spare : l.fn.hand.spare ≤ l.hand.spare + 4 * l.level;
   more : length l.hand.entries ≤ length l.fn.hand.entries + 4 * l.level;
   of_shape : AreOfShape l.shape l.fn.hand.entries → AreOfShape l.shape l.hand.entries;
-  rest : join_buckets l.shape.levels l.leaf.0 0 (map (opened l.codec l.shape) l.texts) l.fn.hand.entries ≡ join_buckets l.shape.levels l.leaf.0 l.level (map (opened l.codec l.shape) (drop l.level l.texts)) l.hand.entries;
+  rest : join_buckets l.shape.levels l.leaf.0 0 (map (opened l.codec l.shape) l.texts) l.fn.hand.entries
+      ≡ join_buckets l.shape.levels l.leaf.0 l.level (map (opened l.codec l.shape) (drop l.level l.texts))
+      l.hand.entries;
   joined : buckets_joined l.shape.levels l.leaf.0 0 (map (opened l.codec l.shape) l.texts) l.fn.hand.entries
-      ≡ buckets_joined l.shape.levels l.leaf.0 l.level (map (opened l.codec l.shape) (drop l.level l.texts)) l.hand.entries;
+      ≡ buckets_joined l.shape.levels l.leaf.0 l.level
+          (map (opened l.codec l.shape) (drop l.level l.texts)) l.hand.entries;
 }

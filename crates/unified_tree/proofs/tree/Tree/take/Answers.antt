@@ -18,12 +18,15 @@ invariant_of-self c =
       texts = i.texts;
       depths = omega (arith, i.depths);
       places = omega (arith, i.places);
-      of_shape = subst (λ (entries : List Entry). AreOfShape c.self.inside.shape entries) (sym c.take.ensures.others) (without_of_shape c.self.inside.shape c.self.inside.hand.entries c.args.address i.of_shape);
+      of_shape = subst (λ (entries : List Entry). AreOfShape c.self.inside.shape entries) (sym c.take.ensures.others)
+          (without_of_shape c.self.inside.shape c.self.inside.hand.entries c.args.address i.of_shape);
       few = omega (arith, i.few);
       path = i.path;
     }
 
 pub returns-clause-spare : goal.returns-clause-spare
 returns-clause-spare c =
-    take_spare c.take.result c.self.inside.hand.entries c.take.new.self.entries c.args.address c.args.self.now.spare c.self.inside.hand.spare c.take.new.self.spare _ _
-    c.take.ensures.taken c.take.ensures.others c.take.ensures.spare (sym (ap (λ (s : TreeState). s.spare) c.self.view_is)) c.self.invariant.depths c.self.invariant.places
+    take_spare c.take.result c.self.inside.hand.entries c.take.new.self.entries c.args.address c.args.self.now.spare
+        c.self.inside.hand.spare c.take.new.self.spare _ _
+    c.take.ensures.taken c.take.ensures.others c.take.ensures.spare
+        (sym (ap (λ (s : TreeState). s.spare) c.self.view_is)) c.self.invariant.depths c.self.invariant.places

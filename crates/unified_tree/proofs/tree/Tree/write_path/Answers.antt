@@ -13,7 +13,8 @@ use Rattle.unified_tree.proofs.tree.Tree.write_path.Goals as goal
 
 pub plan-requires : goal.plan-requires
 plan-requires g c =
-    subst (λ (depths : List ℕ). All (λ depth. depth ≤ c.self.inside.shape.levels) depths) (sym (c.deref-2.ensures.value ∙ c.depths_on.ensures.depths))
+    subst (λ (depths : List ℕ). All (λ depth. depth ≤ c.self.inside.shape.levels) depths)
+        (sym (c.deref-2.ensures.value ∙ c.depths_on.ensures.depths))
     (depths_within c.self.inside.shape.levels c.args.leaf.0 c.self.inside.hand.entries)
 
 pub invariant_of-self-2 : goal.invariant_of-self-2
@@ -28,8 +29,10 @@ invariant_of-self-2 g c =
       texts = i.texts;
       depths = omega (arith, i.depths, c.depths_on.ensures.capacity);
       places = omega (arith, i.places, c.plan.ensures.capacity);
-      of_shape = subst (λ (entries : List Entry). AreOfShape c.self.inside.shape entries) (sym c.keep_unplaced.ensures.entries)
-          (All-where_placed (λ (e : Entry). IsEntry e × IsInRange c.self.inside.shape (Some e)) is_none c.deref-4.result.now c.self.inside.hand.entries i.of_shape);
+      of_shape = subst (λ (entries : List Entry). AreOfShape c.self.inside.shape entries)
+          (sym c.keep_unplaced.ensures.entries)
+          (All-where_placed (λ (e : Entry). IsEntry e × IsInRange c.self.inside.shape (Some e)) is_none
+              c.deref-4.result.now c.self.inside.hand.entries i.of_shape);
       few = omega (arith, i.few);
       path = tt;
     }
