@@ -39,7 +39,7 @@ kept_fewer (place ∷ places) (entry ∷ entries) = by (is_none place) (kept_few
 pub take_spare : (o : Option Entry) (entries new : List Entry) (address : Address) (old spare spare' one other : ℕ)
     → o ≡ held entries address → new ≡ without entries address → OnSome o (spare' ≡ spare + 1)
     → old ≡ min spare (min (one - length entries) (other - length entries)) → length entries ≤ one
-        → length entries ≤ other
+    → length entries ≤ other
     → OnSome o (old + 1 ≤ min spare' (min (one - length new) (other - length new)))
 take_spare None entries new address old spare spare' one other is new_is more old_is in_one in_other = tt
 take_spare (Some e) entries new address old spare spare' one other is new_is more old_is in_one in_other =

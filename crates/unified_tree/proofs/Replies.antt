@@ -21,8 +21,13 @@ use Rattle.unified_tree.specs.Slot.{WasRead}
 use Rattle.unified_tree.specs.Stops.{Says, IfRead}
 
 abbrev altered_at : ℕ → ℕ → ℕ → ℕ → ℕ → List ℕ → Altered
-altered_at levels start leaf before k text = record { time = start + 40 * k; bucket = bucket_of levels leaf k; bytes =
-    text; before = before }
+altered_at levels start leaf before k text = record {
+  time = start + 40 * k;
+  bucket = bucket_of levels leaf k;
+  bytes =
+      text;
+  before = before;
+}
 
 -- the altered replies among these, from level k on
 abbrev pub altered_of : ℕ → ℕ → ℕ → List (List ℕ) → ℕ → ℕ → List (List ℕ) → List Altered
@@ -35,7 +40,7 @@ altered_of levels start leaf mirror before k (text ∷ texts) =
 pub log_after-altered : (levels start leaf : ℕ) (mirror : List (List ℕ)) (k : ℕ) (log : LogLists)
     (texts : List (List ℕ))
     → (log_after levels start leaf mirror k log texts).altered ≡ log.altered ++ altered_of levels start leaf mirror
-        (length log.events) k texts
+    (length log.events) k texts
 log_after-altered levels start leaf mirror k log [] = sym (append-nil log.altered)
 log_after-altered levels start leaf mirror k log (text ∷ texts) = both
     (is_bucket mirror (bucket_of levels leaf k) text) refl
@@ -43,10 +48,10 @@ log_after-altered levels start leaf mirror k log (text ∷ texts) = both
   where
     both : (b : Bool) → is_bucket mirror (bucket_of levels leaf k) text ≡ b
         → (log_after levels start leaf mirror (k + 1) (log_with levels start leaf mirror k log text) texts).altered ≡
-            (log_with levels start leaf mirror k log text).altered ++ altered_of levels start leaf mirror
-            (length (log_with levels start leaf mirror k log text).events) (k + 1) texts
+        (log_with levels start leaf mirror k log text).altered ++ altered_of levels start leaf mirror
+        (length (log_with levels start leaf mirror k log text).events) (k + 1) texts
         → (log_after levels start leaf mirror (k + 1) (log_with levels start leaf mirror k log text) texts).altered
-            ≡ log.altered ++ altered_of levels start leaf mirror (length log.events) k (text ∷ texts)
+        ≡ log.altered ++ altered_of levels start leaf mirror (length log.events) k (text ∷ texts)
     both true is next = next ∙ rw is refl
     both false is next = next ∙ rw is (append_assoc log.altered (_ ∷ [])
         (altered_of levels start leaf mirror (length log.events) (k + 1) texts))
@@ -61,9 +66,9 @@ altered_of-noted levels start leaf mirror before k (text ∷ texts) = both
     both : (b : Bool) → All (λ (reply : Altered). reply.before ≡ before)
         (altered_of levels start leaf mirror before (k + 1) texts)
         → All (λ (reply : Altered). reply.before ≡ before)
-            (if b then altered_of levels start leaf mirror before
-            (k + 1) texts else altered_at levels start leaf before k text ∷ altered_of levels start leaf mirror before
-            (k + 1) texts)
+        (if b then altered_of levels start leaf mirror before
+        (k + 1) texts else altered_at levels start leaf before k text ∷ altered_of levels start leaf mirror before
+        (k + 1) texts)
     both true next = next
     both false next = All-cons (λ (reply : Altered). reply.before ≡ before)
         (altered_at levels start leaf before k text) (altered_of levels start leaf mirror before (k + 1) texts) refl
@@ -72,7 +77,7 @@ altered_of-noted levels start leaf mirror before k (text ∷ texts) = both
 -- no later level's reply has the time of an earlier one
 later_reply : (levels start leaf : ℕ) (mirror : List (List ℕ)) (before k j bucket : ℕ) (texts : List (List ℕ)) → j < k
     → reply_at mirror (altered_of levels start leaf mirror before k texts)
-        (start + 40 * j) bucket ≡ get_or mirror bucket []
+    (start + 40 * j) bucket ≡ get_or mirror bucket []
 later_reply levels start leaf mirror before k j bucket [] less = refl
 later_reply levels start leaf mirror before k j bucket (text ∷ texts) less = both
     (is_bucket mirror (bucket_of levels leaf k) text) (later_reply levels start leaf mirror before
@@ -81,8 +86,8 @@ later_reply levels start leaf mirror before k j bucket (text ∷ texts) less = b
     both : (b : Bool) → reply_at mirror (altered_of levels start leaf mirror before (k + 1) texts)
         (start + 40 * j) bucket ≡ get_or mirror bucket []
         → reply_at mirror (if b then altered_of levels start leaf mirror before
-            (k + 1) texts else altered_at levels start leaf before k text ∷ altered_of levels start leaf mirror before
-            (k + 1) texts) (start + 40 * j) bucket ≡ get_or mirror bucket []
+        (k + 1) texts else altered_at levels start leaf before k text ∷ altered_of levels start leaf mirror before
+        (k + 1) texts) (start + 40 * j) bucket ≡ get_or mirror bucket []
     both true next = next
     both false next = rw (ne_eqb (start + 40 * k) (start + 40 * j) (λ e. omega (arith, e))) next
 
@@ -109,18 +114,18 @@ is_bucket-text (m ∷ mirror) (suc b) text is = is_bucket-text mirror b text is
 
 pub same_replies : (levels start leaf : ℕ) (mirror : List (List ℕ)) (before k : ℕ) (texts : List (List ℕ))
     → replies_from levels start leaf mirror (altered_of levels start leaf mirror before k texts) k
-        (length texts) ≡ texts
+    (length texts) ≡ texts
 same_replies levels start leaf mirror before k [] = refl
 same_replies levels start leaf mirror before k (text ∷ texts) = both
     (is_bucket mirror (bucket_of levels leaf k) text) refl (same_replies levels start leaf mirror before (k + 1) texts)
   where
     both : (b : Bool) → is_bucket mirror (bucket_of levels leaf k) text ≡ b
         → replies_from levels start leaf mirror (altered_of levels start leaf mirror before (k + 1) texts) (k + 1)
-            (length texts) ≡ texts
+        (length texts) ≡ texts
         → replies_from levels start leaf mirror
         (if b then altered_of levels start leaf mirror before
-            (k + 1) texts else altered_at levels start leaf before k text ∷ altered_of levels start leaf mirror before
-            (k + 1) texts)
+        (k + 1) texts else altered_at levels start leaf before k text ∷ altered_of levels start leaf mirror before
+        (k + 1) texts)
         k (length (text ∷ texts)) ≡ text ∷ texts
     both true is next = ap₂ (λ a r. a ∷ r) (later_reply levels start leaf mirror before (k + 1) k
         (bucket_of levels leaf k) texts (omega arith) ∙ is_bucket-text mirror (bucket_of levels leaf k) text is) next
@@ -132,13 +137,13 @@ same_replies levels start leaf mirror before k (text ∷ texts) = both
 pub was_read_of : (key : List ℕ) (shape : Shape) (start leaf : ℕ) (result : Result (Unit {0}) TreeStop)
     (tap tap' : TapState) (hand hand' : List Entry) (texts : List (List ℕ))
     → length texts ≡ shape.levels + 1 → tap'.log ≡ log_after shape.levels start leaf tap.mirror 0 tap.log texts
-        → Says result (path_read key shape leaf texts hand) hand'
+    → Says result (path_read key shape leaf texts hand) hand'
     → hand' ≡ path_joined key shape leaf texts hand → WasRead key shape start leaf result tap tap' hand hand'
 was_read_of key shape start leaf result tap tap' hand hand' texts counted log says joined =
     let altered = altered_of shape.levels start leaf tap.mirror (length tap.log.events) 0 texts in
     let same : texts ≡ replies_from shape.levels start leaf tap.mirror altered 0 (shape.levels + 1) =
-        sym (ap (λ n. replies_from shape.levels start leaf tap.mirror altered 0 n) (sym counted)
-        ∙ same_replies shape.levels start leaf tap.mirror (length tap.log.events) 0 texts) in
+    sym (ap (λ n. replies_from shape.levels start leaf tap.mirror altered 0 n) (sym counted)
+    ∙ same_replies shape.levels start leaf tap.mirror (length tap.log.events) 0 texts) in
     record {
       gains = record {
         altered = altered;

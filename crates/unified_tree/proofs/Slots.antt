@@ -33,7 +33,7 @@ read_is keys old tap tap' tree tree' start asked p shape_is pads_is drawn silent
     let altered = was.gains.altered in
     let drawn_altered : tap.log.altered ≡ old.altered = drawn.altered_are ∙ append-nil old.altered in
     let number : length tap.log.events ≡ length old.events + 2 =
-        ap length drawn.events_are ∙ length-append old.events (drawn_events keys start asked p) in
+    ap length drawn.events_are ∙ length-append old.events (drawn_events keys start asked p) in
     record {
       asked = asked;
       altered = altered;
@@ -58,17 +58,17 @@ pub write_is : (keys : Keys) (tap tap' : TapState) (tree tree' : TreeState) (lea
 write_is keys tap tap' tree tree' leaf shape_is pads_is hand_is mirror_is seed_is =
     let now : Contents = contents_of tree tap in
     let same : contents_of tree' tap' ≡ after_write tree.key tree.shape.levels leaf now =
-        ap (λ h. let c : Contents = record { hand = h; mirror = tap'.mirror; seed = tree'.seed } in c) hand_is
-        ∙ ap (λ m. let c : Contents = record {
-          hand = stays tree.shape.levels leaf tree.hand;
-          mirror = m;
-          seed = tree'.seed;
-        } in c) mirror_is
-        ∙ ap (λ s. let c : Contents = record {
-          hand = stays tree.shape.levels leaf tree.hand;
-          mirror = sealed tree.key tree.shape.levels leaf tree.seed tree.hand tap.mirror (tree.shape.levels + 1);
-          seed = s;
-        } in c) seed_is in
+    ap (λ h. let c : Contents = record { hand = h; mirror = tap'.mirror; seed = tree'.seed } in c) hand_is
+    ∙ ap (λ m. let c : Contents = record {
+      hand = stays tree.shape.levels leaf tree.hand;
+      mirror = m;
+      seed = tree'.seed;
+    } in c) mirror_is
+    ∙ ap (λ s. let c : Contents = record {
+      hand = stays tree.shape.levels leaf tree.hand;
+      mirror = sealed tree.key tree.shape.levels leaf tree.seed tree.hand tap.mirror (tree.shape.levels + 1);
+      seed = s;
+    } in c) seed_is in
     same ∙ ap (λ k. after_write k tree.shape.levels leaf now) (sym pads_is)
     ∙ ap (λ (s : Shape). after_write keys.pads s.levels leaf now) (sym shape_is)
 

@@ -21,14 +21,14 @@ sealed-next key levels leaf seed hand mirror level = rw add-one refl
 pub next_bucket : (key : List ℕ) (levels leaf seed level number at : ℕ) (hand : List Entry) (places : List (Option ℕ))
     (slots : List (Option Entry)) (text : List ℕ) (old mid new : List (List ℕ))
     → number ≡ bucket_of levels leaf level → at ≡ level → places ≡ places_of levels leaf hand
-        → slots ≡ four_slots (taken_at level places hand) → text ≡ bucket_text key (seed + at) slots
+    → slots ≡ four_slots (taken_at level places hand) → text ≡ bucket_text key (seed + at) slots
     → mid ≡ sealed key levels leaf seed hand old level → new ≡ slice_set mid number text
-        → new ≡ sealed key levels leaf seed hand old (level + 1)
+    → new ≡ sealed key levels leaf seed hand old (level + 1)
 next_bucket key levels leaf seed level number at hand places slots text old mid new is at_is planned four spelled
     so_far wrote =
     wrote
     ∙ ap (λ (all : List (List ℕ)). slice_set all number text) so_far
     ∙ ap₂ (λ n t. slice_set (sealed key levels leaf seed hand old level) n t) is
     (spelled ∙ ap₂ (λ a s. bucket_text key (seed + a) s) at_is
-        (four ∙ ap (λ p. four_slots (taken_at level p hand)) planned))
+    (four ∙ ap (λ p. four_slots (taken_at level p hand)) planned))
     ∙ sym (sealed-next key levels leaf seed hand old level)

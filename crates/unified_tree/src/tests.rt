@@ -41,7 +41,10 @@ fn filled(alloc: Global, shape: &Shape, stash: u32, entries: &[Entry]) -> Result
         Err(_) => return Err("a tree".into()),
     };
     for entry in entries {
-        if entry.address.0 >= shape.total || entry.leaf.0 >= 1 << shape.levels || tree.held() > 999 {
+        if entry.address.0 >= shape.total
+            || entry.leaf.0 >= 1 << shape.levels
+            || tree.held() > 999
+        {
             return Err("an entry".into());
         }
         if tree.put(*entry).is_err() || tree.room().is_err() {
@@ -80,7 +83,13 @@ fn first_slot<M: UntrustedMemory, W: Watch>(
 fn full_before_a_write(rt: HostRuntime) -> Result<(), Fail> {
     let alloc = rt.alloc();
     let shape = Shape::new(64, 16).ok_or("shape")?;
-    let five = [entry(0, 16), entry(1, 16), entry(2, 16), entry(3, 16), entry(4, 16)];
+    let five = [
+        entry(0, 16),
+        entry(1, 16),
+        entry(2, 16),
+        entry(3, 16),
+        entry(4, 16),
+    ];
     for (number, wanted, moves, held) in [
         (5, Err(TreeStop::Full { held: 1 }), 6, 5),
         (4, Ok(()), 12, 0),
@@ -151,19 +160,70 @@ fn first_evidence_is_named(rt: HostRuntime) -> Result<(), Fail> {
     let off = Some(entry(2, 31));
     // what the buckets of levels 0 and 1 hold, which slot of which of them is broken, and how many entries join
     for (root, next, broken, wanted, held) in [
-        ([one, none, none, none], [off, none, none, none], Some((1, 2)), TreeStop::BadSlot { bucket: 1, slot: 2 }, 2),
-        ([one, none, none, none], [off, none, none, none], None, TreeStop::OffPath { bucket: 1, slot: 0 }, 2),
-        ([one, none, none, none], [one, off, none, none], None, TreeStop::Doubled { address: Address(1) }, 2),
-        ([one, none, none, none], [none, off, none, none], None, TreeStop::OffPath { bucket: 1, slot: 1 }, 2),
-        ([one, Some(entry(1, 3)), none, none], [none; 4], Some((1, 0)), TreeStop::Doubled { address: Address(1) }, 2),
-        ([Some(entry(9, 0)), none, none, none], [none; 4], Some((0, 3)), TreeStop::BadSlot { bucket: 0, slot: 3 }, 1),
-        ([one, Some(entry(9, 0)), none, none], [none; 4], None, TreeStop::Doubled { address: Address(9) }, 2),
+        (
+            [one, none, none, none],
+            [off, none, none, none],
+            Some((1, 2)),
+            TreeStop::BadSlot { bucket: 1, slot: 2 },
+            2,
+        ),
+        (
+            [one, none, none, none],
+            [off, none, none, none],
+            None,
+            TreeStop::OffPath { bucket: 1, slot: 0 },
+            2,
+        ),
+        (
+            [one, none, none, none],
+            [one, off, none, none],
+            None,
+            TreeStop::Doubled {
+                address: Address(1),
+            },
+            2,
+        ),
+        (
+            [one, none, none, none],
+            [none, off, none, none],
+            None,
+            TreeStop::OffPath { bucket: 1, slot: 1 },
+            2,
+        ),
+        (
+            [one, Some(entry(1, 3)), none, none],
+            [none; 4],
+            Some((1, 0)),
+            TreeStop::Doubled {
+                address: Address(1),
+            },
+            2,
+        ),
+        (
+            [Some(entry(9, 0)), none, none, none],
+            [none; 4],
+            Some((0, 3)),
+            TreeStop::BadSlot { bucket: 0, slot: 3 },
+            1,
+        ),
+        (
+            [one, Some(entry(9, 0)), none, none],
+            [none; 4],
+            None,
+            TreeStop::Doubled {
+                address: Address(9),
+            },
+            2,
+        ),
     ] {
         let mut tree = filled(alloc, &shape, 200, &[entry(9, 5)])?;
         let mut memory = ScriptedMemory::new(alloc, replies_of(alloc, root, next, broken)?, 0)?;
         let mut tap = Recorder::new(alloc);
         let mut bus = Bus::new(&mut memory, &mut tap);
-        assert_eq!(rt; first_slot(&mut tree, &mut bus, &shape, Leaf(0))?, Err(wanted));
+        assert_eq!(rt;
+            first_slot(&mut tree, &mut bus, &shape, Leaf(0))?,
+            Err(wanted)
+        );
         assert_eq!(rt; (tree.ended(), tree.held()), (496, held));
         assert_eq!(rt; (tap.log().moves.len(), tap.log().altered.len()), (6, 2));
     }

@@ -17,5 +17,5 @@ invariant-loop-level l = record {
       l.hand.entries;
   joined : buckets_joined l.shape.levels l.leaf.0 0 (map (opened l.codec l.shape) l.texts) l.fn.hand.entries
       ≡ buckets_joined l.shape.levels l.leaf.0 l.level
-          (map (opened l.codec l.shape) (drop l.level l.texts)) l.hand.entries;
+      (map (opened l.codec l.shape) (drop l.level l.texts)) l.hand.entries;
 }

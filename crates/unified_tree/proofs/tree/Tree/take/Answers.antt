@@ -27,6 +27,6 @@ invariant_of-self c =
 pub returns-clause-spare : goal.returns-clause-spare
 returns-clause-spare c =
     take_spare c.take.result c.self.inside.hand.entries c.take.new.self.entries c.args.address c.args.self.now.spare
-        c.self.inside.hand.spare c.take.new.self.spare _ _
+    c.self.inside.hand.spare c.take.new.self.spare _ _
     c.take.ensures.taken c.take.ensures.others c.take.ensures.spare
-        (sym (ap (λ (s : TreeState). s.spare) c.self.view_is)) c.self.invariant.depths c.self.invariant.places
+    (sym (ap (λ (s : TreeState). s.spare) c.self.view_is)) c.self.invariant.depths c.self.invariant.places

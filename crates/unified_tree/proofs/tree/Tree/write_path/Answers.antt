@@ -14,7 +14,7 @@ use Rattle.unified_tree.proofs.tree.Tree.write_path.Goals as goal
 pub plan-requires : goal.plan-requires
 plan-requires g c =
     subst (λ (depths : List ℕ). All (λ depth. depth ≤ c.self.inside.shape.levels) depths)
-        (sym (c.deref-2.ensures.value ∙ c.depths_on.ensures.depths))
+    (sym (c.deref-2.ensures.value ∙ c.depths_on.ensures.depths))
     (depths_within c.self.inside.shape.levels c.args.leaf.0 c.self.inside.hand.entries)
 
 pub invariant_of-self-2 : goal.invariant_of-self-2
@@ -32,7 +32,7 @@ invariant_of-self-2 g c =
       of_shape = subst (λ (entries : List Entry). AreOfShape c.self.inside.shape entries)
           (sym c.keep_unplaced.ensures.entries)
           (All-where_placed (λ (e : Entry). IsEntry e × IsInRange c.self.inside.shape (Some e)) is_none
-              c.deref-4.result.now c.self.inside.hand.entries i.of_shape);
+          c.deref-4.result.now c.self.inside.hand.entries i.of_shape);
       few = omega (arith, i.few);
       path = tt;
     }
@@ -52,7 +52,7 @@ returns-clause-stay g c =
     let depths = c.deref-2.ensures.value ∙ c.depths_on.ensures.depths in
     let counted : length places ≡ length tree.hand.entries = first_of (search rules, grind (arith, common_steps)) in
     let stayed = ap length c.keep_unplaced.ensures.entries ∙ length-where_all is_none places tree.hand.entries counted
-        ∙ ap left planned ∙ c.in-Ok.ensures.rest ∙ ap (λ ds. rest ds tree.shape.levels) depths in
+    ∙ ap left planned ∙ c.in-Ok.ensures.rest ∙ ap (λ ds. rest ds tree.shape.levels) depths in
     subst (λ (s : TreeState). length c.keep_unplaced.new.self.entries ≡ rest_of s.shape.levels c.args.leaf.0 s.hand)
     c.self.view_is stayed
 
