@@ -1,7 +1,7 @@
 -- Entries at hand beside their places, and what taking them out leaves.
 use Rattle.std.proofs.Common.{◌≡◌, ◌<◌, ◌≤◌, ◌+◌, ◌-◌, ℕ, zero, suc, min, Bool, true, false, if◌then◌else◌, List, []}
 use Rattle.std.proofs.Common.{◌∷◌, length, drop}
-use Rattle.std.proofs.Common.{get_or, slice_get, All, Option, None, Some, OnSome, refl, sym, ◌∙◌, ap, ap₂, arith}
+use Rattle.std.proofs.Common.{get_or, slice_get, All, Option, None, Some, OnSome, refl, sym, ◌∙◌, ap, arith}
 use Rattle.std.specs.Prelude.{is_none}
 use Rattle.std.proofs.lemmas.List.{drop_more}
 use Rattle.std.proofs.lemmas.List.Elements.{All-cons}
@@ -13,7 +13,7 @@ use Rattle.oram_stash.specs.Entries.{held, without}
 use Rattle.oram_stash.proofs.Held.{length-without, without-none}
 use Rattle.path_evict.specs.Placed.{where_placed, kept}
 use Rattle.path_evict.specs.Placement.{left}
-use Rattle.path_evict.proofs.Placed.{where_placed-yes, where_placed-no, length-where_all}
+use Rattle.path_evict.proofs.Placed.{where_placed-yes, where_placed-no}
 use Rattle.oram_contents.specs.PathWritten.{depths_of}
 
 -- no entry is taken out that isn't there

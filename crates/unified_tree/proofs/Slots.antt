@@ -1,22 +1,17 @@
 -- A read and a write over the bus are the parts of a slot on the contents, and its parts make a whole slot.
-use Rattle.std.proofs.Common.{◌≡◌, ◌≤◌, ◌+◌, ℕ, List, [], ◌∷◌, ◌++◌, length, All, Option, Some, Ok, refl, sym, ◌∙◌, ap}
-use Rattle.std.proofs.Common.{subst, arith, length-append, append_assoc, append-nil}
-use Rattle.asc_base.specs.declared.block.Address.{Address}
+use Rattle.std.proofs.Common.{◌≡◌, ◌+◌, ℕ, List, [], ◌∷◌, ◌++◌, length, All, Option, Ok, sym, ◌∙◌, ap}
+use Rattle.std.proofs.Common.{subst, length-append, append_assoc, append-nil}
 use Rattle.asc_base.specs.declared.block.Counter.{Counter}
 use Rattle.asc_base.specs.declared.block.Entry.{Entry}
-use Rattle.asc_base.specs.declared.block.Message.{Message}
 use Rattle.asc_base.specs.declared.block.Point.{Point}
 use Rattle.asc_base.specs.declared.block.Point.TheVariants.{Dummy}
 use Rattle.asc_base.specs.declared.shape.Shape.{Shape}
 use Rattle.bus_watch.specs.Log.{LogLists, TapState}
 use Rattle.bus_watch.specs.declared.log.Altered.{Altered}
-use Rattle.bus_watch.specs.declared.log.Event.{Event}
 use Rattle.bus_watch.specs.declared.log.Event.TheVariants.{Tagged}
 use Rattle.oram_stash.specs.Entries.{without}
 use Rattle.oram_contents.specs.Contents.{Contents, IsReadTo, after_write}
 use Rattle.oram_contents.specs.Entries.{Keys, real, message_of, entry_of}
-use Rattle.oram_contents.specs.Fold.{with_entry}
-use Rattle.oram_contents.specs.PathRead.{replies, path_read}
 use Rattle.oram_contents.specs.PathWritten.{stays, sealed}
 use Rattle.oram_contents.specs.Shapes.{AreOfShape}
 use Rattle.oram_contents.specs.Slots.{drawn_events, IsRead, IsFound, IsPut, IsAccess, IsRefill, IsPass}

@@ -1,4 +1,4 @@
-use Rattle.std.proofs.Common.{◌+◌, ◌∙◌, true, ap, sym, arith, refl}
+use Rattle.std.proofs.Common.{◌∙◌, true, ap, sym, arith, refl}
 use Rattle.bus_watch.specs.Log.{LogLists}
 use Rattle.bus_watch.specs.Path.{writes_start}
 use Rattle.bus_watch.proofs.MadeLaws.{ready_after, ready_less}
