@@ -1,0 +1,5 @@
+pub mod Places
+pub mod ReadLaws
+pub mod Replies
+pub mod Slots
+pub mod Written

@@ -1,0 +1,7 @@
+pub mod Cut
+pub mod Inside
+pub mod Joined
+pub mod Reads
+pub mod Slot
+pub mod Stops
+pub mod Tree
