@@ -4,6 +4,7 @@ pub mod Families
 pub mod Layers
 pub mod Levels
 pub mod Lookups
+pub mod Members
 pub mod Paths
 pub mod Placed
 pub mod Places

@@ -1,12 +1,13 @@
 -- What a list that is looked up by a test says of its elements.
 use Rattle.std.proofs.Common.{◌≡◌, ℕ, zero, suc, ◌+◌, ◌<◌, ◌≤◌, Bool, true, false, List, [], ◌∷◌, ◌++◌}
 use Rattle.std.proofs.Common.{Option, Some, None, option_map, length, take, drop, set, get_or, map, position, is_some}
-use Rattle.std.proofs.Common.{cond, if◌then◌else◌, refl, sym, ap, ◌∙◌, arith, inl, inr, add-one}
+use Rattle.std.proofs.Common.{cond, if◌then◌else◌, refl, sym, ap, subst, ◌∙◌, arith, inl, inr, add-one}
 use Rattle.std.specs.List.{find, count_by, position_from}
 use Rattle.std.proofs.lemmas.Bool.{cases_Bool}
 use Rattle.std.proofs.lemmas.Iterator.Adapters.{position_from-zero}
 use Rattle.std.proofs.lemmas.List.Quantifiers.{position-Some}
 use Rattle.std.proofs.lemmas.List.Sums.{sum_by-cons}
+use Rattle.asc_base.specs.Has.{Has}
 use Rattle.asc_base.specs.Lookup.{without_first, changed_first, promoted_first}
 
 -- one thing is not two
@@ -326,4 +327,37 @@ map-without_first part test (x ∷ xs) =
       | inr other ↦ ap (map part) (without_first-no (λ y. test (part y)) x xs other)
           ∙ ap (λ rest. part x ∷ rest) (map-without_first part test xs)
           ∙ sym (without_first-no test (part x) (map part xs) other)
+    ]
+
+-- what is found stands in the list, and what is left stood there
+pub find-has : {A : Type 0} (test : A → Bool) (xs : List A) (x : A) → find test xs ≡ Some x → Has x xs
+find-has test [] x found = absurd (none_is_not found)
+find-has test (y ∷ xs) x found =
+    elim (cases_Bool (test y)) [
+      | inl here ↦ inl (sym (some_is (sym (find-yes test y xs here) ∙ found)))
+      | inr other ↦ inr (find-has test xs x (sym (find-no test y xs other) ∙ found))
+    ]
+
+pub without_first-has : {A : Type 0} (test : A → Bool) (xs : List A) (x : A) → Has x (without_first test xs) → Has x xs
+without_first-has test [] x h = subst (λ l. Has x l) (without_first-nil test) h
+without_first-has test (y ∷ xs) x h =
+    elim (cases_Bool (test y)) [
+      | inl here ↦ inr (subst (λ l. Has x l) (without_first-yes test y xs here) h)
+      | inr other ↦ elim (subst (λ l. Has x l) (without_first-no test y xs other) h) [
+        | inl e ↦ inl e
+        | inr rest ↦ inr (without_first-has test xs x rest)
+      ]
+    ]
+
+-- what isn't found doesn't meet the test
+pub find-none_has : {A : Type 0} (test : A → Bool) (xs : List A) (x : A) → find test xs ≡ None → Has x xs
+    → test x ≡ false
+find-none_has test [] x none h = absurd h
+find-none_has test (y ∷ xs) x none h =
+    elim (cases_Bool (test y)) [
+      | inl here ↦ absurd (none_is_not (sym none ∙ find-yes test y xs here))
+      | inr other ↦ elim h [
+        | inl e ↦ ap test e ∙ other
+        | inr rest ↦ find-none_has test xs x (sym (find-no test y xs other) ∙ none) rest
+      ]
     ]

@@ -1,5 +1,6 @@
 pub mod Bytes
 pub mod Greatest
+pub mod Has
 pub mod Lookup
 pub mod Memory
 pub mod Settings

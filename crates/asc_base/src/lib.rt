@@ -17,7 +17,9 @@ pub use laws::{
     laws_have_instances, levels_greatest, parents_and_children, path_rises, paths_share,
     shapes_are_small, top_layer_first,
 };
-pub use lookup_laws::{first_is_changed, first_is_promoted, first_is_taken_out};
+pub use lookup_laws::{
+    first_is_changed, first_is_promoted, first_is_taken_out, items_stand_in_lists,
+};
 pub use settings::{Config, Rates, Setting, Settings, WideRates};
 pub use shape::{MOVE_CYCLES, Shape, TURN_CYCLES};
 pub use stop::{Evidence, NoMemory, Stop};

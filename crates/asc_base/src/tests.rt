@@ -301,6 +301,7 @@ fn rates_and_two_faults(rt: HostRuntime) {
 
 #[test]
 fn lists_of_any_type() {
+    items_stand_in_lists::<Leaf>();
     first_is_taken_out::<Address>();
     first_is_changed::<Setting>();
     first_is_promoted::<u8>();
