@@ -2,15 +2,16 @@
 use Rattle.std.proofs.Common.{◌≡◌, ◌↔◌, ℕ, zero, suc, ◌+◌, ◌*◌, ◌/◌, ◌%◌, ◌^◌, ◌<◌, ◌≤◌, Bool, true, false, cond, refl, sym, ◌∙◌, ap, arith, inl, inr}
 use Rattle.std.specs.Prelude.{nat_lt, nat_le, max}
 use Rattle.std.proofs.Math.Nat.{pow-zero, pow-suc, one-le-pow, mul-div-le, div-eq_of_lt, mul-zero, max-eq_right}
-use Rattle.std.proofs.Math.Pow.{pow_mono, pow-lt}
+use Rattle.std.proofs.Math.Pow.{pow_mono}
 use Rattle.std.proofs.lemmas.Bool.{cases_Bool, and_parts, and_from, lt-ltb, cases_lt, ltb-true, le-leb, lt-leb}
 use Rattle.std.proofs.lemmas.Nat.{pow_pos, pow-add, mul-le, mod_below}
 use Rattle.asc_base.specs.TreeShape.{olat_of}
 use Rattle.asc_base.proofs.Extremes.{greatest_is}
 use Rattle.asc_base.proofs.Levels.{lt-pow}
-use Rattle.bus_schedule.specs.Timetable.{Public, Beat, AgreeTo, count_of, bits_of, most_of, choices_of, epoch_at, rate_at, digit_of, falls_next, beat_with, beat_after, beat_at, end_at, timetable}
+use Rattle.bus_schedule.specs.declared.beat.Beat.{Beat}
+use Rattle.bus_schedule.specs.Timetable.{Public, AgreeTo, count_of, bits_of, most_of, choices_of, epoch_at, rate_at, digit_of, falls_next, beat_with, beat_after, beat_at, end_at, timetable}
 use Rattle.bus_schedule.proofs.CodeLaws.{digit-rest}
-use Rattle.bus_schedule.proofs.TimetableLaws.{beat_if, start-far, end-before, timetable-agrees}
+use Rattle.bus_schedule.proofs.TimetableLaws.{beat_if, start-above, end-before, timetable-agrees}
 use Rattle.bus_schedule.proofs.Epochs.{epoch_at-rises, epoch_at-zero}
 
 -- after an end at which a choice falls, and after one at which none does
@@ -63,14 +64,15 @@ rate-among p code (suc n) h =
     ]
 
 -- the epoch reached is that of the last end
-pub reached-last : (p : Public) (code n : ℕ) → (beat_at p code n).reached ≡ epoch_at p.epoch (end_at p code n)
+pub reached-last : (p : Public) (code n : ℕ) → 1 ≤ p.epoch
+    → (beat_at p code n).reached ≡ epoch_at p.epoch (end_at p code n)
 unfolding beat_at
-reached-last p code zero = sym (epoch_at-zero p.epoch)
-reached-last p code (suc n) =
+reached-last p code zero some = sym (epoch_at-zero p.epoch some)
+reached-last p code (suc n) some =
     after-reached p (beat_at p code n) (digit_of code (count_of p) (beat_at p code n).choices)
     ∙ max-eq_right (omega (
       arith,
-      reached-last p code n,
+      reached-last p code n some,
       epoch_at-rises p.epoch (end_at p code n) (end_at p code (suc n)) (omega (arith, end-before p code n)),
     ))
   where
@@ -91,18 +93,18 @@ abbrev is_left : Public → Beat → Bool
 is_left p beat = nat_lt beat.choices (choices_of p)
 
 -- where a choice falls
-pub falls-where : (p : Public) (code n : ℕ) → (falls_next p (beat_at p code n) ≡ true)
+pub falls-where : (p : Public) (code n : ℕ) → 1 ≤ p.epoch → (falls_next p (beat_at p code n) ≡ true)
     ↔ ((epoch_at p.epoch (end_at p code n) < epoch_at p.epoch (end_at p code (suc n)))
     × ((beat_at p code n).choices < choices_of p))
-falls-where p code n = (
+falls-where p code n some = (
   λ fell.
       let both = and_parts (is_later p (beat_at p code n)) (is_left p (beat_at p code n)) fell in (
-        omega (arith, reached-last p code n, ltb-true _ _ both.0),
+        omega (arith, reached-last p code n some, ltb-true _ _ both.0),
         ltb-true (beat_at p code n).choices (choices_of p) both.1,
       ),
   λ h.
       and_from (is_later p (beat_at p code n)) (is_left p (beat_at p code n))
-      (lt-ltb _ _ (omega (arith, reached-last p code n, h.0)))
+      (lt-ltb _ _ (omega (arith, reached-last p code n some, h.0)))
       (lt-ltb (beat_at p code n).choices (choices_of p) h.1),
 )
 
@@ -158,14 +160,17 @@ most-bits count leak =
           )
     ]
 
--- the logarithm of a power of two
-pub bits_of-pow : (bits : ℕ) → bits_of (2 ^ bits) ≡ bits
+-- the bits of a choice, by the powers of two around the number of rates
+pub bits_of-is : (count bits : ℕ) → 2 ^ bits ≤ count → count < 2 * 2 ^ bits → bits_of count ≡ bits
 unfolding bits_of
-bits_of-pow bits =
-    greatest_is (λ k. nat_le (2 ^ k) (2 ^ bits)) (2 ^ bits) bits
-    (omega (arith, lt-pow bits))
-    (inr (le-leb _ _ (omega arith)))
-    (λ j over up_to. lt-leb _ _ (pow-lt over))
+bits_of-is count bits low high =
+    greatest_is (λ k. nat_le (2 ^ k) count) count bits (omega (arith, lt-pow bits))
+    (inr (le-leb _ _ low))
+    (λ j above within. lt-leb _ _ (omega (arith, pow_mono {i = bits + 1} {j = j} (omega arith), pow-add 2 bits 1)))
+
+-- so that of a power of two is its logarithm
+pub bits_of-pow : (bits : ℕ) → bits_of (2 ^ bits) ≡ bits
+bits_of-pow bits = bits_of-is (2 ^ bits) bits (omega arith) (omega (arith, pow_pos bits))
 
 -- how many choices are allowed among so many rates
 pub most-pow : (bits leak : ℕ) → 1 ≤ bits → most_of (2 ^ bits) leak ≡ leak / bits
@@ -215,7 +220,7 @@ few-upto p code places n end some fell h = (
 pub few-timetables : (p : Public) (code end : ℕ) → 1 ≤ count_of p
     → (other : ℕ) × (other < count_of p ^ choices_of p) × (timetable p other end ≡ timetable p code end)
 few-timetables p code end some =
-    few-upto p code (choices_of p) end end some (choices-few p code end) (omega (arith, start-far p code end))
+    few-upto p code (choices_of p) end end some (choices-few p code end) (omega (arith, start-above p code end))
 
 -- and so of a code below the power of two of the budget
 pub few-in-budget : (p : Public) (bits code end : ℕ) → count_of p ≡ 2 ^ bits

@@ -7,4 +7,5 @@ pub mod ScheduleLaws
 pub mod ScheduledLaws
 pub mod SlotMoves
 pub mod TimetableLaws
+pub mod TimetableParts
 pub mod Windows

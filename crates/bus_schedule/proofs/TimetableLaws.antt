@@ -1,11 +1,14 @@
 -- The starts of slots, and which of them are below a time.
-use Rattle.std.proofs.Common.{◌≡◌, ℕ, zero, suc, ◌+◌, ◌-◌, ◌<◌, ◌≤◌, Bool, true, false, cond, List, [], ◌∷◌, ◌++◌, length, refl, sym, ◌∙◌, ap, subst, inl, inr, arith, append-nil, length-append}
+use Rattle.std.proofs.Common.{◌≡◌, ℕ, zero, suc, ◌+◌, ◌-◌, ◌*◌, ◌/◌, ◌<◌, ◌≤◌, Bool, true, false, cond, List, [], ◌∷◌, ◌++◌, length, refl, sym, ◌∙◌, ap, subst, inl, inr, arith, append-nil, length-append}
 use Rattle.std.specs.Prelude.{nat_lt}
 use Rattle.std.specs.List.{filter, All}
+use Rattle.std.proofs.Math.Nat.{lt-div-mul-add}
+use Rattle.std.proofs.lemmas.Nat.{mul-le}
 use Rattle.std.proofs.lemmas.Bool.{cases_lt}
 use Rattle.std.proofs.lemmas.List.Elements.{All-nil, All-cons, All-push, All-weaker, filter-append}
 use Rattle.asc_base.specs.TreeShape.{olat_of}
-use Rattle.bus_schedule.specs.Timetable.{Public, Beat, AgreeTo, count_of, rate_at, digit_of, falls_next, beat_with, beat_after, beat_at, start_at, end_at, starts, timetable}
+use Rattle.bus_schedule.specs.declared.beat.Beat.{Beat}
+use Rattle.bus_schedule.specs.Timetable.{Public, AgreeTo, count_of, rate_at, digit_of, falls_next, beat_with, beat_after, beat_at, start_at, end_at, starts, slots_within, timetable}
 use Rattle.bus_schedule.specs.Schedule.{RiseBy, GoesOn}
 use Rattle.bus_schedule.proofs.Rising.{pairs-append, pairs-left, filter-all, filter-none, cut-rising, cut-later}
 
@@ -49,9 +52,36 @@ start-next p code n = after-next p (beat_at p code n) (digit_of code (count_of p
 pub start-rises : (p : Public) (code n : ℕ) → start_at p code n + olat_of p.levels ≤ start_at p code (suc n)
 start-rises p code n = omega (arith, start-next p code n)
 
-pub start-far : (p : Public) (code n : ℕ) → n ≤ start_at p code n
+-- each slot takes its cycles
+pub start-far : (p : Public) (code n : ℕ) → n * olat_of p.levels ≤ start_at p code n
 start-far p code zero = omega arith
-start-far p code (suc n) = omega (arith, start-far p code n, start-rises p code n)
+start-far p code (suc n) = more (olat_of p.levels) (start-far p code n) (start-rises p code n)
+  where
+    more : (olat : ℕ) → n * olat ≤ start_at p code n → start_at p code n + olat ≤ start_at p code (suc n)
+        → suc n * olat ≤ start_at p code (suc n)
+    more olat far rises = omega arith
+
+pub end-far : (p : Public) (code n : ℕ) → n * olat_of p.levels ≤ end_at p code n
+end-far p code zero = omega arith
+end-far p code (suc n) = more (olat_of p.levels) (start-far p code n)
+  where
+    more : (olat : ℕ) → n * olat ≤ start_at p code n → suc n * olat ≤ start_at p code n + olat
+    more olat far = omega arith
+
+pub start-above : (p : Public) (code n : ℕ) → n ≤ start_at p code n
+start-above p code n =
+    let one : n * 1 ≤ n * olat_of p.levels = mul-le n 1 n (olat_of p.levels) (omega arith) (omega arith) in
+    omega (arith, start-far p code n)
+
+-- no slot behind those that go into a time starts before it
+pub within-far : (p : Public) (code end : ℕ) → end ≤ start_at p code (slots_within p end)
+within-far p code end =
+    more (olat_of p.levels) (lt-div-mul-add {a = end} {b = olat_of p.levels} (omega arith))
+    (start-far p code (slots_within p end))
+  where
+    more : (olat : ℕ) → end < end / olat * olat + olat → (end / olat + 1) * olat ≤ start_at p code (end / olat + 1)
+        → end ≤ start_at p code (end / olat + 1)
+    more olat covered far = omega arith
 
 -- later slots start later
 pub start-up : (p : Public) (code n more : ℕ) → start_at p code n ≤ start_at p code (n + more)
@@ -140,15 +170,16 @@ pub timetable-upto : (p : Public) (code n end : ℕ) → end ≤ start_at p code
     → timetable p code end ≡ starts_before end (starts p code n)
 unfolding timetable
 timetable-upto p code n end next =
-    elim (cases_lt n end) [
+    let few : ℕ = slots_within p end in
+    elim (cases_lt n few) [
       | inl less ↦ (
-          let all : end ≡ n + (end - n) = omega arith in
-          ap (λ k. starts_before end (starts p code k)) all ∙ starts-later p code n (end - n) end next
+          let all : few ≡ n + (few - n) = omega arith in
+          ap (λ k. starts_before end (starts p code k)) all ∙ starts-later p code n (few - n) end next
           )
       | inr more ↦ (
-          let all : n ≡ end + (n - end) = omega arith in
+          let all : n ≡ few + (n - few) = omega arith in
           sym (ap (λ k. starts_before end (starts p code k)) all
-          ∙ starts-later p code end (n - end) end (start-far p code end))
+          ∙ starts-later p code few (n - few) end (within-far p code end))
           )
     ]
 
@@ -172,25 +203,28 @@ timetable-inside p code n end begun next =
 -- a timetable for a later time goes on from the one for an earlier time
 pub timetable-goes-on : (p : Public) (code end later : ℕ) → end ≤ later
     → GoesOn (λ start. start) end (timetable p code end) (timetable p code later)
-unfolding timetable
 timetable-goes-on p code end later h =
-    let all : later ≡ end + (later - end) = omega arith in
-    let same : starts_before end (starts p code later) ≡ starts_before end (starts p code end) =
-    ap (λ k. starts_before end (starts p code k)) all
-    ∙ starts-later p code end (later - end) end (start-far p code end) in
-    let cut : GoesOn (λ start. start) end (starts_before end (starts p code later))
-    (starts_before later (starts p code later)) =
-    cut-later (λ start. start) (olat_of p.levels) end later (starts p code later) h (starts-rise p code later) in
-    record { more = cut.more; parts = cut.parts ∙ ap (λ l. l ++ cut.more) same; after = cut.after }
+    let all : ℕ = slots_within p later in
+    let far : later ≤ start_at p code (slots_within p later) = within-far p code later in
+    let cut : GoesOn (λ start. start) end (starts_before end (starts p code all))
+    (starts_before later (starts p code all)) =
+    cut-later (λ start. start) (olat_of p.levels) end later (starts p code all) h (starts-rise p code all) in
+    record {
+      more = cut.more;
+      parts = timetable-upto p code all later far ∙ cut.parts
+          ∙ ap (λ l. l ++ cut.more) (sym (timetable-upto p code all end (omega (arith, far))));
+      after = cut.after;
+    }
 
 -- its starts rise by a slot's length
 pub timetable-rises : (p : Public) (code end : ℕ) → RiseBy (olat_of p.levels) (timetable p code end)
 unfolding timetable
 timetable-rises p code end =
-    let cut : GoesOn (λ start. start) end (timetable p code end) (starts p code end) =
-    cut-rising (λ start. start) (olat_of p.levels) end (starts p code end) (starts-rise p code end) in
+    let all : ℕ = slots_within p end in
+    let cut : GoesOn (λ start. start) end (timetable p code end) (starts p code all) =
+    cut-rising (λ start. start) (olat_of p.levels) end (starts p code all) (starts-rise p code all) in
     pairs-left (λ earlier later. earlier + olat_of p.levels ≤ later) (timetable p code end) cut.more
-    (subst (λ l. RiseBy (olat_of p.levels) l) cut.parts (starts-rise p code end))
+    (subst (λ l. RiseBy (olat_of p.levels) l) cut.parts (starts-rise p code all))
 
 -- what a choice takes is its digit
 same-after : (p : Public) (beat : Beat) (one other places : ℕ) → (beat_after p beat one).choices ≤ places

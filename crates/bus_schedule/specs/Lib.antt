@@ -1,4 +1,5 @@
 pub mod Timetable
+pub mod Timing
 pub mod Schedule
 pub mod Shown
 pub mod Scheduled

@@ -5,6 +5,7 @@ use Rattle.std.specs.List.{filter}
 use Rattle.asc_base.specs.Greatest.{greatest}
 use Rattle.asc_base.specs.TreeShape.{olat_of}
 use Rattle.asc_base.specs.declared.settings.Config.{Config}
+use Rattle.bus_schedule.specs.declared.beat.Beat.{Beat}
 
 -- What is public of a configuration: the levels of the tree, the rates in cycles, the place of the first among them,
 -- the length of epoch 0 in cycles, and the leakage budget in bits.
@@ -41,9 +42,10 @@ most_of count leak = if nat_le count 1 then 0 else leak / bits_of count
 abbrev pub choices_of : Public → ℕ
 choices_of p = most_of (count_of p) p.leak
 
--- the epoch of a time: epoch i starts at epoch * (2 ^ i - 1), so that its length is epoch * 2 ^ i
+-- The epoch of a time below 2 ^ 40: epoch i starts at epoch * (2 ^ i - 1), so that its length is epoch * 2 ^ i. No such
+-- time is in an epoch above 40.
 unfoldable pub epoch_at : ℕ → ℕ → ℕ
-epoch_at epoch time = greatest (λ i. nat_le (epoch * (2 ^ i - 1)) time) time
+epoch_at epoch time = greatest (λ i. nat_le (epoch * (2 ^ i - 1)) time) 40
 
 -- a digit of a code to a base, the least first
 abbrev pub digit_of : ℕ → ℕ → ℕ → ℕ
@@ -58,17 +60,12 @@ AgreeTo p first second places =
 abbrev pub rate_at : List ℕ → ℕ → ℕ
 rate_at rates index = slice_index rates index
 
--- Where the timetable stands between two slots: the start of the next slot, the rate in force, the greatest epoch of an
--- end so far, 0 before the first end, and how many choices fell.
-pub record Beat : Type 0 where
-  pub next : ℕ
-  pub rate : ℕ
-  pub reached : ℕ
-  pub choices : ℕ
-
 -- A choice falls at an end whose epoch is greater than that of every earlier end, while choices are left.
 abbrev pub falls : (epoch most reached choices end : ℕ) → Bool
 falls epoch most reached choices end = nat_lt reached (epoch_at epoch end) && nat_lt choices most
+
+-- A Beat is where the timetable stands between two slots: the start of the next slot, the rate in force, the greatest
+-- epoch of an end so far, 0 before the first end, and how many choices fell.
 
 -- whether a choice falls at the end of the slot that is next
 abbrev pub falls_next : Public → Beat → Bool
@@ -93,11 +90,14 @@ beat_after p beat index =
     if falls_next p beat then beat_with p beat (rate_at p.rates index) (beat.choices + 1)
     else beat_with p beat beat.rate beat.choices
 
--- after so many slots, where the choices take the digits of a code, base the number of rates
+-- after the slot that is next, where the choices take the digits of a code, base the number of rates
+abbrev pub beat_by : Public → ℕ → Beat → Beat
+beat_by p code beat = beat_after p beat (digit_of code (count_of p) beat.choices)
+
+-- after so many slots
 unfoldable pub beat_at : Public → ℕ → ℕ → Beat
 beat_at p code zero = first_beat p
-beat_at p code (suc n) =
-    beat_after p (beat_at p code n) (digit_of code (count_of p) (beat_at p code n).choices)
+beat_at p code (suc n) = beat_by p code (beat_at p code n)
 
 -- the start of a slot, the first being 0
 abbrev pub start_at : Public → ℕ → ℕ → ℕ
@@ -113,6 +113,22 @@ unfoldable pub starts : Public → ℕ → ℕ → List ℕ
 starts p code zero = []
 starts p code (suc n) = starts p code n ++ start_at p code n ∷ []
 
--- The timetable up to a time: the starts below it. There are at most as many as cycles before it.
+-- how many slots go into a time at most, the one that it cuts among them
+abbrev pub slots_within : Public → ℕ → ℕ
+slots_within p end = end / olat_of p.levels + 1
+
+-- The timetable up to a time: the starts below it.
 unfoldable pub timetable : Public → ℕ → ℕ → List ℕ
-timetable p code end = filter (λ start. nat_lt start end) (starts p code end)
+timetable p code end = filter (λ start. nat_lt start end) (starts p code (slots_within p end))
+
+-- how many of its slots end by then
+unfoldable pub ended_by : Public → ℕ → ℕ → ℕ
+ended_by p code end = length (filter (λ start. nat_le (start + olat_of p.levels) end) (timetable p code end))
+
+-- how many choices fall by then, each of which falls at an end
+abbrev pub fallen : Public → ℕ → ℕ → ℕ
+fallen p code end = (beat_at p code (ended_by p code end)).choices
+
+-- the first start that isn't before a time: that of the slot that comes after those that start before it
+abbrev pub first_from : Public → ℕ → ℕ → ℕ
+first_from p code time = start_at p code (length (timetable p code time))

@@ -2,12 +2,14 @@
 #![tactic(auto)]
 
 mod arithmetic;
+mod beat;
 mod moves;
 mod schedule_laws;
 mod scheduled_laws;
 mod timetable_laws;
 
 pub use arithmetic::{digit, epoch_of, slot_after, with_digit};
+pub use beat::{Beat, Timing, choice_falls, first_slot, most_choices, next_slot};
 pub use moves::{move_time, moves_before};
 pub use schedule_laws::{moves_are_cut, moves_go_on, moves_rise, slots_join};
 pub use scheduled_laws::{

@@ -35,9 +35,11 @@ pub fn timetables_go_on()
 /// that of the end before it, and where fewer choices have fallen than are allowed. The rate that it takes is in force
 /// from there on, and stays where no choice falls; the digits of the code are the choices, the least first.
 pub fn choices_fall()
-    ensures epoch { (epoch time i : ℕ) → 1 ≤ epoch → epoch * (2 ^ i - 1) ≤ time → time < epoch * (2 ^ (i + 1) - 1)
-        → epoch_at epoch time ≡ i }
-    ensures falls { (p : Public) (code n : ℕ) → (falls_next p (beat_at p code n) ≡ true)
+    ensures epoch { (epoch time i : ℕ) → 1 ≤ epoch → time < 2 ^ 40 → epoch * (2 ^ i - 1) ≤ time
+        → time < epoch * (2 ^ (i + 1) - 1) → epoch_at epoch time ≡ i }
+    ensures in_epoch { (epoch time : ℕ) → 1 ≤ epoch → time < 2 ^ 40
+        → (epoch * (2 ^ epoch_at epoch time - 1) ≤ time) × (time < epoch * (2 ^ (epoch_at epoch time + 1) - 1)) }
+    ensures falls { (p : Public) (code n : ℕ) → 1 ≤ p.epoch → (falls_next p (beat_at p code n) ≡ true)
         ↔ ((epoch_at p.epoch (end_at p code n) < epoch_at p.epoch (end_at p code (suc n)))
         × ((beat_at p code n).choices < choices_of p)) }
     ensures chosen { (p : Public) (code n : ℕ) → falls_next p (beat_at p code n) ≡ true

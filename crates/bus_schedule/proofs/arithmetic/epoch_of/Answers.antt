@@ -14,5 +14,5 @@ loop-end-preserved c = record {
 
 pub returns : goal.returns
 returns c =
-    sym (epoch_at-is c.args.b0 c.args.time c.loop-end.epoch c.requires.some c.loop-end.invariant.from
+    sym (epoch_at-is c.args.b0 c.args.time c.loop-end.epoch c.requires.some c.requires.time c.loop-end.invariant.from
     (omega (arith, c.loop-end.invariant.end, c.loop-end-test.false)))

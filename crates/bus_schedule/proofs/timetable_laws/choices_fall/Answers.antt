@@ -1,4 +1,4 @@
-use Rattle.bus_schedule.proofs.Epochs.{epoch_at-is}
+use Rattle.bus_schedule.proofs.Epochs.{epoch_at-is, epoch_at-holds}
 use Rattle.bus_schedule.proofs.ChoiceLaws.{rate-chosen, rate-kept, falls-where}
 use Rattle.bus_schedule.proofs.timetable_laws.choices_fall.Goals as goal
 
@@ -13,3 +13,6 @@ returns-clause-chosen c = rate-chosen
 
 pub returns-clause-kept : goal.returns-clause-kept
 returns-clause-kept c = rate-kept
+
+pub returns-clause-in_epoch : goal.returns-clause-in_epoch
+returns-clause-in_epoch c = epoch_at-holds
