@@ -5,6 +5,7 @@ pub mod PublicParts
 pub mod Rising
 pub mod ScheduleLaws
 pub mod ScheduledLaws
+pub mod ScheduledRows
 pub mod SlotMoves
 pub mod TimetableLaws
 pub mod TimetableParts

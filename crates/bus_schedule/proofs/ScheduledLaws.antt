@@ -4,6 +4,8 @@ use Rattle.std.specs.List.{flat_map, All}
 use Rattle.std.proofs.lemmas.List.{get_or_append_left, get_or_push}
 use Rattle.std.proofs.lemmas.List.Concat.{flat_map-append}
 use Rattle.std.proofs.lemmas.List.Elements.{All-nil, All-push}
+use Rattle.asc_base.specs.Settings.{IsPowerTo, IsConfig}
+use Rattle.asc_base.specs.declared.settings.Config.{Config}
 use Rattle.asc_base.specs.declared.block.Leaf.{Leaf}
 use Rattle.asc_base.specs.declared.block.Point.{Point}
 use Rattle.bus_watch.specs.declared.log.Move.{Move}
@@ -11,18 +13,19 @@ use Rattle.bus_watch.specs.declared.log.Event.{Event}
 use Rattle.bus_watch.specs.declared.log.Event.TheVariants.{Access, Drawn, Chosen}
 use Rattle.bus_watch.specs.Log.{LogLists, with_event}
 use Rattle.bus_schedule.specs.declared.beat.Beat.{Beat}
-use Rattle.bus_schedule.specs.Timetable.{Public, AgreeTo, count_of, choices_of, rate_at, digit_of, falls_next, beat_with, beat_at, start_at, starts}
+use Rattle.bus_schedule.specs.Timetable.{Public, AgreeTo, public_of, ended_by, count_of, choices_of, rate_at, digit_of, falls_next, beat_with, beat_at, start_at, starts_from, starts}
 use Rattle.bus_schedule.specs.Schedule.{slot_moves, moves_of}
 use Rattle.bus_schedule.specs.Shown.{start_of, leaf_of, index_of, starts_of, leaves_of, indices_of, code_of}
-use Rattle.bus_schedule.specs.Scheduled.{log_code, HasChosen, Between, Inside, ShowsNoMore}
+use Rattle.bus_schedule.specs.Scheduled.{log_code, IsScheduled, HasChosen, Between, Inside, ShowsNoMore}
 use Rattle.bus_schedule.proofs.TimetableLaws.{length-starts, starts-next, beat-agrees, starts-agree}
-use Rattle.bus_schedule.proofs.ChoiceLaws.{choices-few}
+use Rattle.bus_schedule.proofs.ChoiceLaws.{choices-few, codes-few}
+use Rattle.bus_schedule.proofs.PublicParts.{count-power}
 use Rattle.bus_schedule.proofs.CodeLaws.{code-append, code-below, digit-of-code}
 use Rattle.bus_schedule.proofs.ScheduleLaws.{moves_of-last}
 
 -- nothing was noted
 pub between-none : (p : Public) (log : LogLists) → log.events ≡ [] → log.moves ≡ [] → Between p 0 log
-unfolding starts moves_of beat_at
+unfolding starts starts_from moves_of beat_at
 between-none p log events moves =
     record {
       chosen = record {
@@ -49,25 +52,53 @@ two-more f old mid new a b first second =
     one-more f mid new b second ∙ ap (λ l. l ++ flat_map f (b ∷ [])) (one-more f old mid a first)
     ∙ append_assoc (flat_map f old.events) (flat_map f (a ∷ [])) (flat_map f (b ∷ []))
 
--- an event that shows nothing
-pub shows-none : (old new : LogLists) (event : Event) → new ≡ with_event old event → start_of event ≡ []
+-- what the events that are new show nothing of is as it was
+no-more : (f : Event → List ℕ) (old new : LogLists) (more : List Event) → new.events ≡ old.events ++ more
+    → flat_map f more ≡ [] → flat_map f new.events ≡ flat_map f old.events
+no-more f old new more is none =
+    ap (flat_map f) is ∙ flat_map-append f old.events more ∙ ap (λ l. flat_map f old.events ++ l) none
+    ∙ append-nil (flat_map f old.events)
+
+pub shown-starts : (old new : LogLists) → ShowsNoMore old new → starts_of new.events ≡ starts_of old.events
+shown-starts old new s = no-more start_of old new s.more s.events s.starts
+
+pub shown-leaves : (old new : LogLists) → ShowsNoMore old new → leaves_of new.events ≡ leaves_of old.events
+shown-leaves old new s = no-more leaf_of old new s.more s.events s.leaves
+
+pub shown-indices : (old new : LogLists) → ShowsNoMore old new → indices_of new.events ≡ indices_of old.events
+shown-indices old new s = no-more index_of old new s.more s.events s.indices
+
+-- no event, and one that shows nothing
+pub shows-same : (old new : LogLists) → new.events ≡ old.events → ShowsNoMore old new
+shows-same old new is =
+    record { more = []; events = is ∙ sym (append-nil old.events); starts = refl; leaves = refl; indices = refl }
+
+pub shows-one : (old new : LogLists) (event : Event) → new ≡ with_event old event → start_of event ≡ []
     → leaf_of event ≡ [] → index_of event ≡ [] → ShowsNoMore old new
-shows-none old new event is start leaf index =
+shows-one old new event is start leaf index =
     record {
-      starts = one-more start_of old new event is ∙ ap (λ l. starts_of old.events ++ (l ++ [])) start
-          ∙ append-nil (starts_of old.events);
-      leaves = one-more leaf_of old new event is ∙ ap (λ l. leaves_of old.events ++ (l ++ [])) leaf
-          ∙ append-nil (leaves_of old.events);
-      indices = one-more index_of old new event is ∙ ap (λ l. indices_of old.events ++ (l ++ [])) index
-          ∙ append-nil (indices_of old.events);
+      more = event ∷ [];
+      events = ap (λ (l : LogLists). l.events) is;
+      starts = ap (λ l. l ++ []) start;
+      leaves = ap (λ l. l ++ []) leaf;
+      indices = ap (λ l. l ++ []) index;
     }
+
+-- one run of events after another
+both-none : (f : Event → List ℕ) (xs ys : List Event) → flat_map f xs ≡ [] → flat_map f ys ≡ []
+    → flat_map f (xs ++ ys) ≡ []
+both-none f xs ys first second =
+    flat_map-append f xs ys ∙ ap (λ l. l ++ flat_map f ys) first ∙ second
 
 pub shows-joined : (old mid new : LogLists) → ShowsNoMore old mid → ShowsNoMore mid new → ShowsNoMore old new
 shows-joined old mid new first second =
     record {
-      starts = second.starts ∙ first.starts;
-      leaves = second.leaves ∙ first.leaves;
-      indices = second.indices ∙ first.indices;
+      more = first.more ++ second.more;
+      events = second.events ∙ ap (λ l. l ++ second.more) first.events
+          ∙ append_assoc old.events first.more second.more;
+      starts = both-none start_of first.more second.more first.starts second.starts;
+      leaves = both-none leaf_of first.more second.more first.leaves second.leaves;
+      indices = both-none index_of first.more second.more first.indices second.indices;
     }
 
 -- a log with these choices has this code
@@ -87,13 +118,15 @@ chosen-same p n old new same h =
 pub between-same : (p : Public) (n : ℕ) (old new : LogLists) → Between p n old → ShowsNoMore old new
     → new.moves ≡ old.moves → Between p n new
 between-same p n old new b same moves =
-    let code : log_code p old ≡ log_code p new = same-code p old new same.indices in
+    let indices : indices_of new.events ≡ indices_of old.events = shown-indices old new same in
+    let leaves : leaves_of new.events ≡ leaves_of old.events = shown-leaves old new same in
+    let code : log_code p old ≡ log_code p new = same-code p old new indices in
     record {
-      chosen = chosen-same p n old new same.indices b.chosen;
-      begun = same.starts ∙ b.begun ∙ ap (λ c. starts p c n) code;
-      leaves = ap length same.leaves ∙ b.leaves;
+      chosen = chosen-same p n old new indices b.chosen;
+      begun = shown-starts old new same ∙ b.begun ∙ ap (λ c. starts p c n) code;
+      leaves = ap length leaves ∙ b.leaves;
       moves = moves ∙ b.moves
-          ∙ ap (λ l. moves_of p.levels (starts p (log_code p old) n) l) (sym same.leaves)
+          ∙ ap (λ l. moves_of p.levels (starts p (log_code p old) n) l) (sym leaves)
           ∙ ap (λ c. moves_of p.levels (starts p c n) (leaves_of new.events)) code;
     }
 
@@ -101,12 +134,13 @@ between-same p n old new b same moves =
 pub inside-more : (p : Public) (n leaf : ℕ) (part more : List Move) (old new : LogLists) → Inside p n leaf part old
     → ShowsNoMore old new → new.moves ≡ old.moves ++ more → Inside p n leaf (part ++ more) new
 inside-more p n leaf part more old new i same moves =
-    let code : log_code p old ≡ log_code p new = same-code p old new same.indices in
+    let indices : indices_of new.events ≡ indices_of old.events = shown-indices old new same in
+    let code : log_code p old ≡ log_code p new = same-code p old new indices in
     record {
       before = i.before;
-      chosen = chosen-same p n old new same.indices i.chosen;
-      begun = same.starts ∙ i.begun ∙ ap (λ c. starts p c (suc n)) code;
-      leaves = same.leaves ∙ i.leaves;
+      chosen = chosen-same p n old new indices i.chosen;
+      begun = shown-starts old new same ∙ i.begun ∙ ap (λ c. starts p c (suc n)) code;
+      leaves = shown-leaves old new same ∙ i.leaves;
       counted = i.counted;
       moves = moves ∙ ap (λ l. l ++ more) i.moves
           ∙ append_assoc (moves_of p.levels (starts p (log_code p old) n) i.before) part more
@@ -301,3 +335,29 @@ chosen-few p n log h =
 pub chosen-below : (p : Public) (n : ℕ) (log : LogLists) → HasChosen p n log
     → log_code p log < count_of p ^ length (indices_of log.events)
 chosen-below p n log h = code-below (count_of p) (indices_of log.events) h.indices
+
+-- and so of a log that is scheduled
+pub scheduled-few : (p : Public) (end : ℕ) (log : LogLists) → IsScheduled p end log
+    → length (indices_of log.events) ≤ choices_of p
+scheduled-few p end log h =
+    omega (arith, choices-few p (log_code p log) (ended_by p (log_code p log) end), h.fell)
+
+pub scheduled-below : (p : Public) (end : ℕ) (log : LogLists) → IsScheduled p end log
+    → log_code p log < count_of p ^ length (indices_of log.events)
+scheduled-below p end log h = code-below (count_of p) (indices_of log.events) h.indices
+
+pub scheduled-codes : (p : Public) (bits end : ℕ) (log : LogLists) → count_of p ≡ 2 ^ bits → IsScheduled p end log
+    → count_of p ^ length (indices_of log.events) ≤ 2 ^ p.leak
+scheduled-codes p bits end log e h =
+    codes-few p bits (length (indices_of log.events)) e (scheduled-few p end log h)
+
+pub scheduled-budget : (p : Public) (bits end : ℕ) (log : LogLists) → count_of p ≡ 2 ^ bits → IsScheduled p end log
+    → log_code p log < 2 ^ p.leak
+scheduled-budget p bits end log e h =
+    omega (arith, scheduled-below p end log h, scheduled-codes p bits end log e h)
+
+pub scheduled-config : (config : Config) (end : ℕ) (log : LogLists) → IsConfig config → length config.rates.list ≡ 16
+    → IsScheduled (public_of config) end log → log_code (public_of config) log < 2 ^ config.leak
+scheduled-config config end log is whole h =
+    let power : IsPowerTo 4 (count_of (public_of config)) = count-power config is whole in
+    scheduled-budget (public_of config) power.0 end log power.2 h

@@ -25,6 +25,12 @@ abbrev pub move_along : ℕ → Bool → ℕ → ℕ → ℕ → Move
 move_along levels write first leaf k =
     record { time = first + 40 * k; write = write; bucket = bucket_of levels leaf k }
 
+pub along-next : (levels : ℕ) (write : Bool) (first leaf k : ℕ)
+    → along levels write first leaf (suc k)
+    ≡ along levels write first leaf k ++ move_along levels write first leaf k ∷ []
+unfolding along
+along-next levels write first leaf k = refl
+
 pub length-along : (levels : ℕ) (write : Bool) (first leaf n : ℕ) → length (along levels write first leaf n) ≡ n
 unfolding along
 length-along levels write first leaf zero = refl

@@ -8,7 +8,7 @@ use Rattle.std.proofs.lemmas.Bool.{cases_lt}
 use Rattle.std.proofs.lemmas.List.Elements.{All-nil, All-cons, All-push, All-weaker, filter-append}
 use Rattle.asc_base.specs.TreeShape.{olat_of}
 use Rattle.bus_schedule.specs.declared.beat.Beat.{Beat}
-use Rattle.bus_schedule.specs.Timetable.{Public, AgreeTo, count_of, rate_at, digit_of, falls_next, beat_with, beat_after, beat_at, start_at, end_at, starts, slots_within, timetable}
+use Rattle.bus_schedule.specs.Timetable.{Public, AgreeTo, count_of, rate_at, digit_of, falls_next, beat_with, beat_after, beat_at, start_at, end_at, starts_from, starts, slots_within, timetable}
 use Rattle.bus_schedule.specs.Schedule.{RiseBy, GoesOn}
 use Rattle.bus_schedule.proofs.Rising.{pairs-append, pairs-left, filter-all, filter-none, cut-rising, cut-later}
 
@@ -98,23 +98,55 @@ pub choices-rise : (p : Public) (code n : ℕ) → (beat_at p code n).choices �
 unfolding beat_at
 choices-rise p code n = after-choices p (beat_at p code n) (digit_of code (count_of p) (beat_at p code n).choices)
 
-pub length-starts : (p : Public) (code n : ℕ) → length (starts p code n) ≡ n
-unfolding starts
-length-starts p code zero = refl
-length-starts p code (suc n) =
-    omega (arith, length-append (starts p code n) (start_at p code n ∷ []), length-starts p code n)
+-- one slot more, from any slot on
+starts_from-next : (p : Public) (code m n : ℕ)
+    → starts_from p code (beat_at p code m) (suc n)
+    ≡ starts_from p code (beat_at p code m) n ++ start_at p code (m + n) ∷ []
+unfolding beat_at starts_from
+starts_from-next p code m zero =
+    let same : m ≡ m + 0 = omega arith in
+    ap (λ k. start_at p code k ∷ []) same
+starts_from-next p code m (suc n) =
+    let same : suc m + n ≡ m + suc n = omega arith in
+    ap (λ l. start_at p code m ∷ l) (starts_from-next p code (suc m) n)
+    ∙ ap (λ k. starts_from p code (beat_at p code m) (suc n) ++ start_at p code k ∷ []) same
+
+pub starts-none : (p : Public) (code : ℕ) → starts p code 0 ≡ []
+unfolding starts starts_from
+starts-none p code = refl
 
 pub starts-next : (p : Public) (code n : ℕ) → starts p code (suc n) ≡ starts p code n ++ start_at p code n ∷ []
-unfolding starts
-starts-next p code n = refl
+unfolding starts beat_at
+starts-next p code n =
+    let same : 0 + n ≡ n = omega arith in
+    starts_from-next p code 0 n ∙ ap (λ k. starts p code n ++ start_at p code k ∷ []) same
+
+pub length-starts : (p : Public) (code n : ℕ) → length (starts p code n) ≡ n
+length-starts p code zero = ap length (starts-none p code)
+length-starts p code (suc n) =
+    ap length (starts-next p code n)
+    ∙ length-append (starts p code n) (start_at p code n ∷ [])
+    ∙ (let e : length (starts p code n) + 1 ≡ suc n = omega (arith, length-starts p code n) in e)
+
+-- what holds of each start holds of one more
+starts-push : (P : ℕ → Type 0) (p : Public) (code n : ℕ) → All P (starts p code n) → P (start_at p code n)
+    → All P (starts p code (suc n))
+starts-push P p code n h last =
+    subst (All P) (sym (starts-next p code n)) (All-push P (starts p code n) (start_at p code n) h last)
+
+pub starts-all : (P : ℕ → Type 0) (p : Public) (code n : ℕ) → ((k : ℕ) → k < n → P (start_at p code k))
+    → All P (starts p code n)
+starts-all P p code zero h = subst (All P) (sym (starts-none p code)) (All-nil P)
+starts-all P p code (suc n) h =
+    starts-push P p code n (starts-all P p code n (λ k below. h k (omega arith))) (h n (omega arith))
 
 -- so many slots have ended by a time
 pub starts-ended : (p : Public) (code n end : ℕ) → end_at p code n ≤ end
     → All (λ start. start + olat_of p.levels ≤ end) (starts p code n)
-unfolding starts
-starts-ended p code zero end h = All-nil (λ start. start + olat_of p.levels ≤ end)
+starts-ended p code zero end h =
+    starts-all (λ start. start + olat_of p.levels ≤ end) p code 0 (λ k below. absurd (omega arith))
 starts-ended p code (suc n) end h =
-    All-push (λ start. start + olat_of p.levels ≤ end) (starts p code n) (start_at p code n)
+    starts-push (λ start. start + olat_of p.levels ≤ end) p code n
     (starts-ended p code n end (omega (arith, end-before p code n))) h
 
 starts-early : (p : Public) (code n end : ℕ) → end_at p code n ≤ end → All (λ start. start < end) (starts p code n)
@@ -125,17 +157,16 @@ starts-early p code n end h =
 -- a slot was begun before a time, and all before it have ended
 starts-begun : (p : Public) (code n end : ℕ) → start_at p code n < end
     → All (λ start. start < end) (starts p code (suc n))
-unfolding starts
 starts-begun p code n end h =
-    All-push (λ start. start < end) (starts p code n) (start_at p code n)
+    starts-push (λ start. start < end) p code n
     (starts-early p code n end (omega (arith, end-before p code n))) h
 
 -- each slot starts no earlier than a slot's length after every one before it
 pub starts-rise : (p : Public) (code n : ℕ) → RiseBy (olat_of p.levels) (starts p code n)
-unfolding starts
-starts-rise p code zero = λ i j d before within. absurd (omega arith)
+starts-rise p code zero = λ i j d before within. absurd (omega (arith, length-starts p code 0))
 starts-rise p code (suc n) =
-    pairs-append (λ earlier later. earlier + olat_of p.levels ≤ later) (starts p code n) (start_at p code n ∷ [])
+    subst (RiseBy (olat_of p.levels)) (sym (starts-next p code n))
+    (pairs-append (λ earlier later. earlier + olat_of p.levels ≤ later) (starts p code n) (start_at p code n ∷ [])
     (starts-rise p code n)
     (λ i j d before within. absurd (omega arith))
     (All-weaker
@@ -145,7 +176,7 @@ starts-rise p code (suc n) =
     All-cons (λ later. start + olat_of p.levels ≤ later) (start_at p code n) [] l
     (All-nil (λ later. start + olat_of p.levels ≤ later)))
     (starts p code n)
-    (starts-ended p code n (start_at p code n) (end-before p code n)))
+    (starts-ended p code n (start_at p code n) (end-before p code n))))
 
 -- no later slot starts before the time
 starts-later : (p : Public) (code n more end : ℕ) → end ≤ start_at p code n
@@ -251,14 +282,18 @@ beat-agrees p code other places (suc n) agree fell =
 -- and so do the starts up to the next slot's
 pub starts-agree : (p : Public) (code other places n : ℕ) → AgreeTo p code other places
     → (beat_at p code n).choices ≤ places → starts p code (suc n) ≡ starts p other (suc n)
-unfolding starts
 starts-agree p code other places zero agree fell =
-    ap (λ (beat : Beat). beat.next ∷ []) (beat-agrees p code other places zero agree fell)
+    starts-next p code 0
+    ∙ ap (λ l. l ++ start_at p code 0 ∷ []) (starts-none p code ∙ sym (starts-none p other))
+    ∙ ap (λ (beat : Beat). starts p other 0 ++ beat.next ∷ []) (beat-agrees p code other places zero agree fell)
+    ∙ sym (starts-next p other 0)
 starts-agree p code other places (suc n) agree fell =
-    ap (λ l. l ++ start_at p code (suc n) ∷ [])
+    starts-next p code (suc n)
+    ∙ ap (λ l. l ++ start_at p code (suc n) ∷ [])
     (starts-agree p code other places n agree (omega (arith, choices-rise p code n)))
     ∙ ap (λ (beat : Beat). starts p other (suc n) ++ beat.next ∷ [])
     (beat-agrees p code other places (suc n) agree fell)
+    ∙ sym (starts-next p other (suc n))
 
 -- and so does the timetable up to the end of the next slot
 pub timetable-agrees : (p : Public) (code other places n end : ℕ) → AgreeTo p code other places

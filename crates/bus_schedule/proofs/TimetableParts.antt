@@ -6,12 +6,12 @@ use Rattle.std.proofs.Math.Nat.{div-mul-le_self}
 use Rattle.std.proofs.lemmas.Nat.{mul-le}
 use Rattle.std.proofs.lemmas.Bool.{cases_lt, le-leb, lt-leb}
 use Rattle.std.proofs.lemmas.List.{get_or_append_left, get_or-append_right, take_all, take-append-le}
-use Rattle.std.proofs.lemmas.List.Elements.{All-nil, All-head, All-tail, All-push, All-weaker, filter-append}
+use Rattle.std.proofs.lemmas.List.Elements.{All-head, All-tail, All-weaker, filter-append}
 use Rattle.asc_base.specs.TreeShape.{olat_of}
 use Rattle.bus_schedule.specs.declared.beat.Beat.{Beat}
 use Rattle.bus_schedule.specs.Timetable.{Public, beat_at, start_at, end_at, starts, slots_within, timetable, ended_by, fallen, first_from}
 use Rattle.bus_schedule.proofs.Rising.{filter-all}
-use Rattle.bus_schedule.proofs.TimetableLaws.{length-starts, starts-next, start-up, start-rises, starts-ended, end-before, within-far, timetable-upto, timetable-between, timetable-inside}
+use Rattle.bus_schedule.proofs.TimetableLaws.{length-starts, starts-next, starts-all, start-up, start-rises, starts-ended, end-before, within-far, timetable-upto, timetable-between, timetable-inside}
 
 -- an earlier slot starts no later
 pub start-order : (p : Public) (code k n : ℕ) → k ≤ n → start_at p code k ≤ start_at p code n
@@ -72,19 +72,11 @@ starts-before p code end (suc n) h =
       | inr late ↦ starts-before p code end n late
     ]
 
-starts-early : (p : Public) (code end n : ℕ) → ((k : ℕ) → k < n → start_at p code k < end)
-    → All (λ start. start < end) (starts p code n)
-unfolding starts
-starts-early p code end zero h = All-nil (λ start. start < end)
-starts-early p code end (suc n) h =
-    All-push (λ start. start < end) (starts p code n) (start_at p code n)
-    (starts-early p code end n (λ k below. h k (omega arith))) (h n (omega arith))
-
 -- then the timetable has their starts
 pub timetable-of : (p : Public) (code end n : ℕ) → StartsBefore p code end n → timetable p code end ≡ starts p code n
 timetable-of p code end n h =
     timetable-upto p code n end h.next
-    ∙ filter-all (λ start. start) end (starts p code n) (starts-early p code end n h.before)
+    ∙ filter-all (λ start. start) end (starts p code n) (starts-all (λ start. start < end) p code n h.before)
 
 pub length-timetable-of : (p : Public) (code end n : ℕ) → StartsBefore p code end n → length (timetable p code end) ≡ n
 length-timetable-of p code end n h = ap length (timetable-of p code end n h) ∙ length-starts p code n

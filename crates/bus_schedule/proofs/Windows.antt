@@ -1,23 +1,20 @@
 -- Up to which times a log is scheduled.
-use Rattle.std.proofs.Common.{◌≡◌, ℕ, suc, ◌+◌, ◌*◌, ◌<◌, ◌≤◌, true, false, List, [], ◌∷◌, ◌++◌, length, take, drop, get_or, Some, refl, sym, ◌∙◌, ap, arith, inl, inr, subst, append-nil, length-append, length-take, length-drop, take-append-drop}
-use Rattle.std.specs.Prelude.{nat_lt, slice_get}
+use Rattle.std.proofs.Common.{◌≡◌, ℕ, zero, suc, ◌+◌, ◌-◌, ◌*◌, ◌<◌, ◌≤◌, Bool, true, false, List, [], ◌∷◌, ◌++◌, length, refl, sym, ◌∙◌, ap, arith, append-nil, append_assoc, length-append}
+use Rattle.std.specs.Prelude.{nat_lt}
 use Rattle.std.specs.List.{All}
-use Rattle.std.specs.Option.{option_map}
-use Rattle.std.proofs.lemmas.List.{get_or-take, get_or-drop}
-use Rattle.std.proofs.lemmas.Bool.{cases_lt}
-use Rattle.std.proofs.lemmas.Option.{slice_get-get_or}
-use Rattle.std.proofs.lemmas.List.Elements.{All-nil, All-weaker, filter-append}
+use Rattle.std.proofs.lemmas.List.Elements.{All-nil, All-push, All-append, All-weaker, filter-append}
 use Rattle.asc_base.specs.TreeShape.{olat_of}
 use Rattle.bus_watch.specs.declared.log.Move.{Move}
 use Rattle.bus_watch.specs.Log.{LogLists}
 use Rattle.bus_schedule.specs.Timetable.{Public, start_at, end_at, starts, timetable}
-use Rattle.bus_schedule.specs.Schedule.{reads, reads_end, writes, slot_moves, moves_of, moves_before_time, move_time_of, schedule}
+use Rattle.bus_schedule.specs.Schedule.{along, reads, reads_end, writes_start, writes, slot_moves, moves_of, moves_before_time, schedule}
 use Rattle.bus_schedule.specs.Shown.{starts_of, leaves_of}
 use Rattle.bus_schedule.specs.Scheduled.{log_code, IsScheduled, Between, Inside}
 use Rattle.bus_schedule.proofs.TimetableLaws.{starts-ended, start-rises, end-before, length-starts, starts-next, timetable-between, timetable-inside}
-use Rattle.bus_schedule.proofs.SlotMoves.{slot-time, length-slot}
+use Rattle.bus_schedule.proofs.TimetableParts.{fallen-between, fallen-inside}
+use Rattle.bus_schedule.proofs.SlotMoves.{move_along, along-next}
 use Rattle.bus_schedule.proofs.Rising.{filter-all, filter-none}
-use Rattle.bus_schedule.proofs.ScheduleLaws.{Within, along-within, slot-within, slot-rise, cut-over, cut-inside}
+use Rattle.bus_schedule.proofs.ScheduleLaws.{Within, along-within, reads-within, writes-within, cut-over, cut-inside}
 
 -- Between two slots the log is scheduled up to each time from the last end to the next start.
 pub scheduled-between : (p : Public) (n end : ℕ) (log : LogLists) → Between p n log
@@ -33,19 +30,22 @@ scheduled-between p n end log b past next =
       moves = b.moves
           ∙ sym (cut-over p.levels end (starts p code n) leaves (starts-ended p code n end past))
           ∙ ap (λ l. moves_before_time end (moves_of p.levels l leaves)) (sym table);
+      indices = b.chosen.indices;
+      fell = b.chosen.fell ∙ sym (fallen-between p code n end past next);
     }
 
 -- In a slot it is, up to each time that parts the moves that were made from the others.
-pub scheduled-inside : (p : Public) (n leaf end : ℕ) (part rest : List Move) (log : LogLists)
-    → Inside p n leaf part log → slot_moves p.levels (start_at p (log_code p log) n) leaf ≡ part ++ rest
+pub scheduled-inside : (p : Public) (n start leaf end : ℕ) (part rest : List Move) (log : LogLists)
+    → Inside p n leaf part log → start ≡ start_at p (log_code p log) n → slot_moves p.levels start leaf ≡ part ++ rest
     → All (λ (m : Move). m.time < end) part → All (λ (m : Move). end ≤ m.time) rest
-    → start_at p (log_code p log) n < end → end ≤ end_at p (log_code p log) (suc n) → IsScheduled p end log
+    → start < end → end < start + olat_of p.levels → IsScheduled p end log
 unfolding schedule
-scheduled-inside p n leaf end part rest log i whole made left begun over =
+scheduled-inside p n start leaf end part rest log i at whole made left begun over =
     let code : ℕ = log_code p log in
-    let start : ℕ = start_at p (log_code p log) n in
+    let after : start_at p code n < end = omega arith in
+    let short : end < end_at p code (suc n) = omega arith in
     let table : timetable p code end ≡ starts p code (suc n) =
-    timetable-inside p code n end begun (omega (arith, start-rises p (log_code p log) n)) in
+    timetable-inside p code n end after (omega (arith, start-rises p (log_code p log) n)) in
     let past : end_at p code n ≤ end = omega (arith, end-before p (log_code p log) n) in
     let counted : length (starts p code n) ≡ length i.before = length-starts p code n ∙ sym i.counted in
     let cut : moves_before_time end (slot_moves p.levels start leaf) ≡ part =
@@ -64,113 +64,92 @@ scheduled-inside p n leaf end part rest log i whole made left begun over =
           ∙ ap (λ l. moves_of p.levels (starts p code n) i.before ++ l) (sym cut)
           ∙ sym
           (cut-inside p.levels end start leaf (starts p code n) i.before counted (starts-ended p code n end past))
+          ∙ ap (λ s. moves_before_time end (moves_of p.levels (starts p code n ++ s ∷ []) (i.before ++ leaf ∷ []))) at
           ∙ ap (λ l. moves_before_time end (moves_of p.levels l (i.before ++ leaf ∷ [])))
           (sym (starts-next p code n))
           ∙ ap (λ l. moves_before_time end (moves_of p.levels (starts p code (suc n)) l)) (sym i.leaves)
           ∙ ap (λ l. moves_before_time end (moves_of p.levels l (leaves_of log.events))) (sym table);
+      indices = i.chosen.indices;
+      fell = i.chosen.fell ∙ sym (fallen-inside p code n end after short);
     }
 
--- the time of a move of a slot, where the slot has it
-at-time : (levels start leaf k : ℕ) (d : Move) → k < 2 * (levels + 1)
-    → (get_or (slot_moves levels start leaf) k d).time ≡ move_time_of start levels k
-at-time levels start leaf k d h =
-    let within : k < length (slot_moves levels start leaf) = omega (arith, length-slot levels start leaf) in
-    let time : option_map (λ (m : Move). m.time) (slice_get (slot_moves levels start leaf) k)
-    ≡ Some (move_time_of start levels k) =
-    slot-time levels start leaf k h in
-    let found : option_map (λ (m : Move). m.time) (slice_get (slot_moves levels start leaf) k)
-    ≡ Some (get_or (slot_moves levels start leaf) k d).time =
-    ap (option_map (λ (m : Move). m.time)) (slice_get-get_or (slot_moves levels start leaf) k d within) in
-    let same : Some (get_or (slot_moves levels start leaf) k d).time ≡ Some (move_time_of start levels k) =
-    sym found ∙ time in
-    cc
+-- the moves along a path after the first of them
+record AlongParts (levels : ℕ) (write : Bool) (first leaf made more : ℕ) : Type 0 where
+  rest : List Move
+  parts : along levels write first leaf (made + more) ≡ along levels write first leaf made ++ rest
+  after : All (λ (m : Move). first + 40 * made ≤ m.time) rest
 
--- up to its k-th move the moves of a slot come before the time after it, and the others don't
-until-made : (levels start leaf k : ℕ) → k < 2 * (levels + 1)
-    → All (λ (m : Move). m.time < move_time_of start levels k + 1) (take (k + 1) (slot_moves levels start leaf))
-until-made levels start leaf k h = λ i d within.
-    let moves : List Move = slot_moves levels start leaf in
-    let counted : length (slot_moves levels start leaf) ≡ 2 * (levels + 1) = length-slot levels start leaf in
-    let early : i < k + 1 = omega (arith, length-take (k + 1) (slot_moves levels start leaf)) in
-    let last : (get_or (slot_moves levels start leaf) k d).time ≡ move_time_of start levels k =
-    at-time levels start leaf k d h in
-    let in_time : (get_or (slot_moves levels start leaf) i d).time < move_time_of start levels k + 1 =
-    elim (cases_lt i k) [
-      | inl before ↦
-          (let rise : (get_or (slot_moves levels start leaf) i d).time + 40 ≤ (get_or (slot_moves levels start leaf) k d).time =
-          slot-rise levels start leaf i k d before (omega arith) in omega arith)
-      | inr after ↦
-          (let same : i ≡ k =
-          omega arith in subst
-          (λ j. (get_or (slot_moves levels start leaf) j d).time < move_time_of start levels k + 1) (sym same)
-          (omega arith))
-    ] in
-    subst (λ (m : Move). m.time < move_time_of start levels k + 1)
-    (sym (get_or-take (k + 1) (slot_moves levels start leaf) i d early)) in_time
+along-parts : (levels : ℕ) (write : Bool) (first leaf made more : ℕ) → AlongParts levels write first leaf made more
+along-parts levels write first leaf made zero =
+    let same : made + 0 ≡ made = omega arith in
+    record {
+      rest = [];
+      parts = ap (along levels write first leaf) same ∙ sym (append-nil (along levels write first leaf made));
+      after = All-nil (λ (m : Move). first + 40 * made ≤ m.time);
+    }
+along-parts levels write first leaf made (suc more) =
+    let before : AlongParts levels write first leaf made more = along-parts levels write first leaf made more in
+    let next : made + suc more ≡ suc (made + more) = omega arith in
+    let last : Move = move_along levels write first leaf (made + more) in
+    record {
+      rest = before.rest ++ last ∷ [];
+      parts = ap (along levels write first leaf) next
+          ∙ along-next levels write first leaf (made + more)
+          ∙ ap (λ l. l ++ last ∷ []) before.parts
+          ∙ append_assoc (along levels write first leaf made) before.rest (last ∷ []);
+      after = All-push (λ (m : Move). first + 40 * made ≤ m.time) before.rest last before.after (omega arith);
+    }
 
-until-left : (levels start leaf k : ℕ) → k < 2 * (levels + 1)
-    → All (λ (m : Move). move_time_of start levels k + 1 ≤ m.time) (drop (k + 1) (slot_moves levels start leaf))
-until-left levels start leaf k h = λ i d within.
-    let later : k + 1 + i < length (slot_moves levels start leaf) =
-    omega (arith, length-drop (k + 1) (slot_moves levels start leaf)) in
-    let last : (get_or (slot_moves levels start leaf) k d).time ≡ move_time_of start levels k =
-    at-time levels start leaf k d h in
-    let rise : (get_or (slot_moves levels start leaf) k d).time + 40 ≤ (get_or (slot_moves levels start leaf) (k + 1 + i) d).time =
-    slot-rise levels start leaf k (k + 1 + i) d (omega arith) later in
-    subst (λ (m : Move). move_time_of start levels k + 1 ≤ m.time)
-    (sym (get_or-drop (k + 1) (slot_moves levels start leaf) i d)) (omega arith)
+along-all : (levels : ℕ) (write : Bool) (first leaf made : ℕ) → made ≤ levels + 1
+    → AlongParts levels write first leaf made (levels + 1 - made)
+    → (rest : List Move) × (along levels write first leaf (levels + 1) ≡ along levels write first leaf made ++ rest)
+    × All (λ (m : Move). first + 40 * made ≤ m.time) rest
+along-all levels write first leaf made few p =
+    let all : levels + 1 ≡ made + (levels + 1 - made) = omega arith in
+    (p.rest, ap (along levels write first leaf) all ∙ p.parts, p.after)
 
-move-within : (levels start leaf k : ℕ) → k < 2 * (levels + 1)
-    → Within start (start + olat_of levels) (record { time = move_time_of start levels k; write = false; bucket = 0 })
-move-within levels start leaf k h =
-    let none : Move = record { time = 0; write = false; bucket = 0 } in
-    let within : k < length (slot_moves levels start leaf) = omega (arith, length-slot levels start leaf) in
-    let w : Within start (start + olat_of levels) (get_or (slot_moves levels start leaf) k none) =
-    slot-within levels start leaf k none within in
-    let at : (get_or (slot_moves levels start leaf) k none).time ≡ move_time_of start levels k =
-    at-time levels start leaf k none h in
-    (omega (arith, w.0, at), omega (arith, w.1, at))
+-- with some of its reads, up to each time after the last of them and not after the next
+pub scheduled-reads : (p : Public) (n start leaf made end : ℕ) (log : LogLists)
+    → Inside p n leaf (along p.levels false start leaf made) log → start ≡ start_at p (log_code p log) n
+    → made ≤ p.levels + 1 → start < end → start + 40 * made < end + 40 → end ≤ start + 40 * made
+    → IsScheduled p end log
+scheduled-reads p n start leaf made end log i at few begun after until =
+    let l : ℕ = p.levels in
+    let r : (rest : List Move) × (along l false start leaf (l + 1) ≡ along l false start leaf made ++ rest)
+    × All (λ (m : Move). start + 40 * made ≤ m.time) rest =
+    along-all l false start leaf made few (along-parts l false start leaf made (l + 1 - made)) in
+    scheduled-inside p n start leaf end (along l false start leaf made) (r.0 ++ writes l start leaf) log i at
+    (ap (λ ms. ms ++ writes l start leaf) r.1 ∙ append_assoc (along l false start leaf made) r.0 (writes l start leaf))
+    (All-weaker (Within start (start + 40 * made)) (λ (m : Move). m.time < end) (λ m h. omega arith)
+    (along l false start leaf made) (along-within l false start leaf made))
+    (All-append (λ (m : Move). end ≤ m.time) r.0 (writes l start leaf)
+    (All-weaker (λ (m : Move). start + 40 * made ≤ m.time) (λ (m : Move). end ≤ m.time) (λ m h. omega arith) r.0 r.2)
+    (All-weaker (λ (m : Move). writes_start l start ≤ m.time) (λ (m : Move). end ≤ m.time) (λ m h. omega arith)
+    (writes l start leaf) (writes-within l start leaf)))
+    begun (omega arith)
 
--- after a move the log is scheduled up to the cycle after its time
-pub scheduled-after : (p : Public) (n leaf k : ℕ) (log : LogLists) → k < 2 * (p.levels + 1)
-    → Inside p n leaf (take (k + 1) (slot_moves p.levels (start_at p (log_code p log) n) leaf)) log
-    → IsScheduled p (move_time_of (start_at p (log_code p log) n) p.levels k + 1) log
-scheduled-after p n leaf k log h i =
-    let start : ℕ = start_at p (log_code p log) n in
-    let moves : List Move = slot_moves p.levels start leaf in
-    let w : Within start (start + olat_of p.levels) (record { time = move_time_of start p.levels k; write = false; bucket = 0 }) =
-    move-within p.levels start leaf k h in
-    scheduled-inside p n leaf (move_time_of start p.levels k + 1) (take (k + 1) moves) (drop (k + 1) moves) log i
-    (sym (take-append-drop (k + 1) moves)) (until-made p.levels start leaf k h) (until-left p.levels start leaf k h)
-    (omega (arith, w.0)) (omega (arith, w.1))
-
--- after the reads it is up to their end
-pub scheduled-reads : (p : Public) (n leaf : ℕ) (log : LogLists)
-    → Inside p n leaf (reads p.levels (start_at p (log_code p log) n) leaf) log
-    → IsScheduled p (reads_end p.levels (start_at p (log_code p log) n)) log
-scheduled-reads p n leaf log i =
-    let start : ℕ = start_at p (log_code p log) n in
-    scheduled-inside p n leaf (reads_end p.levels start) (reads p.levels start leaf)
-    (writes p.levels start leaf) log i refl
-    (All-weaker (Within start (start + 40 * (p.levels + 1))) (λ (m : Move). m.time < reads_end p.levels start)
-    (λ m h. omega arith) (reads p.levels start leaf) (along-within p.levels false start leaf (p.levels + 1)))
-    (All-weaker (Within (reads_end p.levels start + 16) (reads_end p.levels start + 16 + 40 * (p.levels + 1)))
-    (λ (m : Move). reads_end p.levels start ≤ m.time) (λ m h. omega arith) (writes p.levels start leaf)
-    (along-within p.levels true (reads_end p.levels start + 16) leaf (p.levels + 1)))
-    (omega arith) (omega arith)
-
--- after all its moves it is up to the slot's end
-pub scheduled-end : (p : Public) (n leaf : ℕ) (log : LogLists)
-    → Inside p n leaf (slot_moves p.levels (start_at p (log_code p log) n) leaf) log
-    → IsScheduled p (end_at p (log_code p log) (suc n)) log
-scheduled-end p n leaf log i =
-    let start : ℕ = start_at p (log_code p log) n in
-    let moves : List Move = slot_moves p.levels (start_at p (log_code p log) n) leaf in
-    scheduled-inside p n leaf (end_at p (log_code p log) (suc n)) moves [] log i (sym (append-nil moves))
-    (All-weaker (Within start (start + olat_of p.levels)) (λ (m : Move). m.time < start + olat_of p.levels)
-    (λ m h. omega arith) moves (slot-within p.levels start leaf))
-    (All-nil (λ (m : Move). end_at p (log_code p log) (suc n) ≤ m.time))
-    (omega arith) (omega arith)
+-- and with some of its writes
+pub scheduled-writes : (p : Public) (n start leaf made end : ℕ) (log : LogLists)
+    → Inside p n leaf (reads p.levels start leaf ++ along p.levels true (writes_start p.levels start) leaf made) log
+    → start ≡ start_at p (log_code p log) n → made ≤ p.levels + 1
+    → writes_start p.levels start + 40 * made < end + 40 → end ≤ writes_start p.levels start + 40 * made
+    → end < start + olat_of p.levels → IsScheduled p end log
+scheduled-writes p n start leaf made end log i at few after until over =
+    let l : ℕ = p.levels in
+    let first : ℕ = writes_start l start in
+    let part : List Move = along l true first leaf made in
+    let w : (rest : List Move) × (along l true first leaf (l + 1) ≡ along l true first leaf made ++ rest)
+    × All (λ (m : Move). first + 40 * made ≤ m.time) rest =
+    along-all l true first leaf made few (along-parts l true first leaf made (l + 1 - made)) in
+    scheduled-inside p n start leaf end (reads l start leaf ++ part) w.0 log i at
+    (ap (λ ms. reads l start leaf ++ ms) w.1 ∙ sym (append_assoc (reads l start leaf) part w.0))
+    (All-append (λ (m : Move). m.time < end) (reads l start leaf) part
+    (All-weaker (λ (m : Move). m.time + 40 ≤ reads_end l start) (λ (m : Move). m.time < end) (λ m h. omega arith)
+    (reads l start leaf) (reads-within l start leaf))
+    (All-weaker (Within first (first + 40 * made)) (λ (m : Move). m.time < end) (λ m h. omega arith)
+    part (along-within l true first leaf made)))
+    (All-weaker (λ (m : Move). first + 40 * made ≤ m.time) (λ (m : Move). end ≤ m.time) (λ m h. omega arith) w.0 w.2)
+    (omega arith) over
 
 -- what two logs that are scheduled up to the same time have in common
 pub same-starts : (p : Public) (end : ℕ) (one other : LogLists) → IsScheduled p end one → IsScheduled p end other

@@ -20,9 +20,13 @@ reads levels start leaf = along levels false start leaf (levels + 1)
 abbrev pub reads_end : ℕ → ℕ → ℕ
 reads_end levels start = start + 40 * (levels + 1)
 
--- its writes, 16 cycles after its reads
+-- when its writes begin, 16 cycles later
+abbrev pub writes_start : ℕ → ℕ → ℕ
+writes_start levels start = reads_end levels start + 16
+
+-- its writes
 abbrev pub writes : ℕ → ℕ → ℕ → List Move
-writes levels start leaf = along levels true (reads_end levels start + 16) leaf (levels + 1)
+writes levels start leaf = along levels true (writes_start levels start) leaf (levels + 1)
 
 -- all moves of a slot
 abbrev pub slot_moves : ℕ → ℕ → ℕ → List Move
@@ -45,7 +49,7 @@ schedule p code leaves end = moves_before_time end (moves_of p.levels (timetable
 -- the time of a move of a slot, the first being 0
 abbrev pub move_time_of : ℕ → ℕ → ℕ → ℕ
 move_time_of start levels k =
-    if nat_lt k (levels + 1) then start + 40 * k else reads_end levels start + 16 + 40 * (k - (levels + 1))
+    if nat_lt k (levels + 1) then start + 40 * k else writes_start levels start + 40 * (k - (levels + 1))
 
 -- Each start is later than every one before it, by at least so many cycles. Slots whose starts rise by a slot's length
 -- don't overlap.

@@ -1,8 +1,9 @@
 -- How far a log has come in the schedule.
 use Rattle.std.specs.Prelude.{◌≡◌, ℕ, suc, ◌<◌, List, [], ◌∷◌, ◌++◌, All, length}
+use Rattle.bus_watch.specs.declared.log.Event.{Event}
 use Rattle.bus_watch.specs.declared.log.Move.{Move}
 use Rattle.bus_watch.specs.Log.{LogLists}
-use Rattle.bus_schedule.specs.Timetable.{Public, count_of, beat_at, starts, timetable}
+use Rattle.bus_schedule.specs.Timetable.{Public, count_of, beat_at, starts, timetable, fallen}
 use Rattle.bus_schedule.specs.Schedule.{moves_of, schedule}
 use Rattle.bus_schedule.specs.Shown.{starts_of, leaves_of, indices_of, code_of}
 
@@ -11,11 +12,13 @@ abbrev pub log_code : Public → LogLists → ℕ
 log_code p log = code_of (count_of p) (indices_of log.events)
 
 -- Up to a time the slots of a log start as the timetable of its code says, each has its leaf, and the moves are the
--- schedule of these leaves.
+-- schedule of these leaves; and the choices are indices of rates, as many as fall by then.
 pub record IsScheduled (p : Public) (end : ℕ) (log : LogLists) : Type 0 where
   pub starts : starts_of log.events ≡ timetable p (log_code p log) end
   pub leaves : length (leaves_of log.events) ≡ length (timetable p (log_code p log) end)
   pub moves : log.moves ≡ schedule p (log_code p log) (leaves_of log.events) end
+  pub indices : All (λ index. index < count_of p) (indices_of log.events)
+  pub fell : length (indices_of log.events) ≡ fallen p (log_code p log) end
 
 -- The choices of a log are indices of rates, and as many as fell in so many slots.
 pub record HasChosen (p : Public) (n : ℕ) (log : LogLists) : Type 0 where
@@ -38,8 +41,10 @@ pub record Inside (p : Public) (n leaf : ℕ) (part : List Move) (log : LogLists
   pub counted : length before ≡ n
   pub moves : log.moves ≡ moves_of p.levels (starts p (log_code p log) n) before ++ part
 
--- The newer log shows no more of slots: no start, no leaf and no choice.
+-- The events that the newer log has more show nothing of slots: no start, no leaf and no choice.
 pub record ShowsNoMore (old new : LogLists) : Type 0 where
-  pub starts : starts_of new.events ≡ starts_of old.events
-  pub leaves : leaves_of new.events ≡ leaves_of old.events
-  pub indices : indices_of new.events ≡ indices_of old.events
+  pub more : List Event
+  pub events : new.events ≡ old.events ++ more
+  pub starts : starts_of more ≡ []
+  pub leaves : leaves_of more ≡ []
+  pub indices : indices_of more ≡ []

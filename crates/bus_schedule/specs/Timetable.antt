@@ -108,10 +108,14 @@ abbrev pub end_at : Public → ℕ → ℕ → ℕ
 end_at p code zero = 0
 end_at p code (suc n) = start_at p code n + olat_of p.levels
 
+-- the starts of the next so many slots
+unfoldable pub starts_from : Public → ℕ → Beat → ℕ → List ℕ
+starts_from p code beat zero = []
+starts_from p code beat (suc n) = beat.next ∷ starts_from p code (beat_by p code beat) n
+
 -- the starts of the first so many slots
 unfoldable pub starts : Public → ℕ → ℕ → List ℕ
-starts p code zero = []
-starts p code (suc n) = starts p code n ++ start_at p code n ∷ []
+starts p code n = starts_from p code (first_beat p) n
 
 -- how many slots go into a time at most, the one that it cuts among them
 abbrev pub slots_within : Public → ℕ → ℕ

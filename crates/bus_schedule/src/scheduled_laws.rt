@@ -1,6 +1,9 @@
 //! Laws of how far a log has come in the schedule. The functions do nothing: each states a law in its contract.
 
-ghost use Rattle.std.specs.Prelude.{◌≡◌, ℕ, suc, ◌+◌, ◌*◌, ◌^◌, ◌<◌, ◌≤◌, All, Bool, true, false, Option, List, [], ◌∷◌, ◌++◌, length, take};
+ghost use Rattle.std.specs.Prelude.{◌≡◌, ℕ, suc, ◌+◌, ◌*◌, ◌^◌, ◌<◌, ◌≤◌, All, Bool, true, false, Option, List, [], ◌∷◌, ◌++◌, length};
+ghost use Rattle.asc_base.specs.Settings.{IsConfig};
+ghost use Rattle.asc_base.specs.TreeShape.{olat_of};
+ghost use Rattle.asc_base.specs.declared.settings.Config.{Config};
 ghost use Rattle.asc_base.specs.declared.block.Leaf.{Leaf};
 ghost use Rattle.asc_base.specs.declared.block.Message.{Message};
 ghost use Rattle.asc_base.specs.declared.block.Line.{Line};
@@ -8,8 +11,9 @@ ghost use Rattle.asc_base.specs.declared.block.Point.{Point};
 ghost use Rattle.bus_watch.specs.declared.log.Move.{Move};
 ghost use Rattle.bus_watch.specs.declared.log.Event.TheVariants.{Access, Drawn, Tagged, Accepted, Chosen, Answered};
 ghost use Rattle.bus_watch.specs.Log.{LogLists, with_event};
-ghost use Rattle.bus_schedule.specs.Timetable.{Public, count_of, choices_of, rate_at, falls_next, beat_with, beat_at, start_at, end_at};
-ghost use Rattle.bus_schedule.specs.Schedule.{reads, reads_end, slot_moves, move_time_of};
+ghost use Rattle.bus_schedule.specs.Timetable.{Public, public_of, count_of, choices_of, rate_at, falls_next, beat_with, beat_at, start_at, end_at};
+ghost use Rattle.bus_schedule.specs.Schedule.{along, reads, writes_start, slot_moves};
+ghost use Rattle.bus_schedule.specs.Rows.{two_rates, first_slot_log, idle_log};
 ghost use Rattle.bus_schedule.specs.Shown.{starts_of, leaves_of, indices_of};
 ghost use Rattle.bus_schedule.specs.Scheduled.{log_code, IsScheduled, HasChosen, Between, Inside, ShowsNoMore};
 
@@ -19,24 +23,42 @@ pub fn log_starts()
 {}
 
 /// Between two slots a log is scheduled up to each time from the last end to the next start. In a slot it is
-/// scheduled up to each time that parts the moves that were made from the others: so after the k-th move up to the
-/// cycle after it, after the reads up to their end, and after all its moves up to the slot's end.
+/// scheduled up to each time after its start and before its end that parts the moves that were made from the others.
+/// So with some of its reads, up to each time after the last of them and not after the next, or after the reads' end;
+/// and with all of its reads and some of its writes likewise. A slot that was given up after its reads, or at a move
+/// that failed, ends at such a time.
 pub fn log_is_scheduled()
     ensures between { (p : Public) (n end : ℕ) (log : LogLists) → Between p n log
         → end_at p (log_code p log) n ≤ end → end ≤ start_at p (log_code p log) n → IsScheduled p end log }
-    ensures inside { (p : Public) (n leaf end : ℕ) (part rest : List Move) (log : LogLists)
-        → Inside p n leaf part log → slot_moves p.levels (start_at p (log_code p log) n) leaf ≡ part ++ rest
+    ensures inside { (p : Public) (n start leaf end : ℕ) (part rest : List Move) (log : LogLists)
+        → Inside p n leaf part log → start ≡ start_at p (log_code p log) n
+        → slot_moves p.levels start leaf ≡ part ++ rest
         → All (λ (m : Move). m.time < end) part → All (λ (m : Move). end ≤ m.time) rest
-        → start_at p (log_code p log) n < end → end ≤ end_at p (log_code p log) (suc n) → IsScheduled p end log }
-    ensures after_move { (p : Public) (n leaf k : ℕ) (log : LogLists) → k < 2 * (p.levels + 1)
-        → Inside p n leaf (take (k + 1) (slot_moves p.levels (start_at p (log_code p log) n) leaf)) log
-        → IsScheduled p (move_time_of (start_at p (log_code p log) n) p.levels k + 1) log }
-    ensures after_reads { (p : Public) (n leaf : ℕ) (log : LogLists)
-        → Inside p n leaf (reads p.levels (start_at p (log_code p log) n) leaf) log
-        → IsScheduled p (reads_end p.levels (start_at p (log_code p log) n)) log }
-    ensures at_end { (p : Public) (n leaf : ℕ) (log : LogLists)
-        → Inside p n leaf (slot_moves p.levels (start_at p (log_code p log) n) leaf) log
-        → IsScheduled p (end_at p (log_code p log) (suc n)) log }
+        → start < end → end < start + olat_of p.levels → IsScheduled p end log }
+    ensures reads { (p : Public) (n start leaf made end : ℕ) (log : LogLists)
+        → Inside p n leaf (along p.levels false start leaf made) log → start ≡ start_at p (log_code p log) n
+        → made ≤ p.levels + 1 → start < end → start + 40 * made < end + 40 → end ≤ start + 40 * made
+        → IsScheduled p end log }
+    ensures writes { (p : Public) (n start leaf made end : ℕ) (log : LogLists)
+        → Inside p n leaf (reads p.levels start leaf ++ along p.levels true (writes_start p.levels start) leaf made) log
+        → start ≡ start_at p (log_code p log) n → made ≤ p.levels + 1
+        → writes_start p.levels start + 40 * made < end + 40 → end ≤ writes_start p.levels start + 40 * made
+        → end < start + olat_of p.levels → IsScheduled p end log }
+{}
+
+/// The choice at a slot's end is noted by the time of that end, and not before; and no more choices are noted than fall.
+/// So the log of one slot, at whose end a choice falls, is scheduled up to the cycle before the end without the choice
+/// alone, and up to the end with it alone; and a log of two choices, where one is allowed, is scheduled up to no time.
+pub fn scheduled_rows()
+    ensures before { IsScheduled two_rates 303 (first_slot_log []) }
+    ensures early { (index : ℕ) → IsScheduled two_rates 303 (first_slot_log (Chosen index ∷ [])) → ⊥ }
+    ensures missed { IsScheduled two_rates 304 (first_slot_log []) → ⊥ }
+    ensures noted { IsScheduled two_rates 304 (first_slot_log (Chosen 1 ∷ [])) }
+    ensures no_rate { IsScheduled two_rates 304 (first_slot_log (Chosen 2 ∷ [])) → ⊥ }
+    ensures twice { (end first second : ℕ) → IsScheduled two_rates end (idle_log (Chosen first ∷ Chosen second ∷ [])) → ⊥ }
+    ensures twice_after { (end first second : ℕ)
+        → IsScheduled two_rates end (first_slot_log (Chosen first ∷ Chosen second ∷ [])) → ⊥ }
+    ensures idle { IsScheduled two_rates 0 (idle_log []) }
 {}
 
 /// A slot begins at its time, and its leaf is drawn.
@@ -49,7 +71,8 @@ pub fn slot_begins()
         → log_code p new ≡ log_code p old }
 {}
 
-/// Events that show nothing of slots keep how far a log has come, in a slot too, where moves may be made besides.
+/// Events that show nothing of slots keep how far a log has come, in a slot too, where moves may be made besides. So
+/// do equal events, a tag that is put on or accepted, and a line that is answered.
 pub fn slot_goes_on()
     ensures between { (p : Public) (n : ℕ) (old new : LogLists) → Between p n old → ShowsNoMore old new
         → new.moves ≡ old.moves → Between p n new }
@@ -58,6 +81,7 @@ pub fn slot_goes_on()
         → Inside p n leaf (part ++ more) new }
     ensures code { (p : Public) (old new : LogLists) → ShowsNoMore old new → log_code p new ≡ log_code p old }
     ensures joined { (old mid new : LogLists) → ShowsNoMore old mid → ShowsNoMore mid new → ShowsNoMore old new }
+    ensures same { (old new : LogLists) → new.events ≡ old.events → ShowsNoMore old new }
     ensures tagged { (message : Message) (old new : LogLists) → new ≡ with_event old (Tagged message)
         → ShowsNoMore old new }
     ensures accepted { (message : Message) (tag : List ℕ) (old new : LogLists)
@@ -94,12 +118,24 @@ pub fn slot_ends_with_choice()
         ≡ beat_with p (beat_at p (log_code p old) n) (rate_at p.rates index) ((beat_at p (log_code p old) n).choices + 1) }
 {}
 
-/// A log has no more choices than are allowed, and its code is below the number of codes with so many digits.
+/// A log has no more choices than are allowed, and its code is below the number of codes with so many digits; so has
+/// a log that is scheduled up to any time, as after every stop. Where a choice among `2 ^ bits` rates takes so many
+/// bits, the codes of so many choices are at most `2 ^ leak`: the code tells no more bits than the budget.
 pub fn code_is_bounded()
     ensures choices { (p : Public) (n : ℕ) (log : LogLists) → HasChosen p n log
         → length (indices_of log.events) ≤ choices_of p }
     ensures code { (p : Public) (n : ℕ) (log : LogLists) → HasChosen p n log
         → log_code p log < count_of p ^ length (indices_of log.events) }
+    ensures scheduled_choices { (p : Public) (end : ℕ) (log : LogLists) → IsScheduled p end log
+        → length (indices_of log.events) ≤ choices_of p }
+    ensures scheduled_code { (p : Public) (end : ℕ) (log : LogLists) → IsScheduled p end log
+        → log_code p log < count_of p ^ length (indices_of log.events) }
+    ensures codes { (p : Public) (bits end : ℕ) (log : LogLists) → count_of p ≡ 2 ^ bits → IsScheduled p end log
+        → count_of p ^ length (indices_of log.events) ≤ 2 ^ p.leak }
+    ensures budget { (p : Public) (bits end : ℕ) (log : LogLists) → count_of p ≡ 2 ^ bits → IsScheduled p end log
+        → log_code p log < 2 ^ p.leak }
+    ensures config { (config : Config) (end : ℕ) (log : LogLists) → IsConfig config → length config.rates.list ≡ 16
+        → IsScheduled (public_of config) end log → log_code (public_of config) log < 2 ^ config.leak }
 {}
 
 /// Two logs that are scheduled up to the same time have the same starts where they have the same code, and the same

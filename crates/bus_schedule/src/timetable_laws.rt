@@ -69,6 +69,9 @@ pub fn timetable_rows()
         ≡ 64 ∷ 304 ∷ 608 ∷ 912 ∷ 1216 ∷ 1520 ∷ 1824 ∷ 2128 ∷ [] }
     ensures four { starts (record { levels = 1; rates = 64 ∷ 128 ∷ 256 ∷ 512 ∷ []; first = 1; epoch = 400; leak = 1 }) 3 5
         ≡ 128 ∷ 432 ∷ 736 ∷ 1040 ∷ 1344 ∷ [] }
+    ensures late { timetable (record { levels = 5; rates = 256 ∷ 1024 ∷ 4096 ∷ 16384 ∷ []; first = 0; epoch = 4096; leak = 2 }) 3 25000
+        ≡ 256 ∷ 1008 ∷ 1760 ∷ 2512 ∷ 3264 ∷ 4016 ∷ 20896 ∷ [] }
+    ensures count { length (timetable (record { levels = 5; rates = 256 ∷ 1024 ∷ 4096 ∷ 16384 ∷ []; first = 0; epoch = 32768; leak = 2 }) 3 200000) ≡ 53 }
     ensures alone { starts (record { levels = 5; rates = 256 ∷ []; first = 0; epoch = 65536; leak = 0 }) 0 8
         ≡ 256 ∷ 1008 ∷ 1760 ∷ 2512 ∷ 3264 ∷ 4016 ∷ 4768 ∷ 5520 ∷ [] }
 {}
