@@ -6,7 +6,7 @@ use Rattle.std.proofs.lemmas.List.Quantifiers.{all_pairs_push}
 use Rattle.std.proofs.lemmas.List.Elements.{All-head, All-tail, All-nil, All-push, All-append, All-weaker, All-filter, filter-append}
 use Rattle.asc_base.specs.TreeShape.{olat_of}
 use Rattle.bus_watch.specs.declared.log.Move.{Move}
-use Rattle.bus_schedule.specs.Schedule.{along, reads, reads_end, writes, slot_moves, moves_of, moves_before_time, schedule, RiseBy, MovesRise, GoesOn}
+use Rattle.bus_schedule.specs.Schedule.{along, reads, reads_end, writes_start, writes, slot_moves, moves_of, moves_before_time, schedule, RiseBy, MovesRise, GoesOn}
 use Rattle.bus_schedule.proofs.SlotMoves.{move_along}
 use Rattle.bus_schedule.proofs.Rising.{pairs-tail, pairs-head, pairs-append, filter-all, cut-later}
 use Rattle.bus_schedule.specs.Timetable.{Public, starts, timetable}
@@ -42,30 +42,30 @@ slot-within levels start leaf =
     All-append (Within start (start + olat_of levels)) (reads levels start leaf) (writes levels start leaf)
     (All-weaker (Within start (start + 40 * (levels + 1))) (Within start (start + olat_of levels))
     (λ m h. (h.0, omega arith)) (reads levels start leaf) (along-within levels false start leaf (levels + 1)))
-    (All-weaker (Within (reads_end levels start + 16) (reads_end levels start + 16 + 40 * (levels + 1)))
+    (All-weaker (Within (writes_start levels start) (writes_start levels start + 40 * (levels + 1)))
     (Within start (start + olat_of levels)) (λ m h. (omega arith, omega arith)) (writes levels start leaf)
-    (along-within levels true (reads_end levels start + 16) leaf (levels + 1)))
+    (along-within levels true (writes_start levels start) leaf (levels + 1)))
 
 pub reads-within : (levels start leaf : ℕ)
     → All (λ (m : Move). m.time + 40 ≤ reads_end levels start) (reads levels start leaf)
 reads-within levels start leaf = λ k d within. (along-within levels false start leaf (levels + 1) k d within).1
 
 pub writes-within : (levels start leaf : ℕ)
-    → All (λ (m : Move). reads_end levels start + 16 ≤ m.time) (writes levels start leaf)
+    → All (λ (m : Move). writes_start levels start ≤ m.time) (writes levels start leaf)
 writes-within levels start leaf =
-    λ k d within. (along-within levels true (reads_end levels start + 16) leaf (levels + 1) k d within).0
+    λ k d within. (along-within levels true (writes_start levels start) leaf (levels + 1) k d within).0
 
 pub slot-rise : (levels start leaf : ℕ) → MovesRise (slot_moves levels start leaf)
 slot-rise levels start leaf =
     pairs-append (λ (earlier later : Move). earlier.time + 40 ≤ later.time) (reads levels start leaf)
     (writes levels start leaf)
     (along-rise levels false start leaf (levels + 1))
-    (along-rise levels true (reads_end levels start + 16) leaf (levels + 1))
+    (along-rise levels true (writes_start levels start) leaf (levels + 1))
     (All-weaker (Within start (start + 40 * (levels + 1)))
     (λ (m : Move). All (λ (later : Move). m.time + 40 ≤ later.time) (writes levels start leaf))
-    (λ m h. All-weaker (Within (reads_end levels start + 16) (reads_end levels start + 16 + 40 * (levels + 1)))
+    (λ m h. All-weaker (Within (writes_start levels start) (writes_start levels start + 40 * (levels + 1)))
     (λ (later : Move). m.time + 40 ≤ later.time) (λ later g. omega arith) (writes levels start leaf)
-    (along-within levels true (reads_end levels start + 16) leaf (levels + 1)))
+    (along-within levels true (writes_start levels start) leaf (levels + 1)))
     (reads levels start leaf) (along-within levels false start leaf (levels + 1)))
 
 -- the moves of slots that start at a time or later come then or later

@@ -1,13 +1,14 @@
 -- The moves of one slot: how many they are, the time of each, and how many come before a time.
-use Rattle.std.proofs.Common.{◌≡◌, ℕ, zero, suc, ◌+◌, ◌-◌, ◌*◌, ◌/◌, ◌%◌, ◌<◌, ◌≤◌, min, Bool, true, false, cond, List, [], ◌∷◌, ◌++◌, length, take, Some, refl, sym, ◌∙◌, ap, arith, inl, inr, length-append}
+use Rattle.std.proofs.Common.{◌≡◌, ◌↔◌, ℕ, zero, suc, ◌+◌, ◌-◌, ◌*◌, ◌/◌, ◌%◌, ◌<◌, ◌≤◌, min, Bool, true, false, cond, List, [], ◌∷◌, ◌++◌, length, take, Some, refl, sym, ◌∙◌, ap, arith, inl, inr, length-append}
 use Rattle.std.specs.Prelude.{nat_lt, slice_get}
 use Rattle.std.specs.Option.{option_map}
+use Rattle.std.proofs.Math.Seq.{take-append-add}
 use Rattle.std.proofs.lemmas.Bool.{lt-ltb, le-ltb, cases_lt}
 use Rattle.std.proofs.lemmas.List.{take_all, take-append-le}
 use Rattle.std.proofs.lemmas.List.Elements.{filter-append}
 use Rattle.asc_base.specs.TreeShape.{bucket_of}
 use Rattle.bus_watch.specs.declared.log.Move.{Move}
-use Rattle.bus_schedule.specs.Schedule.{along, reads, reads_end, writes, slot_moves, moves_before_time, move_time_of}
+use Rattle.bus_schedule.specs.Schedule.{along, reads, reads_end, writes_start, writes, slot_moves, moves_before_time, move_time_of}
 
 slice_get-left : {A : Type 0} (xs ys : List A) (k : ℕ) → k < length xs → slice_get (xs ++ ys) k ≡ slice_get xs k
 slice_get-left [] ys k h = absurd (omega arith)
@@ -49,7 +50,7 @@ length-slot levels start leaf =
       length-append (reads levels start leaf) (writes levels start leaf),
       length-along levels false start leaf
           (levels + 1),
-      length-along levels true (reads_end levels start + 16) leaf (levels + 1),
+      length-along levels true (writes_start levels start) leaf (levels + 1),
     )
 
 pub along-at : (levels : ℕ) (write : Bool) (first leaf n k : ℕ) → k < n
@@ -68,12 +69,6 @@ along-at levels write first leaf (suc n) k h =
           (omega arith)
           ∙ ap (λ i. Some (move_along levels write first leaf i)) (sym last))
     ]
-
-take-right : {A : Type 0} (xs ys : List A) (k : ℕ) → take (length xs + k) (xs ++ ys) ≡ xs ++ take k ys
-take-right [] ys k = let e : 0 + k ≡ k = omega arith in ap (λ n. take n ys) e
-take-right (x ∷ xs) ys k =
-    let e : suc (length xs) + k ≡ suc (length xs + k) = omega arith in
-    ap (λ n. take n (x ∷ xs ++ ys)) e ∙ ap (λ l. x ∷ l) (take-right xs ys k)
 
 -- the first moves of a path
 along-first : (levels : ℕ) (write : Bool) (first leaf k more : ℕ)
@@ -103,16 +98,16 @@ slot-reads levels start leaf k h =
 
 pub slot-writes : (levels start leaf k : ℕ) → k ≤ levels + 1
     → take (levels + 1 + k) (slot_moves levels start leaf)
-    ≡ reads levels start leaf ++ along levels true (reads_end levels start + 16) leaf k
+    ≡ reads levels start leaf ++ along levels true (writes_start levels start) leaf k
 slot-writes levels start leaf k h =
     let all : levels + 1 ≡ k + (levels + 1 - k) = omega arith in
     let counted : levels + 1 ≡ length (reads levels start leaf) =
     sym (length-along levels false start leaf (levels + 1)) in
     ap (λ n. take (n + k) (slot_moves levels start leaf)) counted
-    ∙ take-right (reads levels start leaf) (writes levels start leaf) k
+    ∙ take-append-add (reads levels start leaf) (writes levels start leaf) k
     ∙ ap (λ l. reads levels start leaf ++ l)
-    (ap (λ n. take k (along levels true (reads_end levels start + 16) leaf n)) all
-    ∙ along-first levels true (reads_end levels start + 16) leaf k (levels + 1 - k))
+    (ap (λ n. take k (along levels true (writes_start levels start) leaf n)) all
+    ∙ along-first levels true (writes_start levels start) leaf k (levels + 1 - k))
 
 -- the time of the k-th move of a slot
 pub slot-time : (levels start leaf k : ℕ) → k < 2 * (levels + 1)
@@ -126,13 +121,13 @@ slot-time levels start leaf k h =
           ap (option_map (λ (m : Move). m.time))
           (slice_get-left (reads levels start leaf) (writes levels start leaf) k (omega arith)
           ∙ along-at levels false start leaf (levels + 1) k before)
-          ∙ ap (λ b. Some (cond b (start + 40 * k) (reads_end levels start + 16 + 40 * (k - (levels + 1)))))
+          ∙ ap (λ b. Some (cond b (start + 40 * k) (writes_start levels start + 40 * (k - (levels + 1)))))
           (sym (lt-ltb k (levels + 1) before))
       | inr after ↦
           ap (option_map (λ (m : Move). m.time))
           (slice_get-right (reads levels start leaf) (writes levels start leaf) k (k - (levels + 1)) (omega arith)
-          ∙ along-at levels true (reads_end levels start + 16) leaf (levels + 1) (k - (levels + 1)) (omega arith))
-          ∙ ap (λ b. Some (cond b (start + 40 * k) (reads_end levels start + 16 + 40 * (k - (levels + 1)))))
+          ∙ along-at levels true (writes_start levels start) leaf (levels + 1) (k - (levels + 1)) (omega arith))
+          ∙ ap (λ b. Some (cond b (start + 40 * k) (writes_start levels start + 40 * (k - (levels + 1)))))
           (sym (le-ltb k (levels + 1) after))
     ]
 
@@ -174,12 +169,26 @@ pub slot-before : (levels start leaf end : ℕ)
     → length (moves_before_time end (slot_moves levels start leaf))
     ≡ min (forties (end - start)) (levels + 1) + min (forties (end - start - (40 * (levels + 1) + 16))) (levels + 1)
 slot-before levels start leaf end =
-    let pause : end - (reads_end levels start + 16) ≡ end - start - (40 * (levels + 1) + 16) = omega arith in
+    let pause : end - (writes_start levels start) ≡ end - start - (40 * (levels + 1) + 16) = omega arith in
     ap length (filter-append (λ (m : Move). nat_lt m.time end) (reads levels start leaf) (writes levels start leaf))
     ∙ length-append (moves_before_time end (reads levels start leaf))
     (moves_before_time end (writes levels start leaf))
     ∙ ap (λ n. n + length (moves_before_time end (writes levels start leaf)))
     (along-before levels false start leaf (levels + 1) end)
     ∙ ap (λ n. min (forties (end - start)) (levels + 1) + n)
-    (along-before levels true (reads_end levels start + 16) leaf (levels + 1) end
+    (along-before levels true (writes_start levels start) leaf (levels + 1) end
     ∙ ap (λ c. min (forties c) (levels + 1)) pause)
+
+-- a slot has a move before a time exactly where it starts before it
+pub slot-begun : (levels start leaf end : ℕ)
+    → (0 < length (moves_before_time end (slot_moves levels start leaf))) ↔ (start < end)
+slot-begun levels start leaf end =
+    let number = slot-before levels start leaf end in (
+      λ some. elim (cases_lt start end) [
+        | inl before ↦ before
+        | inr after ↦ absurd (omega (arith, number))
+      ],
+      λ before.
+          let one : 1 ≤ forties (end - start) = omega arith in
+          omega (arith, number),
+    )

@@ -2,6 +2,7 @@
 #![tactic(auto)]
 
 mod arithmetic;
+mod asked_laws;
 mod beat;
 mod moves;
 mod schedule_laws;
@@ -9,6 +10,7 @@ mod scheduled_laws;
 mod timetable_laws;
 
 pub use arithmetic::{digit, epoch_of, slot_after, with_digit};
+pub use asked_laws::{asked_rows, next_slot_is_first, slots_serve_promptly};
 pub use beat::{Beat, Timing, choice_falls, first_slot, most_choices, next_slot};
 pub use moves::{move_time, moves_before};
 pub use schedule_laws::{moves_are_cut, moves_go_on, moves_rise, slots_join};

@@ -1,14 +1,15 @@
 //! Laws of the moves of slots, for any tree and any lists of starts and leaves. The functions do nothing: each
 //! states a law in its contract.
 
-ghost use Rattle.std.specs.Prelude.{◌≡◌, ℕ, ◌+◌, ◌*◌, ◌≤◌, All, true, false, List, [], ◌∷◌, ◌++◌, length, take};
-ghost use Rattle.asc_base.specs.TreeShape.{olat_of};
+ghost use Rattle.std.specs.Prelude.{◌≡◌, ◌↔◌, ℕ, zero, suc, ◌+◌, ◌*◌, ◌<◌, ◌≤◌, All, Bool, true, false, List, [], ◌∷◌, ◌++◌, length, take};
+ghost use Rattle.asc_base.specs.TreeShape.{olat_of, bucket_of};
 ghost use Rattle.bus_watch.specs.declared.log.Move.{Move};
 ghost use Rattle.bus_schedule.specs.Timetable.{Public, timetable};
-ghost use Rattle.bus_schedule.specs.Schedule.{along, reads, reads_end, writes, slot_moves, moves_of, moves_before_time, schedule, RiseBy, MovesRise, GoesOn};
+ghost use Rattle.bus_schedule.specs.Schedule.{along, reads, reads_end, writes_start, writes, slot_moves, moves_of, moves_before_time, schedule, RiseBy, MovesRise, GoesOn};
 
 /// The moves of one slot more come after those of the slots before it. A slot has a read and a write of each bucket
-/// of its path; its first moves are reads, and writes follow once all reads are made.
+/// of its path; its first moves are reads, and writes follow once all reads are made. A path has one move more at each
+/// level.
 pub fn slots_join()
     ensures joined { (levels start leaf : ℕ) (starts leaves : List ℕ) → length starts ≡ length leaves
         → moves_of levels (starts ++ start ∷ []) (leaves ++ leaf ∷ [])
@@ -16,9 +17,13 @@ pub fn slots_join()
     ensures number { (levels start leaf : ℕ) → length (slot_moves levels start leaf) ≡ 2 * (levels + 1) }
     ensures reads { (levels start leaf k : ℕ) → k ≤ levels + 1
         → take k (slot_moves levels start leaf) ≡ along levels false start leaf k }
+    ensures one_more { (levels : ℕ) (write : Bool) (first leaf level : ℕ) → along levels write first leaf (suc level)
+        ≡ along levels write first leaf level
+        ++ (record { time = first + 40 * level; write = write; bucket = bucket_of levels leaf level }) ∷ [] }
+    ensures path { (levels : ℕ) (write : Bool) (first leaf made : ℕ) → length (along levels write first leaf made) ≡ made }
     ensures writes { (levels start leaf k : ℕ) → k ≤ levels + 1
         → take (levels + 1 + k) (slot_moves levels start leaf)
-        ≡ reads levels start leaf ++ along levels true (reads_end levels start + 16) leaf k }
+        ≡ reads levels start leaf ++ along levels true (writes_start levels start) leaf k }
 {}
 
 /// The moves of a slot are made in its cycles, 40 cycles apart at least, and so are those of slots that don't
@@ -29,14 +34,15 @@ pub fn moves_rise()
     ensures reads { (levels start leaf : ℕ)
         → All (λ (m : Move). m.time + 40 ≤ reads_end levels start) (reads levels start leaf) }
     ensures writes { (levels start leaf : ℕ)
-        → All (λ (m : Move). reads_end levels start + 16 ≤ m.time) (writes levels start leaf) }
+        → All (λ (m : Move). writes_start levels start ≤ m.time) (writes levels start leaf) }
     ensures slot { (levels start leaf : ℕ) → MovesRise (slot_moves levels start leaf) }
     ensures slots { (levels : ℕ) (starts leaves : List ℕ) → RiseBy (olat_of levels) starts
         → MovesRise (moves_of levels starts leaves) }
 {}
 
 /// A time cuts off nothing of slots that are over by then, and of the slot that it falls into what isn't before it.
-/// Where slots don't overlap, all before one that has started are over.
+/// Where slots don't overlap, all before one that has started are over. A slot has a move before a time exactly where it
+/// starts before it.
 pub fn moves_are_cut()
     ensures over { (levels end : ℕ) (starts leaves : List ℕ) → All (λ start. start + olat_of levels ≤ end) starts
         → moves_before_time end (moves_of levels starts leaves) ≡ moves_of levels starts leaves }
@@ -46,6 +52,8 @@ pub fn moves_are_cut()
         ≡ moves_of levels starts leaves ++ moves_before_time end (slot_moves levels start leaf) }
     ensures started { (levels end start : ℕ) (starts : List ℕ) → RiseBy (olat_of levels) (starts ++ start ∷ [])
         → start ≤ end → All (λ earlier. earlier + olat_of levels ≤ end) starts }
+    ensures begun { (levels start leaf end : ℕ)
+        → (0 < length (moves_before_time end (slot_moves levels start leaf))) ↔ (start < end) }
 {}
 
 /// The moves up to a later time go on from those up to an earlier one, where the slots that are added start at the
