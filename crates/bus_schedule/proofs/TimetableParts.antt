@@ -177,8 +177,17 @@ pub fallen-inside : (p : Public) (code n end : ℕ) → start_at p code n < end 
 fallen-inside p code n end begun over = ap (λ m. (beat_at p code m).choices) (ended-inside p code n end begun over)
 
 -- the first start from a time on
-pub first-from : (p : Public) (code time : ℕ) → StartsBefore p code time (length (timetable p code time))
-first-from p code time = timetable-before p code time
+pub first-from : (p : Public) (code time : ℕ) → time ≤ first_from p code time
+first-from p code time = (timetable-before p code time).next
+
+pub first-others : (p : Public) (code time k : ℕ) → start_at p code k < first_from p code time
+    → start_at p code k < time
+first-others p code time k before =
+    let cut : StartsBefore p code time (length (timetable p code time)) = timetable-before p code time in
+    elim (cases_lt k (length (timetable p code time))) [
+      | inl early ↦ cut.before k early
+      | inr late ↦ absurd (omega (arith, start-order p code (length (timetable p code time)) k late))
+    ]
 
 pub first-is : (p : Public) (code time n : ℕ) → time ≤ start_at p code n → ((k : ℕ) → k < n → start_at p code k < time)
     → first_from p code time ≡ start_at p code n

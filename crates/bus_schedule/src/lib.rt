@@ -7,6 +7,7 @@ mod beat;
 mod moves;
 mod schedule_laws;
 mod scheduled_laws;
+mod starts_laws;
 mod timetable_laws;
 
 pub use arithmetic::{digit, epoch_of, slot_after, with_digit};
@@ -17,6 +18,10 @@ pub use schedule_laws::{moves_are_cut, moves_go_on, moves_rise, slots_join};
 pub use scheduled_laws::{
     code_is_bounded, log_is_scheduled, log_starts, schedule_decides, scheduled_rows, slot_begins,
     slot_ends, slot_ends_with_choice, slot_goes_on,
+};
+pub use starts_laws::{
+    beats_go_on, codes_compare, first_starts, slots_end_by, starts_tell_digits,
+    timetables_have_starts,
 };
 pub use timetable_laws::{
     choices_are_few, choices_decide, choices_fall, codes_have_digits, public_parts, slots_apart,

@@ -2,6 +2,7 @@
 //! states a law in its contract.
 
 ghost use Rattle.std.specs.Prelude.{◌≡◌, ℕ, suc, ◌+◌, ◌-◌, ◌*◌, ◌/◌, ◌^◌, ◌<◌, ◌≤◌, ◌↔◌, true, false, All, List, [], ◌∷◌, ◌++◌, length, slice_index};
+ghost use Rattle.std.specs.List.Sorted.{IsStrictlyIncreasing};
 ghost use Rattle.asc_base.specs.TreeShape.{olat_of};
 ghost use Rattle.asc_base.specs.Settings.{IsPowerTo, IsConfig};
 ghost use Rattle.asc_base.specs.declared.settings.Config.{Config};
@@ -102,8 +103,8 @@ pub fn timetables_are_few()
         → (other : ℕ) × (other < 2 ^ p.leak) × (timetable p other end ≡ timetable p code end) }
 {}
 
-/// The public part of a configuration has 1, 2, 4, 8 or 16 rates, the first rate is among them, and epoch 0 isn't
-/// empty.
+/// The public part of a configuration has 1, 2, 4, 8 or 16 rates, which rise, the first rate is among them, and epoch 0
+/// isn't empty.
 pub fn public_parts()
     ensures count { (config : Config) → IsConfig config → length config.rates.list ≡ 16
         → count_of (public_of config) ≡ config.rates.count }
@@ -112,6 +113,7 @@ pub fn public_parts()
     ensures first { (config : Config) → IsConfig config → length config.rates.list ≡ 16
         → (public_of config).first < count_of (public_of config) }
     ensures epoch { (config : Config) → IsConfig config → 1 ≤ (public_of config).epoch }
+    ensures rise { (config : Config) → IsConfig config → IsStrictlyIncreasing (public_of config).rates }
 {}
 
 /// The code of digits is the number that has them, the least first; and a digit at a place above those of a code leaves

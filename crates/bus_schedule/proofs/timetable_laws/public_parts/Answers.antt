@@ -12,3 +12,6 @@ returns-clause-first c = first-among
 
 pub returns-clause-epoch : goal.returns-clause-epoch
 returns-clause-epoch c = epoch-some
+
+pub returns-clause-rise : goal.returns-clause-rise
+returns-clause-rise c = λ config h. h.rates.rise
