@@ -1,5 +1,5 @@
 -- Which slot serves what was asked for.
-use Rattle.std.proofs.Common.{◌≡◌, ℕ, zero, suc, ◌+◌, ◌-◌, ◌<◌, ◌≤◌, List, [], ◌∷◌, ◌++◌, length, take, get_or, Option, None, Some, refl, sym, ◌∙◌, ap, subst, arith, append-nil, append_assoc, length-append}
+use Rattle.std.proofs.Common.{◌≡◌, ℕ, ◌+◌, ◌-◌, ◌<◌, ◌≤◌, List, [], ◌∷◌, ◌++◌, length, take, get_or, None, Some, refl, sym, ◌∙◌, ap, subst, arith, append-nil, append_assoc, length-append}
 use Rattle.std.specs.List.{All}
 use Rattle.std.proofs.lemmas.List.{get_or-append_right}
 use Rattle.std.proofs.Math.Seq.{take-append_seam}
@@ -23,7 +23,7 @@ prompt-append earlier [] ys h rest = subst (λ l. ArePrompt l ys) (append-nil ea
 prompt-append earlier (x ∷ xs) ys h rest = (
   h.0,
   prompt-append (earlier ++ start_of x) xs ys h.1
-  (subst (λ l. ArePrompt l ys) (sym (append_assoc earlier (start_of x) (starts_of xs))) rest),
+      (subst (λ l. ArePrompt l ys) (sym (append_assoc earlier (start_of x) (starts_of xs))) rest),
 )
 
 prompt-after : (earlier : List ℕ) (xs ys : List Event) → ArePrompt earlier (xs ++ ys)

@@ -1,5 +1,5 @@
 -- What starts tell of the code, and how codes compare by their digits.
-use Rattle.std.proofs.Common.{◌≡◌, ◌↔◌, ℕ, zero, suc, ◌+◌, ◌-◌, ◌*◌, ◌/◌, ◌%◌, ◌^◌, ◌<◌, ◌≤◌, Bool, true, false, cond, List, length, get_or, refl, sym, ◌∙◌, ap, subst, inl, inr, arith}
+use Rattle.std.proofs.Common.{◌≡◌, ℕ, zero, suc, ◌+◌, ◌-◌, ◌*◌, ◌%◌, ◌^◌, ◌<◌, ◌≤◌, Bool, true, false, cond, List, length, get_or, refl, sym, ◌∙◌, ap, subst, inl, inr, arith}
 use Rattle.std.specs.Prelude.{nat_lt, nat_le, max, ◌&&◌}
 use Rattle.std.specs.List.{filter}
 use Rattle.std.specs.List.Sorted.{IsStrictlyIncreasing}
@@ -186,8 +186,7 @@ code-by-next : (base code other places : ℕ) → 1 ≤ base → code < base ^ s
     → (code ≡ digit_of code base places * base ^ places + code % base ^ places)
     × (digit_of other base places * base ^ places + code % base ^ places ≤ other)
 code-by-next base code other places some few same =
-    let rest : code % base ^ places ≡ other % base ^ places = rest-same base code other places some same in
-    (
+    let rest : code % base ^ places ≡ other % base ^ places = rest-same base code other places some same in (
       sym (mod-eq_of_lt few) ∙ parts code,
       omega (arith, parts other, mod-le other (base ^ suc places), rest),
     )

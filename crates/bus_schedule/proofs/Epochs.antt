@@ -7,7 +7,6 @@ use Rattle.std.proofs.lemmas.Bool.{cases_lt, leb-true, leb-false, le-leb, lt-leb
 use Rattle.std.proofs.lemmas.Nat.{pow_pos, mul-le}
 use Rattle.asc_base.specs.Greatest.{greatest}
 use Rattle.asc_base.proofs.Extremes.{greatest-le, greatest_found, greatest_above, greatest_is}
-use Rattle.asc_base.proofs.Levels.{lt-pow}
 use Rattle.bus_schedule.specs.Timetable.{epoch_at}
 
 -- a later epoch starts no earlier
@@ -74,8 +73,7 @@ pub epoch_at-holds : (epoch time : ℕ) → 1 ≤ epoch → time < 2 ^ 40
     → (epoch * (2 ^ epoch_at epoch time - 1) ≤ time) × (time < epoch * (2 ^ (epoch_at epoch time + 1) - 1))
 unfolding epoch_at
 epoch_at-holds epoch time some small =
-    let starts = λ (i : ℕ). nat_le (epoch * (2 ^ i - 1)) time in
-    (
+    let starts = λ (i : ℕ). nat_le (epoch * (2 ^ i - 1)) time in (
       elim (greatest_found starts 40) [
         | inl none ↦ rw none (omega arith)
         | inr found ↦ leb-true (epoch * (2 ^ greatest starts 40 - 1)) time found

@@ -6,8 +6,8 @@ use Rattle.std.proofs.lemmas.List.Quantifiers.{all_pairs_push}
 use Rattle.std.proofs.lemmas.List.Elements.{All-head, All-tail, All-nil, All-push, All-append, All-weaker, All-filter, filter-append}
 use Rattle.asc_base.specs.TreeShape.{olat_of}
 use Rattle.bus_watch.specs.declared.log.Move.{Move}
-use Rattle.bus_schedule.specs.Schedule.{along, reads, reads_end, writes_start, writes, slot_moves, moves_of, moves_before_time, schedule, RiseBy, MovesRise, GoesOn}
-use Rattle.bus_schedule.proofs.SlotMoves.{move_along}
+use Rattle.bus_watch.specs.Path.{move_along, along, reads, reads_end, writes_start, writes, slot_moves}
+use Rattle.bus_schedule.specs.Schedule.{moves_of, moves_before_time, schedule, RiseBy, MovesRise, GoesOn}
 use Rattle.bus_schedule.proofs.Rising.{pairs-tail, pairs-head, pairs-append, filter-all, cut-later}
 use Rattle.bus_schedule.specs.Timetable.{Public, starts, timetable}
 use Rattle.bus_schedule.proofs.TimetableLaws.{timetable-goes-on, timetable-rises}

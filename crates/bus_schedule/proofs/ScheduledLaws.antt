@@ -14,7 +14,8 @@ use Rattle.bus_watch.specs.declared.log.Event.TheVariants.{Access, Drawn, Chosen
 use Rattle.bus_watch.specs.Log.{LogLists, with_event}
 use Rattle.bus_schedule.specs.declared.beat.Beat.{Beat}
 use Rattle.bus_schedule.specs.Timetable.{Public, AgreeTo, public_of, ended_by, count_of, choices_of, rate_at, digit_of, falls_next, beat_with, beat_at, start_at, starts_from, starts}
-use Rattle.bus_schedule.specs.Schedule.{slot_moves, moves_of}
+use Rattle.bus_watch.specs.Path.{slot_moves}
+use Rattle.bus_schedule.specs.Schedule.{moves_of}
 use Rattle.bus_schedule.specs.Shown.{start_of, leaf_of, index_of, starts_of, leaves_of, indices_of, code_of}
 use Rattle.bus_schedule.specs.Scheduled.{log_code, IsScheduled, HasChosen, Between, Inside, ShowsNoMore}
 use Rattle.bus_schedule.proofs.TimetableLaws.{length-starts, starts-next, beat-agrees, starts-agree}

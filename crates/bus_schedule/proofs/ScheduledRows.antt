@@ -1,13 +1,12 @@
 -- Logs of one slot and of none.
-use Rattle.std.proofs.Common.{◌≡◌, ℕ, ◌<◌, ◌≤◌, List, [], ◌∷◌, length, All, refl, arith}
+use Rattle.std.proofs.Common.{◌≡◌, ℕ, ◌<◌, [], ◌∷◌, refl, arith}
 use Rattle.std.proofs.lemmas.List.Elements.{All-nil, All-cons, All-head}
 use Rattle.asc_base.specs.Greatest.{greatest}
-use Rattle.bus_watch.specs.declared.log.Event.{Event}
 use Rattle.bus_watch.specs.declared.log.Event.TheVariants.{Chosen}
-use Rattle.bus_watch.specs.Log.{LogLists}
-use Rattle.bus_schedule.specs.Timetable.{Public, choices_of, bits_of, most_of, epoch_at, beat_at, starts_from, starts, timetable, ended_by, fallen}
-use Rattle.bus_schedule.specs.Schedule.{along, moves_of, schedule}
-use Rattle.bus_schedule.specs.Shown.{indices_of, code_of}
+use Rattle.bus_schedule.specs.Timetable.{choices_of, bits_of, most_of, epoch_at, beat_at, starts_from, starts, timetable, ended_by, fallen}
+use Rattle.bus_watch.specs.Path.{along}
+use Rattle.bus_schedule.specs.Schedule.{moves_of, schedule}
+use Rattle.bus_schedule.specs.Shown.{code_of}
 use Rattle.bus_schedule.specs.Scheduled.{log_code, IsScheduled}
 use Rattle.bus_schedule.specs.Rows.{two_rates, first_slot_log, idle_log}
 use Rattle.bus_schedule.proofs.TimetableLaws.{start-first}

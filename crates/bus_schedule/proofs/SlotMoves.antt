@@ -6,9 +6,10 @@ use Rattle.std.proofs.Math.Seq.{take-append-add}
 use Rattle.std.proofs.lemmas.Bool.{lt-ltb, le-ltb, cases_lt}
 use Rattle.std.proofs.lemmas.List.{take_all, take-append-le}
 use Rattle.std.proofs.lemmas.List.Elements.{filter-append}
-use Rattle.asc_base.specs.TreeShape.{bucket_of}
 use Rattle.bus_watch.specs.declared.log.Move.{Move}
-use Rattle.bus_schedule.specs.Schedule.{along, reads, reads_end, writes_start, writes, slot_moves, moves_before_time, move_time_of}
+use Rattle.bus_watch.proofs.PathLaws.{length-along}
+use Rattle.bus_watch.specs.Path.{move_along, along, reads, writes_start, writes, slot_moves}
+use Rattle.bus_schedule.specs.Schedule.{moves_before_time, move_time_of}
 
 slice_get-left : {A : Type 0} (xs ys : List A) (k : ℕ) → k < length xs → slice_get (xs ++ ys) k ≡ slice_get xs k
 slice_get-left [] ys k h = absurd (omega arith)
@@ -21,27 +22,11 @@ slice_get-right [] ys k j h = ap (slice_get ys) (let e : k ≡ j = omega arith i
 slice_get-right (x ∷ xs) ys zero j h = absurd (omega arith)
 slice_get-right (x ∷ xs) ys (suc k) j h = slice_get-right xs ys k j (omega arith)
 
--- a move along a path
-abbrev pub move_along : ℕ → Bool → ℕ → ℕ → ℕ → Move
-move_along levels write first leaf k =
-    record { time = first + 40 * k; write = write; bucket = bucket_of levels leaf k }
-
-pub along-next : (levels : ℕ) (write : Bool) (first leaf k : ℕ)
+pub along-suc : (levels : ℕ) (write : Bool) (first leaf k : ℕ)
     → along levels write first leaf (suc k)
     ≡ along levels write first leaf k ++ move_along levels write first leaf k ∷ []
 unfolding along
-along-next levels write first leaf k = refl
-
-pub length-along : (levels : ℕ) (write : Bool) (first leaf n : ℕ) → length (along levels write first leaf n) ≡ n
-unfolding along
-length-along levels write first leaf zero = refl
-length-along levels write first leaf (suc n) =
-    omega (
-      arith,
-      length-append (along levels write first leaf n)
-          (move_along levels write first leaf n ∷ []),
-      length-along levels write first leaf n,
-    )
+along-suc levels write first leaf k = refl
 
 pub length-slot : (levels start leaf : ℕ) → length (slot_moves levels start leaf) ≡ 2 * (levels + 1)
 length-slot levels start leaf =

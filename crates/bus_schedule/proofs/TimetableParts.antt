@@ -1,5 +1,5 @@
 -- Which starts are below a time, slot by slot.
-use Rattle.std.proofs.Common.{◌≡◌, ◌↔◌, ℕ, zero, suc, ◌+◌, ◌-◌, ◌*◌, ◌/◌, ◌<◌, ◌≤◌, Bool, true, false, cond, List, [], ◌∷◌, ◌++◌, length, take, get_or, refl, sym, ◌∙◌, ap, subst, inl, inr, arith, length-append, append-nil}
+use Rattle.std.proofs.Common.{◌≡◌, ◌↔◌, ℕ, zero, suc, ◌+◌, ◌-◌, ◌*◌, ◌/◌, ◌<◌, ◌≤◌, Bool, true, cond, List, [], ◌∷◌, ◌++◌, length, take, get_or, refl, sym, ◌∙◌, ap, subst, inl, inr, arith, append-nil}
 use Rattle.std.specs.Prelude.{nat_le}
 use Rattle.std.specs.List.{filter, All}
 use Rattle.std.proofs.Math.Nat.{div-mul-le_self}
@@ -8,7 +8,6 @@ use Rattle.std.proofs.lemmas.Bool.{cases_lt, le-leb, lt-leb}
 use Rattle.std.proofs.lemmas.List.{get_or_append_left, get_or-append_right, take_all, take-append-le}
 use Rattle.std.proofs.lemmas.List.Elements.{All-head, All-tail, All-weaker, filter-append}
 use Rattle.asc_base.specs.TreeShape.{olat_of}
-use Rattle.bus_schedule.specs.declared.beat.Beat.{Beat}
 use Rattle.bus_schedule.specs.Timetable.{Public, beat_at, start_at, end_at, starts, slots_within, timetable, ended_by, fallen, first_from}
 use Rattle.bus_schedule.proofs.Rising.{filter-all}
 use Rattle.bus_schedule.proofs.TimetableLaws.{length-starts, starts-next, starts-all, start-up, start-rises, starts-ended, end-before, within-far, timetable-upto, timetable-between, timetable-inside}
@@ -42,7 +41,7 @@ pub starts-first : (p : Public) (code n k : ℕ) → k ≤ n → take k (starts 
 starts-first p code zero k few =
     let none : k ≡ 0 = omega arith in
     subst (λ j. take j (starts p code 0) ≡ starts p code j) (sym none)
-    (take_all 0 (starts p code 0) (omega (arith, length-starts p code 0)) )
+    (take_all 0 (starts p code 0) (omega (arith, length-starts p code 0)))
 starts-first p code (suc n) k few =
     elim (cases_lt n k) [
       | inl all ↦ (
@@ -66,9 +65,9 @@ starts-before p code end zero h = (0, record { next = h; before = λ k below. ab
 starts-before p code end (suc n) h =
     elim (cases_lt (start_at p code n) end) [
       | inl begun ↦ (
-          suc n,
-          record { next = h; before = λ k below. omega (arith, start-order p code k n (omega arith)) },
-        )
+        suc n,
+        record { next = h; before = λ k below. omega (arith, start-order p code k n (omega arith)) },
+      )
       | inr late ↦ starts-before p code end n late
     ]
 

@@ -1,5 +1,5 @@
 -- Up to which times a log is scheduled.
-use Rattle.std.proofs.Common.{◌≡◌, ℕ, zero, suc, ◌+◌, ◌-◌, ◌*◌, ◌<◌, ◌≤◌, Bool, true, false, List, [], ◌∷◌, ◌++◌, length, refl, sym, ◌∙◌, ap, arith, append-nil, append_assoc, length-append}
+use Rattle.std.proofs.Common.{◌≡◌, ℕ, zero, suc, ◌+◌, ◌-◌, ◌*◌, ◌<◌, ◌≤◌, Bool, true, false, List, [], ◌∷◌, ◌++◌, length, sym, ◌∙◌, ap, arith, append-nil, append_assoc, length-append}
 use Rattle.std.specs.Prelude.{nat_lt}
 use Rattle.std.specs.List.{All}
 use Rattle.std.proofs.lemmas.List.Elements.{All-nil, All-push, All-append, All-weaker, filter-append}
@@ -7,12 +7,13 @@ use Rattle.asc_base.specs.TreeShape.{olat_of}
 use Rattle.bus_watch.specs.declared.log.Move.{Move}
 use Rattle.bus_watch.specs.Log.{LogLists}
 use Rattle.bus_schedule.specs.Timetable.{Public, start_at, end_at, starts, timetable}
-use Rattle.bus_schedule.specs.Schedule.{along, reads, reads_end, writes_start, writes, slot_moves, moves_of, moves_before_time, schedule}
+use Rattle.bus_watch.specs.Path.{move_along, along, reads, reads_end, writes_start, writes, slot_moves}
+use Rattle.bus_schedule.specs.Schedule.{moves_of, moves_before_time, schedule}
 use Rattle.bus_schedule.specs.Shown.{starts_of, leaves_of}
 use Rattle.bus_schedule.specs.Scheduled.{log_code, IsScheduled, Between, Inside}
 use Rattle.bus_schedule.proofs.TimetableLaws.{starts-ended, start-rises, end-before, length-starts, starts-next, timetable-between, timetable-inside}
 use Rattle.bus_schedule.proofs.TimetableParts.{fallen-between, fallen-inside}
-use Rattle.bus_schedule.proofs.SlotMoves.{move_along, along-next}
+use Rattle.bus_schedule.proofs.SlotMoves.{along-suc}
 use Rattle.bus_schedule.proofs.Rising.{filter-all, filter-none}
 use Rattle.bus_schedule.proofs.ScheduleLaws.{Within, along-within, reads-within, writes-within, cut-over, cut-inside}
 
@@ -94,7 +95,7 @@ along-parts levels write first leaf made (suc more) =
     record {
       rest = before.rest ++ last ∷ [];
       parts = ap (along levels write first leaf) next
-          ∙ along-next levels write first leaf (made + more)
+          ∙ along-suc levels write first leaf (made + more)
           ∙ ap (λ l. l ++ last ∷ []) before.parts
           ∙ append_assoc (along levels write first leaf made) before.rest (last ∷ []);
       after = All-push (λ (m : Move). first + 40 * made ≤ m.time) before.rest last before.after (omega arith);

@@ -1,11 +1,11 @@
 -- Public parts and logs on which the definitions are computed.
-use Rattle.std.specs.Prelude.{ℕ, List, [], ◌∷◌, ◌++◌, None}
+use Rattle.std.specs.Prelude.{List, [], ◌∷◌, None}
 use Rattle.asc_base.specs.declared.block.Point.TheVariants.{Dummy}
 use Rattle.bus_watch.specs.declared.log.Event.{Event}
 use Rattle.bus_watch.specs.declared.log.Event.TheVariants.{Access, Drawn}
 use Rattle.bus_watch.specs.Log.{LogLists}
 use Rattle.bus_schedule.specs.Timetable.{Public}
-use Rattle.bus_schedule.specs.Schedule.{slot_moves}
+use Rattle.bus_watch.specs.Path.{slot_moves}
 
 -- Slots of 496 cycles, and four rates. Epoch 1 starts at 32,768.
 abbrev pub four_rates : Public

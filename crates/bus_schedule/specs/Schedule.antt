@@ -1,36 +1,9 @@
--- The Schedule: the moves of slots that start at given times, each along the path of its leaf. A move takes 40 cycles.
-use Rattle.std.specs.Prelude.{◌≡◌, ◌≤◌, ℕ, zero, suc, ◌+◌, ◌-◌, ◌*◌, nat_lt, All, AllPairs, Bool, true, false, if◌then◌else◌, List, [], ◌∷◌, ◌++◌}
+-- The Schedule: the moves of slots that start at given times, each along the path of its leaf.
+use Rattle.std.specs.Prelude.{◌≡◌, ◌≤◌, ℕ, ◌+◌, ◌-◌, ◌*◌, nat_lt, All, AllPairs, if◌then◌else◌, List, [], ◌∷◌, ◌++◌}
 use Rattle.std.specs.List.{filter}
-use Rattle.asc_base.specs.TreeShape.{bucket_of}
 use Rattle.bus_watch.specs.declared.log.Move.{Move}
+use Rattle.bus_watch.specs.Path.{writes_start, slot_moves}
 use Rattle.bus_schedule.specs.Timetable.{Public, timetable}
-
--- so many moves along the path of a leaf, from the root down, the first of them at a time
-unfoldable pub along : ℕ → Bool → ℕ → ℕ → ℕ → List Move
-along levels write first leaf zero = []
-along levels write first leaf (suc level) =
-    along levels write first leaf level
-    ++ (record { time = first + 40 * level; write = write; bucket = bucket_of levels leaf level }) ∷ []
-
--- the reads of a slot, from its start on
-abbrev pub reads : ℕ → ℕ → ℕ → List Move
-reads levels start leaf = along levels false start leaf (levels + 1)
-
--- when the reads of a slot end
-abbrev pub reads_end : ℕ → ℕ → ℕ
-reads_end levels start = start + 40 * (levels + 1)
-
--- when its writes begin, 16 cycles later
-abbrev pub writes_start : ℕ → ℕ → ℕ
-writes_start levels start = reads_end levels start + 16
-
--- its writes
-abbrev pub writes : ℕ → ℕ → ℕ → List Move
-writes levels start leaf = along levels true (writes_start levels start) leaf (levels + 1)
-
--- all moves of a slot
-abbrev pub slot_moves : ℕ → ℕ → ℕ → List Move
-slot_moves levels start leaf = reads levels start leaf ++ writes levels start leaf
 
 -- the moves of slots with these starts and leaves
 unfoldable pub moves_of : ℕ → List ℕ → List ℕ → List Move

@@ -3,7 +3,8 @@
 ghost use Rattle.std.specs.Prelude.{◌≡◌, ℕ, ◌+◌, ◌*◌, ◌^◌, ◌<◌, ◌≤◌, Some, length, slice_get};
 ghost use Rattle.std.specs.Option.{option_map};
 ghost use Rattle.bus_watch.specs.declared.log.Move.{Move};
-ghost use Rattle.bus_schedule.specs.Schedule.{slot_moves, moves_before_time, move_time_of};
+ghost use Rattle.bus_watch.specs.Path.{slot_moves};
+ghost use Rattle.bus_schedule.specs.Schedule.{moves_before_time, move_time_of};
 
 /// The cycles from one move of a path to the next.
 const MOVE_CYCLES: u64 = 40;

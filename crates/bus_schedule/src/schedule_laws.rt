@@ -5,11 +5,11 @@ ghost use Rattle.std.specs.Prelude.{◌≡◌, ◌↔◌, ℕ, zero, suc, ◌+�
 ghost use Rattle.asc_base.specs.TreeShape.{olat_of, bucket_of};
 ghost use Rattle.bus_watch.specs.declared.log.Move.{Move};
 ghost use Rattle.bus_schedule.specs.Timetable.{Public, timetable};
-ghost use Rattle.bus_schedule.specs.Schedule.{along, reads, reads_end, writes_start, writes, slot_moves, moves_of, moves_before_time, schedule, RiseBy, MovesRise, GoesOn};
+ghost use Rattle.bus_watch.specs.Path.{along, reads, reads_end, writes_start, writes, slot_moves};
+ghost use Rattle.bus_schedule.specs.Schedule.{moves_of, moves_before_time, schedule, RiseBy, MovesRise, GoesOn};
 
 /// The moves of one slot more come after those of the slots before it. A slot has a read and a write of each bucket
-/// of its path; its first moves are reads, and writes follow once all reads are made. A path has one move more at each
-/// level.
+/// of its path; its first moves are reads, and writes follow once all reads are made.
 pub fn slots_join()
     ensures joined { (levels start leaf : ℕ) (starts leaves : List ℕ) → length starts ≡ length leaves
         → moves_of levels (starts ++ start ∷ []) (leaves ++ leaf ∷ [])
@@ -17,10 +17,6 @@ pub fn slots_join()
     ensures number { (levels start leaf : ℕ) → length (slot_moves levels start leaf) ≡ 2 * (levels + 1) }
     ensures reads { (levels start leaf k : ℕ) → k ≤ levels + 1
         → take k (slot_moves levels start leaf) ≡ along levels false start leaf k }
-    ensures one_more { (levels : ℕ) (write : Bool) (first leaf level : ℕ) → along levels write first leaf (suc level)
-        ≡ along levels write first leaf level
-        ++ (record { time = first + 40 * level; write = write; bucket = bucket_of levels leaf level }) ∷ [] }
-    ensures path { (levels : ℕ) (write : Bool) (first leaf made : ℕ) → length (along levels write first leaf made) ≡ made }
     ensures writes { (levels start leaf k : ℕ) → k ≤ levels + 1
         → take (levels + 1 + k) (slot_moves levels start leaf)
         ≡ reads levels start leaf ++ along levels true (writes_start levels start) leaf k }

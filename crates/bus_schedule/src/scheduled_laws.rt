@@ -12,7 +12,7 @@ ghost use Rattle.bus_watch.specs.declared.log.Move.{Move};
 ghost use Rattle.bus_watch.specs.declared.log.Event.TheVariants.{Access, Drawn, Tagged, Accepted, Chosen, Answered};
 ghost use Rattle.bus_watch.specs.Log.{LogLists, with_event};
 ghost use Rattle.bus_schedule.specs.Timetable.{Public, public_of, count_of, choices_of, rate_at, falls_next, beat_with, beat_at, start_at, end_at};
-ghost use Rattle.bus_schedule.specs.Schedule.{along, reads, writes_start, slot_moves};
+ghost use Rattle.bus_watch.specs.Path.{along, reads, writes_start, slot_moves};
 ghost use Rattle.bus_schedule.specs.Rows.{two_rates, first_slot_log, idle_log};
 ghost use Rattle.bus_schedule.specs.Shown.{starts_of, leaves_of, indices_of};
 ghost use Rattle.bus_schedule.specs.Scheduled.{log_code, IsScheduled, HasChosen, Between, Inside, ShowsNoMore};

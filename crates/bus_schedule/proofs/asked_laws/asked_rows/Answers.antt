@@ -1,10 +1,8 @@
-use Rattle.std.proofs.Common.{◌<◌, [], ◌∷◌, None, arith}
+use Rattle.std.proofs.Common.{◌<◌, [], ◌∷◌, arith}
 use Rattle.std.proofs.lemmas.List.Elements.{All-nil, All-cons, All-head}
-use Rattle.asc_base.specs.declared.block.Point.TheVariants.{Dummy}
-use Rattle.bus_watch.specs.declared.log.Event.TheVariants.{Drawn}
 use Rattle.bus_schedule.specs.Rows.{first_slot_log}
 use Rattle.bus_schedule.specs.Asked.{IsFirstFrom, ArePrompt}
-use Rattle.bus_schedule.proofs.AskedLaws.{serves-none, serves-dummy, serves-kept, serves-real, serves-each}
+use Rattle.bus_schedule.proofs.AskedLaws.{serves-each}
 use Rattle.bus_schedule.proofs.asked_laws.asked_rows.Goals as goal
 
 pub returns-clause-served : goal.returns-clause-served

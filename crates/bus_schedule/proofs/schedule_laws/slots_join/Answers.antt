@@ -1,4 +1,4 @@
-use Rattle.bus_schedule.proofs.SlotMoves.{length-slot, along-next, length-along, slot-reads, slot-writes}
+use Rattle.bus_schedule.proofs.SlotMoves.{length-slot, slot-reads, slot-writes}
 use Rattle.bus_schedule.proofs.ScheduleLaws.{moves_of-last}
 use Rattle.bus_schedule.proofs.schedule_laws.slots_join.Goals as goal
 
@@ -13,9 +13,3 @@ returns-clause-reads c = slot-reads
 
 pub returns-clause-writes : goal.returns-clause-writes
 returns-clause-writes c = slot-writes
-
-pub returns-clause-one_more : goal.returns-clause-one_more
-returns-clause-one_more c = along-next
-
-pub returns-clause-path : goal.returns-clause-path
-returns-clause-path c = length-along
