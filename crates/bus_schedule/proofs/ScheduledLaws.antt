@@ -16,7 +16,7 @@ use Rattle.bus_schedule.specs.declared.beat.Beat.{Beat}
 use Rattle.bus_schedule.specs.Timetable.{Public, AgreeTo, public_of, ended_by, count_of, choices_of, rate_at, digit_of, falls_next, beat_with, beat_at, start_at, starts_from, starts}
 use Rattle.bus_watch.specs.Path.{slot_moves}
 use Rattle.bus_schedule.specs.Schedule.{moves_of}
-use Rattle.bus_schedule.specs.Shown.{start_of, leaf_of, index_of, starts_of, leaves_of, indices_of, code_of}
+use Rattle.bus_schedule.specs.Shown.{start_of, leaf_of, index_of, starts_of, leaves_of, indices_of, AreSilent, code_of}
 use Rattle.bus_schedule.specs.Scheduled.{log_code, IsScheduled, HasChosen, Between, Inside, ShowsNoMore}
 use Rattle.bus_schedule.proofs.TimetableLaws.{length-starts, starts-next, beat-agrees, starts-agree}
 use Rattle.bus_schedule.proofs.ChoiceLaws.{choices-few, codes-few}
@@ -61,35 +61,45 @@ no-more f old new more is none =
     ∙ append-nil (flat_map f old.events)
 
 pub shown-starts : (old new : LogLists) → ShowsNoMore old new → starts_of new.events ≡ starts_of old.events
-shown-starts old new s = no-more start_of old new s.more s.events s.starts
+shown-starts old new s = no-more start_of old new s.more s.events s.silent.starts
 
 pub shown-leaves : (old new : LogLists) → ShowsNoMore old new → leaves_of new.events ≡ leaves_of old.events
-shown-leaves old new s = no-more leaf_of old new s.more s.events s.leaves
+shown-leaves old new s = no-more leaf_of old new s.more s.events s.silent.leaves
 
 pub shown-indices : (old new : LogLists) → ShowsNoMore old new → indices_of new.events ≡ indices_of old.events
-shown-indices old new s = no-more index_of old new s.more s.events s.indices
+shown-indices old new s = no-more index_of old new s.more s.events s.silent.indices
 
--- no event, and one that shows nothing
-pub shows-same : (old new : LogLists) → new.events ≡ old.events → ShowsNoMore old new
-shows-same old new is =
-    record { more = []; events = is ∙ sym (append-nil old.events); starts = refl; leaves = refl; indices = refl }
+-- no events, those of two lists, and one
+pub silent-none : AreSilent []
+silent-none = record { starts = refl; leaves = refl; indices = refl }
 
-pub shows-one : (old new : LogLists) (event : Event) → new ≡ with_event old event → start_of event ≡ []
-    → leaf_of event ≡ [] → index_of event ≡ [] → ShowsNoMore old new
-shows-one old new event is start leaf index =
-    record {
-      more = event ∷ [];
-      events = ap (λ (l : LogLists). l.events) is;
-      starts = ap (λ l. l ++ []) start;
-      leaves = ap (λ l. l ++ []) leaf;
-      indices = ap (λ l. l ++ []) index;
-    }
-
--- one run of events after another
 both-none : (f : Event → List ℕ) (xs ys : List Event) → flat_map f xs ≡ [] → flat_map f ys ≡ []
     → flat_map f (xs ++ ys) ≡ []
 both-none f xs ys first second =
     flat_map-append f xs ys ∙ ap (λ l. l ++ flat_map f ys) first ∙ second
+
+pub silent-append : (xs ys : List Event) → AreSilent xs → AreSilent ys → AreSilent (xs ++ ys)
+silent-append xs ys first second = record {
+  starts = both-none start_of xs ys first.starts second.starts;
+  leaves = both-none leaf_of xs ys first.leaves second.leaves;
+  indices = both-none index_of xs ys first.indices second.indices;
+}
+
+pub silent-one : (event : Event) → start_of event ≡ [] → leaf_of event ≡ [] → index_of event ≡ []
+    → AreSilent (event ∷ [])
+silent-one event start leaf index = record {
+  starts = ap (λ l. l ++ []) start;
+  leaves = ap (λ l. l ++ []) leaf;
+  indices = ap (λ l. l ++ []) index;
+}
+
+-- a log with them
+pub shows-same : (old new : LogLists) → new.events ≡ old.events → ShowsNoMore old new
+shows-same old new is = record { more = []; events = is ∙ sym (append-nil old.events); silent = silent-none }
+
+pub shows-more : (events : List Event) (old new : LogLists) → new.events ≡ old.events ++ events → AreSilent events
+    → ShowsNoMore old new
+shows-more events old new is silent = record { more = events; events = is; silent = silent }
 
 pub shows-joined : (old mid new : LogLists) → ShowsNoMore old mid → ShowsNoMore mid new → ShowsNoMore old new
 shows-joined old mid new first second =
@@ -97,9 +107,7 @@ shows-joined old mid new first second =
       more = first.more ++ second.more;
       events = second.events ∙ ap (λ l. l ++ second.more) first.events
           ∙ append_assoc old.events first.more second.more;
-      starts = both-none start_of first.more second.more first.starts second.starts;
-      leaves = both-none leaf_of first.more second.more first.leaves second.leaves;
-      indices = both-none index_of first.more second.more first.indices second.indices;
+      silent = silent-append first.more second.more first.silent second.silent;
     }
 
 -- a log with these choices has this code
@@ -357,8 +365,8 @@ pub scheduled-budget : (p : Public) (bits end : ℕ) (log : LogLists) → count_
 scheduled-budget p bits end log e h =
     omega (arith, scheduled-below p end log h, scheduled-codes p bits end log e h)
 
-pub scheduled-config : (config : Config) (end : ℕ) (log : LogLists) → IsConfig config → length config.rates.list ≡ 16
+pub scheduled-config : (config : Config) (end : ℕ) (log : LogLists) → IsConfig config
     → IsScheduled (public_of config) end log → log_code (public_of config) log < 2 ^ config.leak
-scheduled-config config end log is whole h =
-    let power : IsPowerTo 4 (count_of (public_of config)) = count-power config is whole in
+scheduled-config config end log is h =
+    let power : IsPowerTo 4 (count_of (public_of config)) = count-power config is in
     scheduled-budget (public_of config) power.0 end log power.2 h

@@ -5,7 +5,7 @@ use Rattle.bus_watch.specs.declared.log.Move.{Move}
 use Rattle.bus_watch.specs.Log.{LogLists}
 use Rattle.bus_schedule.specs.Timetable.{Public, count_of, beat_at, starts, timetable, fallen}
 use Rattle.bus_schedule.specs.Schedule.{moves_of, schedule}
-use Rattle.bus_schedule.specs.Shown.{starts_of, leaves_of, indices_of, code_of}
+use Rattle.bus_schedule.specs.Shown.{starts_of, leaves_of, indices_of, AreSilent, code_of}
 
 -- the code of a log: its choices are the digits
 abbrev pub log_code : Public → LogLists → ℕ
@@ -41,10 +41,8 @@ pub record Inside (p : Public) (n leaf : ℕ) (part : List Move) (log : LogLists
   pub counted : length before ≡ n
   pub moves : log.moves ≡ moves_of p.levels (starts p (log_code p log) n) before ++ part
 
--- The events that the newer log has more show nothing of slots: no start, no leaf and no choice.
+-- The newer log shows no more of slots: the events that it has more are silent.
 pub record ShowsNoMore (old new : LogLists) : Type 0 where
   pub more : List Event
   pub events : new.events ≡ old.events ++ more
-  pub starts : starts_of more ≡ []
-  pub leaves : leaves_of more ≡ []
-  pub indices : indices_of more ≡ []
+  pub silent : AreSilent more

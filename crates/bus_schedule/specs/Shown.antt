@@ -1,5 +1,5 @@
 -- What a log's events show of its slots: their starts, their leaves and the choices of rates.
-use Rattle.std.specs.Prelude.{ℕ, ◌+◌, ◌*◌, List, [], ◌∷◌}
+use Rattle.std.specs.Prelude.{◌≡◌, ℕ, ◌+◌, ◌*◌, List, [], ◌∷◌}
 use Rattle.std.specs.List.{flat_map}
 use Rattle.bus_watch.specs.declared.log.Event.{Event}
 use Rattle.bus_watch.specs.declared.log.Event.TheVariants.{Access, Drawn, Tagged, Accepted, Chosen, Answered}
@@ -39,6 +39,12 @@ index_of (Answered line value) = []
 
 abbrev pub indices_of : List Event → List ℕ
 indices_of events = flat_map index_of events
+
+-- These events show nothing of slots: no start, no leaf and no choice.
+pub record AreSilent (events : List Event) : Type 0 where
+  pub starts : starts_of events ≡ []
+  pub leaves : leaves_of events ≡ []
+  pub indices : indices_of events ≡ []
 
 -- The number whose digits to a base these are, the least first.
 unfoldable pub code_of : ℕ → List ℕ → ℕ

@@ -16,8 +16,8 @@ pub use beat::{Beat, Timing, choice_falls, first_slot, most_choices, next_slot};
 pub use moves::{move_time, moves_before};
 pub use schedule_laws::{moves_are_cut, moves_go_on, moves_rise, slots_join};
 pub use scheduled_laws::{
-    code_is_bounded, log_is_scheduled, log_starts, schedule_decides, scheduled_rows, slot_begins,
-    slot_ends, slot_ends_with_choice, slot_goes_on,
+    code_is_bounded, events_are_silent, log_is_scheduled, log_starts, schedule_decides,
+    scheduled_rows, slot_begins, slot_ends, slot_ends_with_choice, slot_goes_on,
 };
 pub use starts_laws::{
     beats_go_on, codes_compare, first_starts, slots_end_by, starts_tell_digits,

@@ -9,12 +9,13 @@ ghost use Rattle.asc_base.specs.declared.block.Message.{Message};
 ghost use Rattle.asc_base.specs.declared.block.Line.{Line};
 ghost use Rattle.asc_base.specs.declared.block.Point.{Point};
 ghost use Rattle.bus_watch.specs.declared.log.Move.{Move};
+ghost use Rattle.bus_watch.specs.declared.log.Event.{Event};
 ghost use Rattle.bus_watch.specs.declared.log.Event.TheVariants.{Access, Drawn, Tagged, Accepted, Chosen, Answered};
 ghost use Rattle.bus_watch.specs.Log.{LogLists, with_event};
 ghost use Rattle.bus_schedule.specs.Timetable.{Public, public_of, count_of, choices_of, rate_at, falls_next, beat_with, beat_at, start_at, end_at};
 ghost use Rattle.bus_watch.specs.Path.{along, reads, writes_start, slot_moves};
 ghost use Rattle.bus_schedule.specs.Rows.{two_rates, first_slot_log, idle_log};
-ghost use Rattle.bus_schedule.specs.Shown.{starts_of, leaves_of, indices_of};
+ghost use Rattle.bus_schedule.specs.Shown.{starts_of, leaves_of, indices_of, AreSilent};
 ghost use Rattle.bus_schedule.specs.Scheduled.{log_code, IsScheduled, HasChosen, Between, Inside, ShowsNoMore};
 
 /// Before the first event and move no slot is done.
@@ -71,8 +72,7 @@ pub fn slot_begins()
         → log_code p new ≡ log_code p old }
 {}
 
-/// Events that show nothing of slots keep how far a log has come, in a slot too, where moves may be made besides. So
-/// do equal events, a tag that is put on or accepted, and a line that is answered.
+/// Events that show nothing of slots keep how far a log has come, in a slot too, where moves may be made besides.
 pub fn slot_goes_on()
     ensures between { (p : Public) (n : ℕ) (old new : LogLists) → Between p n old → ShowsNoMore old new
         → new.moves ≡ old.moves → Between p n new }
@@ -80,14 +80,20 @@ pub fn slot_goes_on()
         → Inside p n leaf part old → ShowsNoMore old new → new.moves ≡ old.moves ++ more
         → Inside p n leaf (part ++ more) new }
     ensures code { (p : Public) (old new : LogLists) → ShowsNoMore old new → log_code p new ≡ log_code p old }
-    ensures joined { (old mid new : LogLists) → ShowsNoMore old mid → ShowsNoMore mid new → ShowsNoMore old new }
     ensures same { (old new : LogLists) → new.events ≡ old.events → ShowsNoMore old new }
-    ensures tagged { (message : Message) (old new : LogLists) → new ≡ with_event old (Tagged message)
+    ensures more { (events : List Event) (old new : LogLists) → new.events ≡ old.events ++ events → AreSilent events
         → ShowsNoMore old new }
-    ensures accepted { (message : Message) (tag : List ℕ) (old new : LogLists)
-        → new ≡ with_event old (Accepted message tag) → ShowsNoMore old new }
-    ensures answered { (line : ℕ) (value : Line) (old new : LogLists) → new ≡ with_event old (Answered line value)
-        → ShowsNoMore old new }
+    ensures joined { (old mid new : LogLists) → ShowsNoMore old mid → ShowsNoMore mid new → ShowsNoMore old new }
+{}
+
+/// A tag that is put on or accepted, and a line that is answered, show nothing of slots; nor do no events, nor two lists
+/// of which neither does.
+pub fn events_are_silent()
+    ensures none { AreSilent [] }
+    ensures both { (xs ys : List Event) → AreSilent xs → AreSilent ys → AreSilent (xs ++ ys) }
+    ensures tagged { (message : Message) → AreSilent (Tagged message ∷ []) }
+    ensures accepted { (message : Message) (tag : List ℕ) → AreSilent (Accepted message tag ∷ []) }
+    ensures answered { (line : ℕ) (value : Line) → AreSilent (Answered line value ∷ []) }
 {}
 
 /// A slot whose moves are all made ends where no choice falls at its end, and the rate stays.
@@ -134,7 +140,7 @@ pub fn code_is_bounded()
         → count_of p ^ length (indices_of log.events) ≤ 2 ^ p.leak }
     ensures budget { (p : Public) (bits end : ℕ) (log : LogLists) → count_of p ≡ 2 ^ bits → IsScheduled p end log
         → log_code p log < 2 ^ p.leak }
-    ensures config { (config : Config) (end : ℕ) (log : LogLists) → IsConfig config → length config.rates.list ≡ 16
+    ensures config { (config : Config) (end : ℕ) (log : LogLists) → IsConfig config
         → IsScheduled (public_of config) end log → log_code (public_of config) log < 2 ^ config.leak }
 {}
 

@@ -1,126 +1,97 @@
 //! Starts, epochs and digits that were computed by other means.
 
-use crate::{digit, epoch_of, slot_after, with_digit};
+use crate::{Timing, digit, epoch_of, first_slot, most_choices, next_slot, with_digit};
 use std::process::Abort;
 
-/// The cycles of a slot of a tree whose leaves are at level 5.
-const SLOT: u64 = 496;
-
-/// What decides the starts of slots of `SLOT` cycles.
+/// What decides the starts of slots of 496 cycles.
 #[derive(Clone, Copy)]
-struct Timing {
+struct Slots {
     rates: [u32; 4],
     /// How many of the rates count.
     count: u32,
-    /// The cycles of epoch 0.
-    epoch: u64,
-    /// How many choices are allowed.
-    choices: u32,
+    timing: Timing,
     /// The choices, as digits.
     code: u64,
 }
 
-/// The start of a slot, the first being 0. The first slot starts at the first rate.
-fn start_of(rt: &impl Abort, timing: Timing, slot: u32) -> u64 {
-    assert!(rt; timing.epoch > 0 && timing.epoch <= 1 << 40);
-    let mut rate = timing.rates[0];
-    let mut start = u64::from(rate);
-    let mut reached = 0;
-    let mut place = 0;
-    for _ in 0..slot {
-        assert!(rt; start < 1 << 39 && place < 60 && timing.count >= 1 && timing.count <= 4);
-        let end = start + SLOT;
-        let epoch = epoch_of(end, timing.epoch);
-        if epoch > reached && place < timing.choices {
-            rate = timing.rates[digit(timing.code, timing.count, place) as usize];
-            place += 1;
-        }
-        reached = epoch.max(reached);
-        start = slot_after(end, rate);
+/// Those of a tree whose leaves are at level 5.
+fn of_level_five(rates: [u32; 4], count: u32, epoch: u64, most: u32, code: u64) -> Slots {
+    let timing = Timing {
+        levels: 5,
+        epoch,
+        most,
+    };
+    Slots {
+        rates,
+        count,
+        timing,
+        code,
     }
-    start
+}
+
+/// The start of a slot, the first being 0. The first slot starts at the first rate.
+fn start_of(rt: &impl Abort, slots: Slots, slot: u32) -> u64 {
+    let timing = slots.timing;
+    assert!(rt; timing.levels <= 20 && timing.epoch > 0 && timing.epoch <= 1 << 40);
+    let mut beat = first_slot(slots.rates[0]);
+    for _ in 0..slot {
+        assert!(rt;
+            beat.next < 1 << 39 && beat.choices < 60 && slots.count >= 1 && slots.count <= 4
+        );
+        let index = digit(slots.code, slots.count, beat.choices);
+        beat = next_slot(&beat, &timing, slots.rates[index as usize]);
+    }
+    beat.next
 }
 
 #[test]
 fn starts(rt: HostRuntime) {
-    let one = Timing {
-        rates: [256, 0, 0, 0],
-        count: 1,
-        epoch: 65_536,
-        choices: 0,
-        code: 0,
-    };
-    let four = Timing {
-        rates: [256, 1_024, 4_096, 16_384],
-        count: 4,
-        epoch: 32_768,
-        choices: 1,
-        code: 3,
-    };
-    // the leakage budget allows no choice: one bit, where a choice among four rates takes two
-    let none = Timing { choices: 0, ..four };
+    let four_rates = [256, 1_024, 4_096, 16_384];
+    // the starts of the first slots, and a later one
+    let first = [256, 1_008, 1_760, 2_512, 3_264, 4_016, 4_768, 5_520];
+    let far = [
+        65_536, 66_288, 67_040, 67_792, 68_544, 69_296, 70_048, 70_800,
+    ];
+    let one = of_level_five([256, 0, 0, 0], 1, 65_536, 0, 0);
+    let four = of_level_five(four_rates, 4, 32_768, 1, 3);
+    // the leakage budget allows no choice
+    let none = of_level_five(four_rates, 4, 32_768, 0, 3);
     // the first end is in epoch 6, and all the same one choice falls there; the second falls in epoch 7
-    let skipped = Timing {
-        rates: [65_536, 256, 0, 0],
-        count: 2,
-        epoch: 1_024,
-        choices: 2,
-        code: 1,
-    };
-    for (name, timing, first, last, later) in [
-        (
-            "one",
-            one,
-            [256, 1_008, 1_760, 2_512, 3_264, 4_016, 4_768, 5_520],
-            398,
-            299_552,
-        ),
-        (
-            "none",
-            none,
-            [256, 1_008, 1_760, 2_512, 3_264, 4_016, 4_768, 5_520],
-            398,
-            299_552,
-        ),
-        (
-            "four",
-            four,
-            [256, 1_008, 1_760, 2_512, 3_264, 4_016, 4_768, 5_520],
-            43,
-            32_592,
-        ),
-        (
-            "four",
-            four,
-            [256, 1_008, 1_760, 2_512, 3_264, 4_016, 4_768, 5_520],
-            44,
-            49_472,
-        ),
-        (
-            "four",
-            four,
-            [256, 1_008, 1_760, 2_512, 3_264, 4_016, 4_768, 5_520],
-            52,
-            184_512,
-        ),
-        (
-            "skipped",
-            skipped,
-            [
-                65_536, 66_288, 67_040, 67_792, 68_544, 69_296, 70_048, 70_800,
-            ],
-            88,
-            262_272,
-        ),
+    let skipped = of_level_five([65_536, 256, 0, 0], 2, 1_024, 2, 1);
+    for (name, slots, first, slot, later) in [
+        ("one", one, first, 398, 299_552),
+        ("none", none, first, 398, 299_552),
+        ("four", four, first, 43, 32_592),
+        ("four", four, first, 44, 49_472),
+        ("four", four, first, 52, 184_512),
+        ("skipped", skipped, far, 88, 262_272),
     ] {
-        for slot in 0..8 {
+        for number in 0..8 {
             assert_eq!(rt;
-                start_of(&rt, timing, slot),
-                first[slot as usize],
-                "{name} at {slot}"
+                start_of(&rt, slots, number),
+                first[number as usize],
+                "{name} at {number}"
             );
         }
-        assert_eq!(rt; start_of(&rt, timing, last), later, "{name} at {last}");
+        assert_eq!(rt; start_of(&rt, slots, slot), later, "{name} at {slot}");
+    }
+}
+
+#[test]
+fn budgets(rt: HostRuntime) {
+    // the rates, the bits of the budget, and the choices that are allowed
+    for (count, leak, choices) in [
+        (1, 60, 0),
+        (2, 0, 0),
+        (2, 60, 60),
+        (4, 1, 0),
+        (4, 16, 8),
+        (8, 16, 5),
+        (16, 60, 15),
+        (16, 3, 0),
+    ] {
+        assert!(rt; count > 0);
+        assert_eq!(rt; most_choices(count, leak), choices, "of {count} by {leak}");
     }
 }
 

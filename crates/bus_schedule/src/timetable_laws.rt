@@ -106,12 +106,9 @@ pub fn timetables_are_few()
 /// The public part of a configuration has 1, 2, 4, 8 or 16 rates, which rise, the first rate is among them, and epoch 0
 /// isn't empty.
 pub fn public_parts()
-    ensures count { (config : Config) → IsConfig config → length config.rates.list ≡ 16
-        → count_of (public_of config) ≡ config.rates.count }
-    ensures power { (config : Config) → IsConfig config → length config.rates.list ≡ 16
-        → IsPowerTo 4 (count_of (public_of config)) }
-    ensures first { (config : Config) → IsConfig config → length config.rates.list ≡ 16
-        → (public_of config).first < count_of (public_of config) }
+    ensures count { (config : Config) → IsConfig config → count_of (public_of config) ≡ config.rates.count }
+    ensures power { (config : Config) → IsConfig config → IsPowerTo 4 (count_of (public_of config)) }
+    ensures first { (config : Config) → IsConfig config → (public_of config).first < count_of (public_of config) }
     ensures epoch { (config : Config) → IsConfig config → 1 ≤ (public_of config).epoch }
     ensures rise { (config : Config) → IsConfig config → IsStrictlyIncreasing (public_of config).rates }
 {}
