@@ -157,7 +157,7 @@ inside-more p n leaf part more old new i same moves =
     }
 
 -- a slot's start and its leaf are no choice
-begin-indices : (start : ℕ) (asked : Option ℕ) (point : Point) (leaf : Leaf) (old mid new : LogLists)
+pub begin-indices : (start : ℕ) (asked : Option ℕ) (point : Point) (leaf : Leaf) (old mid new : LogLists)
     → mid ≡ with_event old (Access start asked) → new ≡ with_event mid (Drawn point leaf)
     → indices_of new.events ≡ indices_of old.events
 begin-indices start asked point leaf old mid new first second =

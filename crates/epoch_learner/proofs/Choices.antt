@@ -13,14 +13,6 @@ use Rattle.epoch_learner.specs.Learner.{IsLearnerOf}
 use Rattle.epoch_learner.specs.declared.Learner.{Learner}
 use Rattle.epoch_learner.proofs.Facts.{has_ranges}
 
--- the bits of a choice, by the number's logarithm
-pub bits_of_is : (count log : ℕ) → 2 ^ log ≤ count → count < 2 * 2 ^ log → bits_of count ≡ log
-unfolding bits_of
-bits_of_is count log low high =
-    greatest_is (λ bits. nat_le (2 ^ bits) count) count log (omega (arith, lt-pow log))
-    (inr (le-leb _ _ low))
-    (λ j above within. lt-leb _ _ (omega (arith, pow_mono {i = log + 1} {j = j} (omega arith), pow-add 2 log 1)))
-
 -- so many choices tell no more bits than the budget has
 pub choices_fit : (config : Config) (learner : Learner) (choices : ℕ) → IsLearnerOf config learner
     → choices ≤ learner.most → learner.rates.count ^ choices ≤ 2 ^ config.leak

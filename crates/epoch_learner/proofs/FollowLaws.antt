@@ -1,23 +1,23 @@
 -- Learners and the timetable.
-use Rattle.std.proofs.Common.{◌≡◌, ℕ, ◌<◌, true, false, length, get_or, take, Option, refl, ap, sym, ◌∙◌, arith}
+use Rattle.std.proofs.Common.{◌≡◌, ℕ, ◌<◌, ◌≤◌, true, false, length, get_or, take, Option, refl, ap, sym, ◌∙◌, arith}
 use Rattle.std.proofs.Math.Nat.{pow-zero}
 use Rattle.std.proofs.lemmas.List.{get_or-take}
 use Rattle.asc_base.specs.Settings.{IsConfig}
 use Rattle.asc_base.specs.TreeShape.{olat_of}
 use Rattle.asc_base.specs.declared.settings.Config.{Config}
-use Rattle.bus_schedule.specs.Timetable.{Public, public_of, count_of, choices_of, most_of, falls_next, rate_at, Beat, first_beat, beat_after}
+use Rattle.bus_schedule.specs.declared.beat.Beat.{Beat}
+use Rattle.bus_schedule.specs.Timetable.{Public, public_of, count_of, choices_of, most_of, falls_next, rate_at, first_beat, beat_after}
+use Rattle.bus_schedule.proofs.PublicParts.{count-is}
 use Rattle.epoch_learner.specs.Learner.{rates_of, IsLearnerOf, Follows, learner_at_start, after_access, falls_at, chosen_at, after_end, next_end}
 use Rattle.epoch_learner.specs.declared.Learner.{Learner}
 use Rattle.epoch_learner.proofs.Facts.{has_ranges, chosen_at_below}
 use Rattle.epoch_learner.proofs.Steps.{after_choice_keeps, after_end_keeps}
 
 -- a new learner is one of its configuration
-pub start_is_of : (config : Config) → IsConfig config → length config.rates.list ≡ 16
-    → IsLearnerOf config (learner_at_start config)
-start_is_of config h whole = record {
+pub start_is_of : (config : Config) → IsConfig config → IsLearnerOf config (learner_at_start config)
+start_is_of config h = record {
   is_config = h;
   rates = refl;
-  places = whole;
   epoch = refl;
   olat = refl;
   most = refl;
@@ -27,11 +27,9 @@ start_is_of config h whole = record {
 }
 
 pub start_follows : (config : Config) → IsLearnerOf config (learner_at_start config)
-    → Follows (public_of config) (first_beat (public_of config)) (learner_at_start config)
+    → Follows config (first_beat (public_of config)) (learner_at_start config)
 start_follows config h = record {
-  config = config;
   is_of = h;
-  public = refl;
   rate = sym (get_or-take config.rates.count config.rates.list config.first 0 h.is_config.first);
   reached = refl;
   choices = refl;
@@ -42,7 +40,6 @@ pub access_keeps : (config : Config) (learner : Learner) (start : ℕ) (asked : 
 access_keeps config learner start asked h = record {
   is_config = h.is_config;
   rates = h.rates;
-  places = h.places;
   epoch = h.epoch;
   olat = h.olat;
   most = h.most;
@@ -51,12 +48,10 @@ access_keeps config learner start asked h = record {
   code = h.code;
 }
 
-pub access_follows : (p : Public) (beat : Beat) (learner : Learner) (start : ℕ) (asked : Option ℕ)
-    → Follows p beat learner → Follows p beat (after_access learner start asked)
-access_follows p beat learner start asked h = record {
-  config = h.config;
-  is_of = access_keeps h.config learner start asked h.is_of;
-  public = h.public;
+pub access_follows : (config : Config) (beat : Beat) (learner : Learner) (start : ℕ) (asked : Option ℕ)
+    → Follows config beat learner → Follows config beat (after_access learner start asked)
+access_follows config beat learner start asked h = record {
+  is_of = access_keeps config learner start asked h.is_of;
   rate = h.rate;
   reached = h.reached;
   choices = h.choices;
@@ -70,65 +65,74 @@ pub record HasPublic (p : Public) (learner : Learner) : Type 0 where
   pub epoch : p.epoch ≡ learner.epoch
   pub most : choices_of p ≡ learner.most
 
-pub has_public : (p : Public) (beat : Beat) (learner : Learner) → Follows p beat learner → HasPublic p learner
-has_public p beat learner h =
-    let own = ap (λ r. take r.count r.list) h.is_of.rates in
-    let same : p.rates ≡ rates_of learner = ap (λ q. q.rates) h.public ∙ sym own in
-    let count : count_of p ≡ learner.rates.count = ap length same ∙ (has_ranges h.config learner h.is_of).listed in
-    let leak : p.leak ≡ h.config.leak = ap (λ q. q.leak) h.public in
-    let number : learner.rates.count ≡ h.config.rates.count = ap (λ r. r.count) h.is_of.rates in
+pub has_public : (config : Config) (learner : Learner) → IsLearnerOf config learner → HasPublic (public_of config) learner
+has_public config learner h =
+    let p = public_of config in
+    let same : p.rates ≡ rates_of learner = sym (ap (λ r. take r.count r.list) h.rates) in
+    let count : count_of p ≡ learner.rates.count = ap length same ∙ (has_ranges config learner h).listed in
+    let number : learner.rates.count ≡ config.rates.count = ap (λ r. r.count) h.rates in
     record {
       rates = same;
       count = count;
-      olat = ap (λ q. olat_of q.levels) h.public ∙ sym h.is_of.olat;
-      epoch = ap (λ q. q.epoch) h.public ∙ sym h.is_of.epoch;
-      most = ap (λ n. most_of n p.leak) (count ∙ number) ∙ ap (λ n. most_of h.config.rates.count n) leak ∙ sym h.is_of.most;
+      olat = sym h.olat;
+      epoch = sym h.epoch;
+      most = ap (λ n. most_of n config.leak) (count ∙ number) ∙ sym h.most;
     }
 
 -- a choice falls where the timetable has one
-pub falls_as_next : (p : Public) (beat : Beat) (learner : Learner) → Follows p beat learner
-    → falls_at learner (next_end p beat) ≡ falls_next p beat
-falls_as_next p beat learner h =
-    let public = has_public p beat learner h in
+pub falls_as_next : (config : Config) (beat : Beat) (learner : Learner) → Follows config beat learner
+    → falls_at learner (next_end (public_of config) beat) ≡ falls_next (public_of config) beat
+falls_as_next config beat learner h =
+    let public = has_public config learner h.is_of in
     rw (public.epoch, public.most, h.reached, h.choices) refl
 
 -- a rate of the list is one of the public rates
-pub public_rate : (p : Public) (beat : Beat) (learner : Learner) (index : ℕ) → Follows p beat learner
-    → index < learner.rates.count → rate_at p.rates index ≡ rate_at learner.rates.list index
-public_rate p beat learner index h below =
-    ap (λ rates. get_or rates index 0) (has_public p beat learner h).rates
+pub public_rate : (config : Config) (learner : Learner) (index : ℕ) → IsLearnerOf config learner
+    → index < learner.rates.count → rate_at (public_of config).rates index ≡ rate_at learner.rates.list index
+public_rate config learner index h below =
+    ap (λ rates. get_or rates index 0) (has_public config learner h).rates
     ∙ get_or-take learner.rates.count learner.rates.list index 0 below
 
 -- an end where no choice falls
-pub end_passed : (p : Public) (beat : Beat) (learner : Learner) (index : ℕ) → Follows p beat learner
-    → falls_next p beat ≡ false → Follows p (beat_after p beat index) (after_end learner (next_end p beat))
-end_passed p beat learner index h none =
-    let public = has_public p beat learner h in
-    let own : falls_at learner (next_end p beat) ≡ false = falls_as_next p beat learner h ∙ none in
-    let kept = after_end_keeps h.config learner (next_end p beat) h.is_of in
+pub end_passed : (config : Config) (beat : Beat) (learner : Learner) (index : ℕ) → Follows config beat learner
+    → falls_next (public_of config) beat ≡ false
+    → Follows config (beat_after (public_of config) beat index) (after_end learner (next_end (public_of config) beat))
+end_passed config beat learner index h none =
+    let public = has_public config learner h.is_of in
+    let end = next_end (public_of config) beat in
+    let own : falls_at learner end ≡ false = falls_as_next config beat learner h ∙ none in
+    let kept = after_end_keeps config learner end h.is_of in
     rw (none, own) record {
-      config = h.config;
       is_of = rw own at kept;
-      public = h.public;
       rate = h.rate;
       reached = rw (public.epoch, h.reached) refl;
       choices = h.choices;
     }
 
 -- an end where one falls
-pub end_chosen : (p : Public) (beat : Beat) (learner : Learner) → Follows p beat learner
-    → falls_next p beat ≡ true
-    → Follows p (beat_after p beat (chosen_at learner (next_end p beat))) (after_end learner (next_end p beat))
-end_chosen p beat learner h some =
-    let public = has_public p beat learner h in
-    let end = next_end p beat in
-    let own : falls_at learner end ≡ true = falls_as_next p beat learner h ∙ some in
-    let below = chosen_at_below learner end (has_ranges h.config learner h.is_of) in
+pub end_chosen : (config : Config) (beat : Beat) (learner : Learner) → Follows config beat learner
+    → falls_next (public_of config) beat ≡ true
+    → Follows config (beat_after (public_of config) beat (chosen_at learner (next_end (public_of config) beat)))
+    (after_end learner (next_end (public_of config) beat))
+end_chosen config beat learner h some =
+    let public = has_public config learner h.is_of in
+    let end = next_end (public_of config) beat in
+    let own : falls_at learner end ≡ true = falls_as_next config beat learner h ∙ some in
+    let below = chosen_at_below learner end (has_ranges config learner h.is_of) in
     rw (some, own) record {
-      config = h.config;
-      is_of = after_choice_keeps h.config learner end h.is_of own;
-      public = h.public;
-      rate = sym (public_rate p beat learner (chosen_at learner end) h below);
+      is_of = after_choice_keeps config learner end h.is_of own;
+      rate = sym (public_rate config learner (chosen_at learner end) h.is_of below);
       reached = rw (public.epoch, h.reached) refl;
       choices = rw h.choices refl;
     }
+
+-- the rate in force is one of the configuration's
+pub rate_bounds : (config : Config) (learner : Learner) → IsLearnerOf config learner
+    → (64 ≤ learner.rate) × (learner.rate ≤ 1048576)
+rate_bounds config learner h =
+    let index : ℕ = h.in_force.0 in
+    let counted : length (take config.rates.count config.rates.list) ≡ config.rates.count = count-is config h.is_config in
+    let bounds = h.is_config.rates.bounds index 0 (omega (arith, h.in_force.1)) in
+    let same : get_or (take config.rates.count config.rates.list) index 0 ≡ learner.rate =
+    get_or-take config.rates.count config.rates.list index 0 h.in_force.1 ∙ sym h.in_force.2 in
+    (omega (arith, bounds.0, same), omega (arith, bounds.1, same))

@@ -4,4 +4,5 @@ pub mod FollowLaws
 pub mod HeardLaws
 pub mod Nearest
 pub mod RuleLaws
+pub mod StandLaws
 pub mod Steps

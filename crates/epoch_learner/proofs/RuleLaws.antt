@@ -6,7 +6,8 @@ use Rattle.asc_base.specs.TreeShape.{olat_of}
 use Rattle.asc_base.specs.declared.settings.Config.{Config}
 use Rattle.bus_watch.specs.declared.log.Event.{Event}
 use Rattle.bus_watch.specs.declared.log.Event.TheVariants.{Access, Chosen}
-use Rattle.bus_schedule.specs.Timetable.{Public, Beat, public_of, count_of, falls_next}
+use Rattle.bus_schedule.specs.declared.beat.Beat.{Beat}
+use Rattle.bus_schedule.specs.Timetable.{Public, public_of, count_of, falls_next}
 use Rattle.bus_schedule.specs.Shown.{code_of}
 use Rattle.bus_schedule.proofs.CodeLaws.{code-append}
 use Rattle.epoch_learner.specs.LearnerRule.{Seen, real_count, waiting, learner_rule}
@@ -62,11 +63,14 @@ pub access_ended : (p : Public) (events : List Event) (start : ℕ) (asked : Opt
 access_ended p events start asked = rw (heard_of_more (olat_of p.levels) nothing_heard events (Access start asked)) refl
 
 -- a choice of a learner is by the rule over the log
-pub choice_by_rule : (p : Public) (beat : Beat) (learner : Learner) (events : List Event) → Follows p beat learner
-    → Remembers learner (told_by p events) → (told_by p events).ended ≡ next_end p beat → ChoosesByRule p events
-    → ChoosesByRule p (events ++ Chosen (chosen_at learner (next_end p beat)) ∷ [])
-choice_by_rule p beat learner events follows remembers last h =
-    let public = has_public p beat learner follows in
+pub choice_by_rule : (config : Config) (beat : Beat) (learner : Learner) (events : List Event)
+    → Follows config beat learner → Remembers learner (told_by (public_of config) events)
+    → (told_by (public_of config) events).ended ≡ next_end (public_of config) beat
+    → ChoosesByRule (public_of config) events
+    → ChoosesByRule (public_of config) (events ++ Chosen (chosen_at learner (next_end (public_of config) beat)) ∷ [])
+choice_by_rule config beat learner events follows remembers last h =
+    let p = public_of config in
+    let public = has_public config learner follows.is_of in
     let told = told_by p events in
     by_rule_more p.rates (olat_of p.levels) nothing_heard events (Chosen (chosen_at learner (next_end p beat))) h
     (sym (rule_by_sums learner told (next_end p beat) remembers)
@@ -74,13 +78,15 @@ choice_by_rule p beat learner events follows remembers last h =
     ∙ ap (λ olat. learner_rule p.rates olat told.accesses (next_end p beat - told.since)) (sym public.olat)
     ∙ ap (λ end. learner_rule p.rates (olat_of p.levels) told.accesses (end - told.since)) (sym last))
 
-pub choice_heard : (p : Public) (beat : Beat) (learner : Learner) (events : List Event) (index : ℕ)
-    → Follows p beat learner
-    → falls_next p beat ≡ true → (told_by p events).ended ≡ next_end p beat
-    → Remembers (after_end learner (next_end p beat)) (told_by p (events ++ Chosen index ∷ []))
-choice_heard p beat learner events index follows some last =
+pub choice_heard : (config : Config) (beat : Beat) (learner : Learner) (events : List Event) (index : ℕ)
+    → Follows config beat learner → falls_next (public_of config) beat ≡ true
+    → (told_by (public_of config) events).ended ≡ next_end (public_of config) beat
+    → Remembers (after_end learner (next_end (public_of config) beat))
+    (told_by (public_of config) (events ++ Chosen index ∷ []))
+choice_heard config beat learner events index follows some last =
+    let p = public_of config in
     rw (heard_of_more (olat_of p.levels) nothing_heard events (Chosen index))
-    (choice_remembers learner (told_by p events) (next_end p beat) (falls_as_next p beat learner follows ∙ some) last)
+    (choice_remembers learner (told_by p events) (next_end p beat) (falls_as_next config beat learner follows ∙ some) last)
 
 pub start_code : (config : Config) → HasCode (public_of config) [] (learner_at_start config)
 unfolding code_of
@@ -94,11 +100,12 @@ pub end_code : (p : Public) (indices : List ℕ) (learner : Learner) (end : ℕ)
     → HasCode p indices learner → HasCode p indices (after_end learner end)
 end_code p indices learner end none h = rw none record { choices = h.choices; code = h.code }
 
-pub choice_code : (p : Public) (beat : Beat) (indices : List ℕ) (learner : Learner) (end : ℕ) → Follows p beat learner
-    → falls_at learner end ≡ true → HasCode p indices learner
-    → HasCode p (indices ++ chosen_at learner end ∷ []) (after_end learner end)
-choice_code p beat indices learner end follows some h =
-    let public = has_public p beat learner follows in
+pub choice_code : (config : Config) (beat : Beat) (indices : List ℕ) (learner : Learner) (end : ℕ)
+    → Follows config beat learner → falls_at learner end ≡ true → HasCode (public_of config) indices learner
+    → HasCode (public_of config) (indices ++ chosen_at learner end ∷ []) (after_end learner end)
+choice_code config beat indices learner end follows some h =
+    let p = public_of config in
+    let public = has_public config learner follows.is_of in
     rw some record {
       choices = omega (arith, length-append indices (chosen_at learner end ∷ []), h.choices);
       code =

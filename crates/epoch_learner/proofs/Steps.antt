@@ -54,7 +54,6 @@ after_choice_keeps config learner end h e =
     record {
       is_config = h.is_config;
       rates = h.rates;
-      places = h.places;
       epoch = h.epoch;
       olat = h.olat;
       most = h.most;
@@ -73,8 +72,7 @@ after_end_keeps config learner end h =
       | inr none ↦ rw none record {
         is_config = h.is_config;
         rates = h.rates;
-        places = h.places;
-        epoch = h.epoch;
+          epoch = h.epoch;
         olat = h.olat;
         most = h.most;
         in_force = h.in_force;

@@ -4,18 +4,18 @@ use Rattle.std.specs.Int.{abs_diff}
 use Rattle.asc_base.specs.Settings.{IsConfig}
 use Rattle.asc_base.specs.TreeShape.{olat_of}
 use Rattle.asc_base.specs.declared.settings.Config.{Config}
-use Rattle.bus_schedule.specs.Timetable.{Public, public_of, count_of, most_of, epoch_at, falls, rate_at, Beat}
+use Rattle.bus_schedule.specs.declared.beat.Beat.{Beat}
+use Rattle.bus_schedule.specs.Timetable.{Public, count_of, most_of, epoch_at, falls, rate_at}
 use Rattle.bus_schedule.specs.Shown.{code_of}
 use Rattle.epoch_learner.specs.LearnerRule.{real_of, waste_of, real_count, waiting, idle_per_access, index_by_sums, learner_rule}
 use Rattle.epoch_learner.specs.Heard.{Heard}
 use Rattle.epoch_learner.specs.declared.Learner.{Learner}
 
--- A learner of a configuration: its numbers are those of the configuration, whose list of rates has 16 places; one of
--- the rates is in force, no more choices fell than are allowed, and the code has as many digits as choices.
+-- A learner of a configuration: its numbers are those of the configuration; one of the rates is in force, no more
+-- choices fell than are allowed, and the code has as many digits as choices.
 pub record IsLearnerOf (config : Config) (learner : Learner) : Type 0 where
   pub is_config : IsConfig config
   pub rates : learner.rates ≡ config.rates
-  pub places : length learner.rates.list ≡ 16
   pub epoch : learner.epoch ≡ config.epoch
   pub olat : learner.olat ≡ olat_of config.shape.levels
   pub most : learner.most ≡ most_of config.rates.count config.leak
@@ -106,11 +106,9 @@ choice_at learner heard end =
     then Some (learner_rule (rates_of learner) learner.olat heard.accesses (end - heard.since))
     else None
 
--- A learner stands where the timetable does.
-pub record Follows (p : Public) (beat : Beat) (learner : Learner) : Type 0 where
-  pub config : Config
+-- A learner of a configuration stands where its timetable does.
+pub record Follows (config : Config) (beat : Beat) (learner : Learner) : Type 0 where
   pub is_of : IsLearnerOf config learner
-  pub public : p ≡ public_of config
   pub rate : learner.rate ≡ beat.rate
   pub reached : learner.reached ≡ beat.reached
   pub choices : learner.choices ≡ beat.choices

@@ -1,3 +1,4 @@
 pub mod Heard
 pub mod LearnerRule
 pub mod Learner
+pub mod Stands

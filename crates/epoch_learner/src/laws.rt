@@ -7,7 +7,8 @@ ghost use Rattle.asc_base.specs.TreeShape.{olat_of};
 ghost use Rattle.asc_base.specs.declared.settings.Config.{Config};
 ghost use Rattle.bus_watch.specs.declared.log.Event.{Event};
 ghost use Rattle.bus_watch.specs.declared.log.Event.TheVariants.{Access, Chosen};
-ghost use Rattle.bus_schedule.specs.Timetable.{Public, Beat, bits_of, rate_at, public_of, first_beat, beat_after, falls_next};
+ghost use Rattle.bus_schedule.specs.declared.beat.Beat.{Beat};
+ghost use Rattle.bus_schedule.specs.Timetable.{Public, bits_of, rate_at, public_of, first_beat, beat_after, falls_next};
 ghost use Rattle.bus_schedule.specs.Shown.{starts_of, indices_of};
 ghost use Rattle.epoch_learner.specs.LearnerRule.{nearest, learner_rule};
 ghost use Rattle.epoch_learner.specs.Heard.{Heard, nothing_heard, with_access, with_choice, hears, heard_of, told_by, IsByRule, AreByRule, ChoosesByRule};
@@ -18,21 +19,25 @@ ghost use Rattle.epoch_learner.specs.Learner.{IsLearnerOf, Follows, Remembers, H
 /// after it.
 pub fn learners_follow()
     ensures start { (config : Config) → IsLearnerOf config (learner_at_start config)
-        → Follows (public_of config) (first_beat (public_of config)) (learner_at_start config) }
-    ensures access { (p : Public) (beat : Beat) (learner : Learner) (start : ℕ) (asked : Option ℕ)
-        → Follows p beat learner → Follows p beat (after_access learner start asked) }
+        → Follows config (first_beat (public_of config)) (learner_at_start config) }
+    ensures access { (config : Config) (beat : Beat) (learner : Learner) (start : ℕ) (asked : Option ℕ)
+        → Follows config beat learner → Follows config beat (after_access learner start asked) }
 {}
 
 /// At the end of the slot that is next a choice falls exactly where the timetable has one. The learner stands again
 /// where the timetable does, with the index that it chose; where no choice falls the index is of no matter.
 pub fn ends_follow()
-    ensures falls { (p : Public) (beat : Beat) (learner : Learner) → Follows p beat learner
-        → falls_at learner (next_end p beat) ≡ falls_next p beat }
-    ensures passed { (p : Public) (beat : Beat) (learner : Learner) (index : ℕ) → Follows p beat learner
-        → falls_next p beat ≡ false → Follows p (beat_after p beat index) (after_end learner (next_end p beat)) }
-    ensures chosen { (p : Public) (beat : Beat) (learner : Learner) → Follows p beat learner
-        → falls_next p beat ≡ true
-        → Follows p (beat_after p beat (chosen_at learner (next_end p beat))) (after_end learner (next_end p beat)) }
+    ensures falls { (config : Config) (beat : Beat) (learner : Learner) → Follows config beat learner
+        → falls_at learner (next_end (public_of config) beat) ≡ falls_next (public_of config) beat }
+    ensures passed { (config : Config) (beat : Beat) (learner : Learner) (index : ℕ) → Follows config beat learner
+        → falls_next (public_of config) beat ≡ false
+        → Follows config (beat_after (public_of config) beat index)
+        (after_end learner (next_end (public_of config) beat)) }
+    ensures chosen { (config : Config) (beat : Beat) (learner : Learner) → Follows config beat learner
+        → falls_next (public_of config) beat ≡ true
+        → Follows config
+        (beat_after (public_of config) beat (chosen_at learner (next_end (public_of config) beat)))
+        (after_end learner (next_end (public_of config) beat)) }
 {}
 
 /// A new learner remembers nothing, each access is remembered, and at a choice all before it is forgotten.
@@ -57,9 +62,9 @@ pub fn codes_grow()
         → HasCode p indices learner → HasCode p indices (after_access learner start asked) }
     ensures passed { (p : Public) (indices : List ℕ) (learner : Learner) (end : ℕ) → falls_at learner end ≡ false
         → HasCode p indices learner → HasCode p indices (after_end learner end) }
-    ensures chosen { (p : Public) (beat : Beat) (indices : List ℕ) (learner : Learner) (end : ℕ)
-        → Follows p beat learner → falls_at learner end ≡ true → HasCode p indices learner
-        → HasCode p (indices ++ chosen_at learner end ∷ []) (after_end learner end) }
+    ensures chosen { (config : Config) (beat : Beat) (indices : List ℕ) (learner : Learner) (end : ℕ)
+        → Follows config beat learner → falls_at learner end ≡ true → HasCode (public_of config) indices learner
+        → HasCode (public_of config) (indices ++ chosen_at learner end ∷ []) (after_end learner end) }
 {}
 
 /// What a log tells goes on with each event, and only starts of slots and choices of rates tell anything. Choices
@@ -87,16 +92,21 @@ pub fn logs_are_remembered()
         → (told_by p (events ++ Access start asked ∷ [])).ended ≡ start + olat_of p.levels }
     ensures silent { (p : Public) (events more : List Event) → starts_of more ≡ [] → indices_of more ≡ []
         → told_by p (events ++ more) ≡ told_by p events }
-    ensures chosen { (p : Public) (beat : Beat) (learner : Learner) (events : List Event) (index : ℕ)
-        → Follows p beat learner → falls_next p beat ≡ true → (told_by p events).ended ≡ next_end p beat
-        → Remembers (after_end learner (next_end p beat)) (told_by p (events ++ Chosen index ∷ [])) }
+    ensures chosen { (config : Config) (beat : Beat) (learner : Learner) (events : List Event) (index : ℕ)
+        → Follows config beat learner → falls_next (public_of config) beat ≡ true
+        → (told_by (public_of config) events).ended ≡ next_end (public_of config) beat
+        → Remembers (after_end learner (next_end (public_of config) beat))
+        (told_by (public_of config) (events ++ Chosen index ∷ [])) }
 {}
 
 /// A learner that stands where the timetable does and remembers what a log tells chooses by the rule over that log.
 pub fn learners_choose_by_rule()
-    ensures { (p : Public) (beat : Beat) (learner : Learner) (events : List Event) → Follows p beat learner
-        → Remembers learner (told_by p events) → (told_by p events).ended ≡ next_end p beat → ChoosesByRule p events
-        → ChoosesByRule p (events ++ Chosen (chosen_at learner (next_end p beat)) ∷ []) }
+    ensures { (config : Config) (beat : Beat) (learner : Learner) (events : List Event) → Follows config beat learner
+        → Remembers learner (told_by (public_of config) events)
+        → (told_by (public_of config) events).ended ≡ next_end (public_of config) beat
+        → ChoosesByRule (public_of config) events
+        → ChoosesByRule (public_of config)
+        (events ++ Chosen (chosen_at learner (next_end (public_of config) beat)) ∷ []) }
 {}
 
 /// Of rates that rise, no rate is nearer to a number than the nearest, and none that is as near is smaller.

@@ -10,14 +10,14 @@
 ghost use Rattle.std.specs.Prelude.{◌≡◌, ℕ, ◌+◌, ◌-◌, ◌^◌, ◌<◌, ◌≤◌, IfSome, take};
 ghost use Rattle.std.specs.Int.{abs_diff};
 ghost use Rattle.asc_base.specs.declared.settings.Config.{Config as ConfigValue};
-ghost use Rattle.asc_base.specs.Settings.{AreRates, IsConfig};
-ghost use Rattle.bus_schedule.specs.Timetable.{public_of, most_of, rate_at, first_beat};
+ghost use Rattle.asc_base.specs.Settings.{AreRates, IsConfig, IsFromTo};
+ghost use Rattle.bus_schedule.specs.Timetable.{public_of, rate_at, first_beat};
 ghost use Rattle.epoch_learner.specs.LearnerRule.{waiting, real_count, nearest};
 ghost use Rattle.epoch_learner.specs.Heard.{Heard};
 ghost use Rattle.epoch_learner.specs.Learner.{IsLearnerOf, IsLearner, learner_at_start, after_access, chosen_at, after_end, choice_by_sums, choice_at, Remembers, Follows};
 
 use asc_base::{Config, Rates};
-use bus_schedule::{epoch_of, with_digit};
+use bus_schedule::{epoch_of, most_choices, with_digit};
 
 mod laws;
 #[cfg(test)]
@@ -61,7 +61,7 @@ impl Learner {
         requires { IsConfig config.now }
         ensures start { result ≡ learner_at_start config.now }
         ensures learner { IsLearnerOf config.now result }
-        ensures follows { Follows (public_of config.now) (first_beat (public_of config.now)) result }
+        ensures follows { Follows config.now (first_beat (public_of config.now)) result }
     {
         Learner {
             rates: config.rates,
@@ -146,9 +146,10 @@ impl Learner {
         nearest_rate(&self.rates, idle / self.real)
     }
 
-    /// The rate in force, in cycles.
+    /// The rate in force, in cycles, from 64 to 1,048,576.
     pub fn rate(&self) -> u32
-        ensures { result ≡ self.now.rate }
+        ensures value { result ≡ self.now.rate }
+        ensures bounds { (config : ConfigValue) → IsLearnerOf config self.now → IsFromTo 64 1048576 result }
     {
         self.rate
     }
@@ -166,14 +167,6 @@ impl Learner {
     {
         self.choices
     }
-}
-
-/// How many choices are allowed among so many rates by a budget of so many bits.
-fn most_choices(count: u32, leak: u32) -> u32
-    requires count { 0 < count }
-    ensures { result ≡ most_of count leak }
-{
-    if count <= 1 { 0 } else { leak / count.ilog2() }
 }
 
 /// The index of the rate that is nearest to a number, the smaller on a tie.
