@@ -1,5 +1,6 @@
 pub mod Choices
 pub mod Facts
+pub mod FirstSlot
 pub mod FollowLaws
 pub mod HeardLaws
 pub mod Nearest

@@ -27,7 +27,7 @@ use Rattle.bus_schedule.proofs.Windows.{scheduled-between, scheduled-reads, sche
 use Rattle.epoch_learner.specs.Heard.{nothing_heard, heard_of, told_by, ChoosesByRule}
 use Rattle.epoch_learner.specs.LearnerRule.{real_count, waiting}
 use Rattle.epoch_learner.specs.Learner.{IsLearnerOf, Follows, Remembers, HasCode, learner_at_start, after_access, after_end, falls_at, chosen_at, choice_by_sums, next_end}
-use Rattle.epoch_learner.specs.Stands.{SumsTo, IsInStep, Stands, StandsIn, IsFirstFor}
+use Rattle.epoch_learner.specs.Stands.{SumsTo, IsInStep, Stands, StandsIn, IsFirstFor, KeepsPace}
 use Rattle.epoch_learner.specs.declared.Learner.{Learner}
 use Rattle.epoch_learner.proofs.Facts.{has_ranges, chosen_at_below}
 use Rattle.epoch_learner.proofs.FollowLaws.{start_is_of, start_follows, access_follows, has_public, falls_as_next, end_passed, end_chosen, rate_bounds}
@@ -288,28 +288,35 @@ stands_chosen config n start leaf end index learner old new s end_is answer note
       };
     }
 
--- up to which times the log is scheduled
-pub stands_scheduled : (config : Config) (n last next end : ℕ) (learner : Learner) (log : LogLists)
-    → Stands config n last next learner log → last ≤ end → end ≤ next → IsScheduled (public_of config) end log
-stands_scheduled config n last next end learner log s past before =
-    scheduled-between (public_of config) n end log s.between (omega (arith, s.last_is, past)) (omega (arith, s.next_is))
+-- up to which times the log keeps the pace
+paced : (config : Config) (beat : Beat) (last end : ℕ) (learner : Learner) (log : LogLists)
+    → IsInStep config beat last learner log.events → IsScheduled (public_of config) end log → KeepsPace config end log
+paced config beat last end learner log s h = record { scheduled = h; rule = s.rule; prompt = s.prompt }
 
-pub reads_scheduled : (config : Config) (n start leaf made end : ℕ) (learner : Learner) (log : LogLists)
+pub stands_pace : (config : Config) (n last next end : ℕ) (learner : Learner) (log : LogLists)
+    → Stands config n last next learner log → last ≤ end → end ≤ next → KeepsPace config end log
+stands_pace config n last next end learner log s past before =
+    paced config (beat_of config n log) last end learner log s.step
+    (scheduled-between (public_of config) n end log s.between (omega (arith, s.last_is, past)) (omega (arith, s.next_is)))
+
+pub reads_pace : (config : Config) (n start leaf made end : ℕ) (learner : Learner) (log : LogLists)
     → StandsIn config n start leaf (along config.shape.levels false start leaf made) learner log
     → made ≤ config.shape.levels + 1 → start < end → start + 40 * made < end + 40 → end ≤ start + 40 * made
-    → IsScheduled (public_of config) end log
-reads_scheduled config n start leaf made end learner log s =
-    scheduled-reads (public_of config) n start leaf made end log s.inside s.start_is
+    → KeepsPace config end log
+reads_pace config n start leaf made end learner log s few begun after until =
+    paced config (beat_of config n log) (start + olat_of config.shape.levels) end learner log s.step
+    (scheduled-reads (public_of config) n start leaf made end log s.inside s.start_is few begun after until)
 
-pub writes_scheduled : (config : Config) (n start leaf made end : ℕ) (learner : Learner) (log : LogLists)
+pub writes_pace : (config : Config) (n start leaf made end : ℕ) (learner : Learner) (log : LogLists)
     → StandsIn config n start leaf
     (reads config.shape.levels start leaf
     ++ along config.shape.levels true (writes_start config.shape.levels start) leaf made) learner log
     → made ≤ config.shape.levels + 1 → writes_start config.shape.levels start + 40 * made < end + 40
     → end ≤ writes_start config.shape.levels start + 40 * made → end < start + olat_of config.shape.levels
-    → IsScheduled (public_of config) end log
-writes_scheduled config n start leaf made end learner log s =
-    scheduled-writes (public_of config) n start leaf made end log s.inside s.start_is
+    → KeepsPace config end log
+writes_pace config n start leaf made end learner log s few after until over =
+    paced config (beat_of config n log) (start + olat_of config.shape.levels) end learner log s.step
+    (scheduled-writes (public_of config) n start leaf made end log s.inside s.start_is few after until over)
 
 -- the next slot starts at the last end plus the rate in force
 by_rate : (p : Public) (code n : ℕ) → start_at p code n ≡ end_at p code n + (beat_at p code n).rate

@@ -1,15 +1,19 @@
 -- How far a learner and a log have come in the timetable of a configuration, between two slots and in one.
-use Rattle.std.specs.Prelude.{◌≡◌, ℕ, suc, ◌+◌, ◌*◌, ◌<◌, ◌≤◌, List, Option, IfSome}
+use Rattle.std.specs.Prelude.{◌≡◌, ℕ, ◌+◌, ◌*◌, ◌<◌, ◌≤◌, List, [], ◌∷◌, Option, None, Some, IfSome}
 use Rattle.asc_base.specs.TreeShape.{olat_of}
+use Rattle.asc_base.specs.declared.block.Leaf.{Leaf}
+use Rattle.asc_base.specs.declared.block.Point.TheVariants.{Dummy}
 use Rattle.asc_base.specs.declared.settings.Config.{Config}
 use Rattle.bus_watch.specs.declared.log.Event.{Event}
+use Rattle.bus_watch.specs.declared.log.Event.TheVariants.{Access, Drawn, Chosen}
 use Rattle.bus_watch.specs.declared.log.Move.{Move}
-use Rattle.bus_watch.specs.Log.{LogLists}
+use Rattle.bus_watch.specs.Log.{LogLists, with_event}
+use Rattle.bus_watch.specs.Path.{slot_moves}
 use Rattle.bus_schedule.specs.declared.beat.Beat.{Beat}
-use Rattle.bus_schedule.specs.Timetable.{public_of, beat_at, start_at, end_at}
+use Rattle.bus_schedule.specs.Timetable.{public_of, rate_at, beat_at, start_at, end_at}
 use Rattle.bus_schedule.specs.Shown.{indices_of}
 use Rattle.bus_schedule.specs.Asked.{ServesPromptly}
-use Rattle.bus_schedule.specs.Scheduled.{log_code, Between, Inside}
+use Rattle.bus_schedule.specs.Scheduled.{log_code, IsScheduled, Between, Inside}
 use Rattle.epoch_learner.specs.Heard.{told_by, ChoosesByRule}
 use Rattle.epoch_learner.specs.Learner.{Follows, Remembers, HasCode}
 use Rattle.epoch_learner.specs.declared.Learner.{Learner}
@@ -53,3 +57,23 @@ pub record StandsIn (config : Config) (n start leaf : ℕ) (part : List Move) (l
 -- before it did, which ended less than a slot's cycles later. A dummy wasn't asked for.
 abbrev pub IsFirstFor : (olat last next : ℕ) (asked : Option ℕ) → Type 0
 IsFirstFor olat last next asked = IfSome asked (λ time. (time ≤ next) × (last < time + olat))
+
+-- Up to a time a log keeps the pace of a configuration: it is scheduled, each choice is by the rule, and each real slot is
+-- the first from its time on.
+pub record KeepsPace (config : Config) (end : ℕ) (log : LogLists) : Type 0 where
+  pub scheduled : IsScheduled (public_of config) end log
+  pub rule : ChoosesByRule (public_of config) log.events
+  pub prompt : ServesPromptly log.events
+
+-- the log of the first slot of a configuration, a dummy with this leaf, before a choice at its end
+abbrev pub one_slot : Config → Leaf → LogLists
+one_slot config leaf = record {
+  moves = slot_moves config.shape.levels (rate_at config.rates.list config.first) leaf.0;
+  events = Access (rate_at config.rates.list config.first) None ∷ Drawn (Dummy 0) leaf ∷ [];
+  altered = [];
+}
+
+-- the log with a choice more, if there is one
+abbrev pub noted : Option ℕ → LogLists → LogLists
+noted None log = log
+noted (Some index) log = with_event log (Chosen index)

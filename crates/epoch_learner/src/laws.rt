@@ -3,6 +3,7 @@
 ghost use Rattle.std.specs.Prelude.{◌≡◌, ℕ, ◌+◌, ◌-◌, ◌^◌, ◌<◌, ◌≤◌, true, false, List, [], ◌∷◌, ◌++◌, Option, length};
 ghost use Rattle.std.specs.Int.{abs_diff};
 ghost use Rattle.std.specs.List.Sorted.{IsStrictlyIncreasing};
+ghost use Rattle.asc_base.specs.Settings.{IsConfig};
 ghost use Rattle.asc_base.specs.TreeShape.{olat_of};
 ghost use Rattle.asc_base.specs.declared.settings.Config.{Config};
 ghost use Rattle.bus_watch.specs.declared.log.Event.{Event};
@@ -10,7 +11,8 @@ ghost use Rattle.bus_watch.specs.declared.log.Event.TheVariants.{Access, Chosen}
 ghost use Rattle.bus_schedule.specs.declared.beat.Beat.{Beat};
 ghost use Rattle.bus_schedule.specs.Timetable.{Public, bits_of, rate_at, public_of, first_beat, beat_after, falls_next};
 ghost use Rattle.bus_schedule.specs.Shown.{starts_of, indices_of};
-ghost use Rattle.epoch_learner.specs.LearnerRule.{nearest, learner_rule};
+ghost use Rattle.bus_schedule.specs.Rows.{four_rates, two_rates, first_slot_log};
+ghost use Rattle.epoch_learner.specs.LearnerRule.{nearest, index_by_sums, learner_rule};
 ghost use Rattle.epoch_learner.specs.Heard.{Heard, nothing_heard, with_access, with_choice, hears, heard_of, told_by, IsByRule, AreByRule, ChoosesByRule};
 ghost use Rattle.epoch_learner.specs.declared.Learner.{Learner};
 ghost use Rattle.epoch_learner.specs.Learner.{IsLearnerOf, Follows, Remembers, HasCode, rates_of, apart_at, learner_at_start, after_access, falls_at, chosen_at, after_end, next_end};
@@ -18,7 +20,8 @@ ghost use Rattle.epoch_learner.specs.Learner.{IsLearnerOf, Follows, Remembers, H
 /// A learner stands where the timetable does: a new one at its first slot, and each one that does before an access does
 /// after it.
 pub fn learners_follow()
-    ensures start { (config : Config) → IsLearnerOf config (learner_at_start config)
+    ensures new { (config : Config) → IsConfig config → IsLearnerOf config (learner_at_start config) }
+    ensures start { (config : Config) → IsConfig config
         → Follows config (first_beat (public_of config)) (learner_at_start config) }
     ensures access { (config : Config) (beat : Beat) (learner : Learner) (start : ℕ) (asked : Option ℕ)
         → Follows config beat learner → Follows config beat (after_access learner start asked) }
@@ -135,6 +138,19 @@ pub fn choices_take_the_nearest()
         → k < length (rates_of learner)
         → apart_at learner end k ≡ apart_at learner end (chosen_at learner end)
         → rate_at (rates_of learner) (chosen_at learner end) ≤ rate_at (rates_of learner) k }
+{}
+
+/// The rule on some sums: ten real accesses in slots of 496 cycles up to the end 33,088, the first in epoch 1. With 3,000
+/// cycles waited in all it takes the second of four rates; with 21,728 there is a tie between the first two, which the
+/// first wins, and with 10 fewer the second is nearer. Without a real access it takes the greatest. So in a log of a
+/// dummy the greatest rate is by the rule, and no other.
+pub fn rule_rows()
+    ensures waited { index_by_sums four_rates.rates 496 33088 10 3000 ≡ 1 }
+    ensures tie { index_by_sums four_rates.rates 496 33088 10 21728 ≡ 0 }
+    ensures nearer { index_by_sums four_rates.rates 496 33088 10 21718 ≡ 1 }
+    ensures none { index_by_sums four_rates.rates 496 33088 0 0 ≡ 3 }
+    ensures dummy { ChoosesByRule two_rates (first_slot_log (Chosen 1 ∷ [])).events }
+    ensures other { ChoosesByRule two_rates (first_slot_log (Chosen 0 ∷ [])).events → ⊥ }
 {}
 
 /// No more choices fall than are allowed, none where there is one rate alone or the budget is below the bits of one

@@ -20,12 +20,18 @@ use asc_base::{Config, Rates};
 use bus_schedule::{epoch_of, most_choices, with_digit};
 
 mod laws;
+mod stand_laws;
 #[cfg(test)]
 mod tests;
 
 pub use laws::{
     choices_are_few, choices_take_the_nearest, codes_grow, ends_follow, learners_choose_by_rule,
-    learners_follow, learners_remember, logs_are_remembered, logs_go_on, nearest_is_near,
+    learners_follow, learners_remember, logs_are_remembered, logs_go_on, nearest_is_near, rule_rows,
+};
+
+pub use stand_laws::{
+    first_slot_stands, learners_stand, next_slots_follow, stands_begin, stands_end, stands_go_on,
+    stands_keep_pace, sums_stay_small,
 };
 
 /// A learner of rates. Times are in cycles.

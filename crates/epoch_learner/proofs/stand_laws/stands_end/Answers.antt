@@ -1,0 +1,8 @@
+use Rattle.epoch_learner.proofs.StandLaws.{stands_passed, stands_chosen}
+use Rattle.epoch_learner.proofs.stand_laws.stands_end.Goals as goal
+
+pub returns-clause-passed : goal.returns-clause-passed
+returns-clause-passed c = stands_passed
+
+pub returns-clause-chosen : goal.returns-clause-chosen
+returns-clause-chosen c = stands_chosen
