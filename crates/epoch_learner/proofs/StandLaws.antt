@@ -12,17 +12,20 @@ use Rattle.asc_base.proofs.ShapeFacts.{shape_layered}
 use Rattle.bus_watch.specs.declared.log.Event.{Event}
 use Rattle.bus_watch.specs.declared.log.Event.TheVariants.{Access, Drawn, Chosen}
 use Rattle.bus_watch.specs.declared.log.Move.{Move}
-use Rattle.bus_watch.specs.Log.{LogLists, with_event}
+use Rattle.asc_outside.specs.Memory.{MemoryState}
+use Rattle.bus_watch.specs.Log.{LogLists, TapState, with_event}
+use Rattle.bus_watch.specs.Made.{Made}
+use Rattle.bus_watch.specs.RunEnd.{RunEnd}
 use Rattle.bus_watch.specs.Path.{along, reads, reads_end, writes_start, slot_moves}
 use Rattle.bus_schedule.specs.declared.beat.Beat.{Beat}
 use Rattle.bus_schedule.specs.Timetable.{Public, public_of, count_of, digit_of, rate_at, falls_next, first_beat, beat_after, beat_with, beat_at, start_at, end_at, first_from}
-use Rattle.bus_schedule.specs.Shown.{starts_of, indices_of}
+use Rattle.bus_schedule.specs.Shown.{starts_of, indices_of, AreSilent}
 use Rattle.bus_schedule.specs.Asked.{IsFirstFrom, ServesPromptly}
 use Rattle.bus_schedule.specs.Scheduled.{log_code, IsScheduled, Between, Inside, ShowsNoMore}
 use Rattle.bus_schedule.proofs.TimetableLaws.{start-next, end-before, end-far}
 use Rattle.bus_schedule.proofs.TimetableParts.{first-after}
 use Rattle.bus_schedule.proofs.AskedLaws.{serves-none, serves-kept, serves-dummy, serves-real, between-first}
-use Rattle.bus_schedule.proofs.ScheduledLaws.{between-none, between-same, between-without, between-chosen, inside-begin, inside-more, begin-indices, begin-code, same-code, shown-indices, MoreChosen, more-chosen, beat-more}
+use Rattle.bus_schedule.proofs.ScheduledLaws.{between-none, between-same, between-without, between-chosen, inside-begin, inside-more, begin-indices, begin-code, same-code, shown-indices, shows-more, MoreChosen, more-chosen, beat-more}
 use Rattle.bus_schedule.proofs.Windows.{scheduled-between, scheduled-reads, scheduled-writes}
 use Rattle.epoch_learner.specs.Heard.{nothing_heard, heard_of, told_by, ChoosesByRule}
 use Rattle.epoch_learner.specs.LearnerRule.{real_count, waiting}
@@ -115,6 +118,22 @@ inside_silent config n start leaf part more learner old new s silent moves =
       step = subst (λ c. IsInStep config (beat_at p c n) (start + olat_of p.levels) learner new.events) code
           (step_silent config (beat_of config n old) (start + olat_of p.levels) learner old new s.step silent);
     }
+
+-- a run of bus calls with such events
+pub stands_ran : {cut : RunEnd} {events : List Event} {m m' : MemoryState} {t t' : TapState} (config : Config)
+    (n last next : ℕ) (learner : Learner) → Stands config n last next learner t.log → AreSilent events
+    → Made cut [] events m m' t t' → Stands config n last next learner t'.log
+stands_ran {cut} {events} {m} {m'} {t} {t'} config n last next learner s silent made =
+    stands_silent config n last next learner t.log t'.log s (shows-more events t.log t'.log made.events_are silent)
+    (made.moves_are ∙ append-nil t.log.moves)
+
+pub inside_ran : {cut : RunEnd} {more : List Move} {events : List Event} {m m' : MemoryState} {t t' : TapState}
+    (config : Config) (n start leaf : ℕ) (part : List Move) (learner : Learner)
+    → StandsIn config n start leaf part learner t.log → AreSilent events
+    → Made cut more events m m' t t' → StandsIn config n start leaf (part ++ more) learner t'.log
+inside_ran {cut} {more} {events} {m} {m'} {t} {t'} config n start leaf part learner s silent made =
+    inside_silent config n start leaf part more learner t.log t'.log s
+    (shows-more events t.log t'.log made.events_are silent) made.moves_are
 
 -- the sums after an access
 sums_more : (last next olat : ℕ) (learner : Learner) (asked : Option ℕ) → last ≤ next → 1 ≤ olat

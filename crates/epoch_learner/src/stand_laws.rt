@@ -6,11 +6,16 @@ ghost use Rattle.asc_base.specs.TreeShape.{olat_of};
 ghost use Rattle.asc_base.specs.declared.block.Leaf.{Leaf};
 ghost use Rattle.asc_base.specs.declared.block.Point.{Point};
 ghost use Rattle.asc_base.specs.declared.settings.Config.{Config};
+ghost use Rattle.asc_outside.specs.Memory.{MemoryState};
+ghost use Rattle.bus_watch.specs.declared.log.Event.{Event};
 ghost use Rattle.bus_watch.specs.declared.log.Event.TheVariants.{Access, Drawn, Chosen};
 ghost use Rattle.bus_watch.specs.declared.log.Move.{Move};
-ghost use Rattle.bus_watch.specs.Log.{LogLists, with_event};
+ghost use Rattle.bus_watch.specs.Log.{LogLists, TapState, with_event};
+ghost use Rattle.bus_watch.specs.Made.{Made};
 ghost use Rattle.bus_watch.specs.Path.{along, reads, writes_start, slot_moves};
+ghost use Rattle.bus_watch.specs.RunEnd.{RunEnd};
 ghost use Rattle.bus_schedule.specs.Timetable.{public_of, first_from};
+ghost use Rattle.bus_schedule.specs.Shown.{AreSilent};
 ghost use Rattle.bus_schedule.specs.Scheduled.{log_code, ShowsNoMore};
 ghost use Rattle.epoch_learner.specs.LearnerRule.{real_count, waiting};
 ghost use Rattle.epoch_learner.specs.Learner.{learner_at_start, after_access, after_end, choice_by_sums};
@@ -33,7 +38,8 @@ pub fn stands_begin()
         → StandsIn config n next leaf.0 [] (after_access learner next asked) new }
 {}
 
-/// Events that show nothing of slots keep it so, in a slot too, where moves may be made besides.
+/// Events that show nothing of slots keep it so, in a slot too, where moves may be made besides. So does a run of bus
+/// calls that notes no other events.
 pub fn stands_go_on()
     ensures between { (config : Config) (n last next : ℕ) (learner : Learner) (old new : LogLists)
         → Stands config n last next learner old → ShowsNoMore old new → new.moves ≡ old.moves
@@ -41,6 +47,13 @@ pub fn stands_go_on()
     ensures inside { (config : Config) (n start leaf : ℕ) (part more : List Move) (learner : Learner)
         (old new : LogLists) → StandsIn config n start leaf part learner old → ShowsNoMore old new
         → new.moves ≡ old.moves ++ more → StandsIn config n start leaf (part ++ more) learner new }
+    ensures ran_between { (config : Config) (n last next : ℕ) (learner : Learner) (cut : RunEnd) (events : List Event)
+        (m m2 : MemoryState) (t t2 : TapState) → Stands config n last next learner t.log → AreSilent events
+        → Made cut [] events m m2 t t2 → Stands config n last next learner t2.log }
+    ensures ran_inside { (config : Config) (n start leaf : ℕ) (part more : List Move) (learner : Learner) (cut : RunEnd)
+        (events : List Event) (m m2 : MemoryState) (t t2 : TapState)
+        → StandsIn config n start leaf part learner t.log → AreSilent events
+        → Made cut more events m m2 t t2 → StandsIn config n start leaf (part ++ more) learner t2.log }
 {}
 
 /// A slot whose moves are all made ends: where the learner answers None at its end, as it is; where it answers an index,
