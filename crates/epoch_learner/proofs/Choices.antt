@@ -1,13 +1,7 @@
 -- How many choices there are, and that their code has room.
-use Rattle.std.specs.Prelude.{nat_le}
-use Rattle.std.proofs.Common.{◌≡◌, ℕ, ◌+◌, ◌*◌, ◌^◌, ◌<◌, ◌≤◌, length, take, ap, sym, ◌∙◌, inr, arith}
-use Rattle.std.proofs.Math.Pow.{pow_mono}
-use Rattle.std.proofs.lemmas.Nat.{pow-add}
-use Rattle.std.proofs.lemmas.Bool.{le-leb, lt-leb}
+use Rattle.std.proofs.Common.{◌≡◌, ℕ, ◌^◌, ◌≤◌, length, take, ap, sym, ◌∙◌, arith}
 use Rattle.asc_base.specs.declared.settings.Config.{Config}
-use Rattle.asc_base.proofs.Extremes.{greatest_is}
-use Rattle.asc_base.proofs.Levels.{lt-pow}
-use Rattle.bus_schedule.specs.Timetable.{public_of, count_of, choices_of, bits_of, most_of}
+use Rattle.bus_schedule.specs.Timetable.{public_of, count_of, choices_of, most_of}
 use Rattle.bus_schedule.proofs.ChoiceLaws.{codes-few}
 use Rattle.epoch_learner.specs.Learner.{IsLearnerOf}
 use Rattle.epoch_learner.specs.declared.Learner.{Learner}

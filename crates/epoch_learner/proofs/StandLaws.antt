@@ -1,6 +1,5 @@
 -- A learner and a log from slot to slot.
-use Rattle.std.proofs.Common.{◌≡◌, ℕ, zero, suc, ◌+◌, ◌-◌, ◌*◌, ◌^◌, ◌<◌, ◌≤◌, true, false, List, [], ◌∷◌, ◌++◌, length, Option, None, Some, IfSome, refl, sym, ◌∙◌, ap, subst, inl, inr, arith, append-nil}
-use Rattle.std.specs.Prelude.{IfNone}
+use Rattle.std.proofs.Common.{◌≡◌, ℕ, zero, suc, ◌+◌, ◌-◌, ◌*◌, ◌^◌, ◌<◌, ◌≤◌, true, false, List, [], ◌∷◌, ◌++◌, Option, None, Some, refl, sym, ◌∙◌, ap, subst, inl, inr, arith, append-nil}
 use Rattle.std.proofs.lemmas.Bool.{cases_Bool}
 use Rattle.std.proofs.lemmas.Nat.{mul-le}
 use Rattle.asc_base.specs.Settings.{IsConfig}
@@ -16,7 +15,7 @@ use Rattle.asc_outside.specs.Memory.{MemoryState}
 use Rattle.bus_watch.specs.Log.{LogLists, TapState, with_event}
 use Rattle.bus_watch.specs.Made.{Made}
 use Rattle.bus_watch.specs.RunEnd.{RunEnd}
-use Rattle.bus_watch.specs.Path.{along, reads, reads_end, writes_start, slot_moves}
+use Rattle.bus_watch.specs.Path.{along, reads, writes_start, slot_moves}
 use Rattle.bus_schedule.specs.declared.beat.Beat.{Beat}
 use Rattle.bus_schedule.specs.Timetable.{Public, public_of, count_of, digit_of, rate_at, falls_next, first_beat, beat_after, beat_with, beat_at, start_at, end_at, first_from}
 use Rattle.bus_schedule.specs.Shown.{starts_of, indices_of, AreSilent}
@@ -68,9 +67,9 @@ stands_first config log is events moves =
     }
 
 -- events that show nothing of slots leave a learner in step
-step_silent : (config : Config) (beat : Beat) (end : ℕ) (learner : Learner) (old new : LogLists)
+step_silent : {config : Config} {beat : Beat} {end : ℕ} {learner : Learner} (old new : LogLists)
     → IsInStep config beat end learner old.events → ShowsNoMore old new → IsInStep config beat end learner new.events
-step_silent config beat end learner old new s silent =
+step_silent {config} {beat} {end} {learner} old new s silent =
     let p = public_of config in
     let olat : ℕ = olat_of p.levels in
     let more : List Event = silent.more in
@@ -88,10 +87,10 @@ step_silent config beat end learner old new s silent =
       sums = s.sums;
     }
 
-pub stands_silent : (config : Config) (n last next : ℕ) (learner : Learner) (old new : LogLists)
+pub stands_silent : {config : Config} {n last next : ℕ} {learner : Learner} {old new : LogLists}
     → Stands config n last next learner old → ShowsNoMore old new → new.moves ≡ old.moves
     → Stands config n last next learner new
-stands_silent config n last next learner old new s silent moves =
+stands_silent {config} {n} {last} {next} {learner} {old} {new} s silent moves =
     let p = public_of config in
     let code : log_code p old ≡ log_code p new = same-code p old new (shown-indices old new silent) in
     record {
@@ -99,13 +98,13 @@ stands_silent config n last next learner old new s silent moves =
       next_is = s.next_is ∙ ap (λ c. start_at p c n) code;
       between = between-same p n old new s.between silent moves;
       step = subst (λ c. IsInStep config (beat_at p c n) last learner new.events) code
-          (step_silent config (beat_of config n old) last learner old new s.step silent);
+          (step_silent old new s.step silent);
     }
 
-pub inside_silent : (config : Config) (n start leaf : ℕ) (part more : List Move) (learner : Learner)
-    (old new : LogLists) → StandsIn config n start leaf part learner old → ShowsNoMore old new
+pub inside_silent : {config : Config} {n start leaf : ℕ} {part : List Move} {learner : Learner} {old new : LogLists}
+    (more : List Move) → StandsIn config n start leaf part learner old → ShowsNoMore old new
     → new.moves ≡ old.moves ++ more → StandsIn config n start leaf (part ++ more) learner new
-inside_silent config n start leaf part more learner old new s silent moves =
+inside_silent {config} {n} {start} {leaf} {part} {learner} {old} {new} more s silent moves =
     let p = public_of config in
     let code : log_code p old ≡ log_code p new = same-code p old new (shown-indices old new silent) in
     let told : told_by p new.events ≡ told_by p old.events =
@@ -116,23 +115,23 @@ inside_silent config n start leaf part more learner old new s silent moves =
       inside = inside-more p n leaf part more old new s.inside silent moves;
       ended = ap (λ h. h.ended) told ∙ s.ended;
       step = subst (λ c. IsInStep config (beat_at p c n) (start + olat_of p.levels) learner new.events) code
-          (step_silent config (beat_of config n old) (start + olat_of p.levels) learner old new s.step silent);
+          (step_silent old new s.step silent);
     }
 
 -- a run of bus calls with such events
-pub stands_ran : {cut : RunEnd} {events : List Event} {m m' : MemoryState} {t t' : TapState} (config : Config)
-    (n last next : ℕ) (learner : Learner) → Stands config n last next learner t.log → AreSilent events
+pub stands_ran : {cut : RunEnd} {events : List Event} {m m' : MemoryState} {t t' : TapState} {config : Config}
+    {n last next : ℕ} {learner : Learner} → Stands config n last next learner t.log → AreSilent events
     → Made cut [] events m m' t t' → Stands config n last next learner t'.log
-stands_ran {cut} {events} {m} {m'} {t} {t'} config n last next learner s silent made =
-    stands_silent config n last next learner t.log t'.log s (shows-more events t.log t'.log made.events_are silent)
+stands_ran {cut} {events} {m} {m'} {t} {t'} s silent made =
+    stands_silent s (shows-more events t.log t'.log made.events_are silent)
     (made.moves_are ∙ append-nil t.log.moves)
 
 pub inside_ran : {cut : RunEnd} {more : List Move} {events : List Event} {m m' : MemoryState} {t t' : TapState}
-    (config : Config) (n start leaf : ℕ) (part : List Move) (learner : Learner)
+    {config : Config} {n start leaf : ℕ} {part : List Move} {learner : Learner}
     → StandsIn config n start leaf part learner t.log → AreSilent events
     → Made cut more events m m' t t' → StandsIn config n start leaf (part ++ more) learner t'.log
-inside_ran {cut} {more} {events} {m} {m'} {t} {t'} config n start leaf part learner s silent made =
-    inside_silent config n start leaf part more learner t.log t'.log s
+inside_ran {cut} {more} {events} {m} {m'} {t} {t'} s silent made =
+    inside_silent more s
     (shows-more events t.log t'.log made.events_are silent) made.moves_are
 
 -- the sums after an access
@@ -161,12 +160,12 @@ prompt_more p n last next (Some time) log b last_is next_is first h =
     (between-first p n time log b (omega (arith, first.0)) (omega (arith, first.1))))
 
 -- a slot begins, and its leaf is drawn
-pub stands_begun : (config : Config) (n last next : ℕ) (learner : Learner) (asked : Option ℕ) (point : Point)
-    (leaf : Leaf) (old mid new : LogLists) → Stands config n last next learner old
+pub stands_begun : {config : Config} {n last next : ℕ} {learner : Learner} {old : LogLists} (asked : Option ℕ)
+    (point : Point) (leaf : Leaf) (mid new : LogLists) → Stands config n last next learner old
     → IsFirstFor (olat_of config.shape.levels) last next asked → mid ≡ with_event old (Access next asked)
     → new ≡ with_event mid (Drawn point leaf)
     → StandsIn config n next leaf.0 [] (after_access learner next asked) new
-stands_begun config n last next learner asked point leaf old mid new s first seen drawn =
+stands_begun {config} {n} {last} {next} {learner} {old} asked point leaf mid new s first seen drawn =
     let p = public_of config in
     let olat : ℕ = olat_of p.levels in
     let code : log_code p old ≡ log_code p new = sym (begin-code p next asked point leaf old mid new seen drawn) in
@@ -215,12 +214,12 @@ by_some learner end index is =
     ]
 
 -- a slot ends without a choice
-pub stands_passed : (config : Config) (n start leaf end : ℕ) (learner : Learner) (log : LogLists)
+pub stands_passed : {config : Config} {n start leaf : ℕ} {learner : Learner} {log : LogLists} (end : ℕ)
     → StandsIn config n start leaf (slot_moves config.shape.levels start leaf) learner log
     → end ≡ start + olat_of config.shape.levels → choice_by_sums learner end ≡ None
     → Stands config (suc n) end (end + (after_end learner end).rate) (after_end learner end) log
 unfolding beat_at
-stands_passed config n start leaf end learner log s end_is answer =
+stands_passed {config} {n} {start} {leaf} {learner} {log} end s end_is answer =
     let p = public_of config in
     let code : ℕ = log_code p log in
     let b : Beat = beat_at p code n in
@@ -252,12 +251,12 @@ stands_passed config n start leaf end learner log s end_is answer =
     }
 
 -- a slot ends with a choice
-pub stands_chosen : (config : Config) (n start leaf end index : ℕ) (learner : Learner) (old new : LogLists)
-    → StandsIn config n start leaf (slot_moves config.shape.levels start leaf) learner old
+pub stands_chosen : {config : Config} {n start leaf : ℕ} {learner : Learner} {old : LogLists} (end index : ℕ)
+    (new : LogLists) → StandsIn config n start leaf (slot_moves config.shape.levels start leaf) learner old
     → end ≡ start + olat_of config.shape.levels → choice_by_sums learner end ≡ Some index
     → new ≡ with_event old (Chosen index)
     → Stands config (suc n) end (end + (after_end learner end).rate) (after_end learner end) new
-stands_chosen config n start leaf end index learner old new s end_is answer noted =
+stands_chosen {config} {n} {start} {leaf} {learner} {old} end index new s end_is answer noted =
     let p = public_of config in
     let code : ℕ = log_code p old in
     let b : Beat = beat_at p code n in
@@ -308,33 +307,33 @@ stands_chosen config n start leaf end index learner old new s end_is answer note
     }
 
 -- up to which times the log keeps the pace
-paced : (config : Config) (beat : Beat) (last end : ℕ) (learner : Learner) (log : LogLists)
+paced : {config : Config} {beat : Beat} {last : ℕ} {learner : Learner} (end : ℕ) (log : LogLists)
     → IsInStep config beat last learner log.events → IsScheduled (public_of config) end log → KeepsPace config end log
-paced config beat last end learner log s h = record { scheduled = h; rule = s.rule; prompt = s.prompt }
+paced end log s h = record { scheduled = h; rule = s.rule; prompt = s.prompt }
 
-pub stands_pace : (config : Config) (n last next end : ℕ) (learner : Learner) (log : LogLists)
+pub stands_pace : {config : Config} {n last next : ℕ} {learner : Learner} {log : LogLists} (end : ℕ)
     → Stands config n last next learner log → last ≤ end → end ≤ next → KeepsPace config end log
-stands_pace config n last next end learner log s past before =
-    paced config (beat_of config n log) last end learner log s.step
+stands_pace {config} {n} {last} {next} {learner} {log} end s past before =
+    paced end log s.step
     (scheduled-between (public_of config) n end log s.between (omega (arith, s.last_is, past)) (omega (arith, s.next_is)))
 
-pub reads_pace : (config : Config) (n start leaf made end : ℕ) (learner : Learner) (log : LogLists)
+pub reads_pace : {config : Config} {n start leaf : ℕ} {learner : Learner} {log : LogLists} (made end : ℕ)
     → StandsIn config n start leaf (along config.shape.levels false start leaf made) learner log
     → made ≤ config.shape.levels + 1 → start < end → start + 40 * made < end + 40 → end ≤ start + 40 * made
     → KeepsPace config end log
-reads_pace config n start leaf made end learner log s few begun after until =
-    paced config (beat_of config n log) (start + olat_of config.shape.levels) end learner log s.step
+reads_pace {config} {n} {start} {leaf} {learner} {log} made end s few begun after until =
+    paced end log s.step
     (scheduled-reads (public_of config) n start leaf made end log s.inside s.start_is few begun after until)
 
-pub writes_pace : (config : Config) (n start leaf made end : ℕ) (learner : Learner) (log : LogLists)
+pub writes_pace : {config : Config} {n start leaf : ℕ} {learner : Learner} {log : LogLists} (made end : ℕ)
     → StandsIn config n start leaf
     (reads config.shape.levels start leaf
     ++ along config.shape.levels true (writes_start config.shape.levels start) leaf made) learner log
     → made ≤ config.shape.levels + 1 → writes_start config.shape.levels start + 40 * made < end + 40
     → end ≤ writes_start config.shape.levels start + 40 * made → end < start + olat_of config.shape.levels
     → KeepsPace config end log
-writes_pace config n start leaf made end learner log s few after until over =
-    paced config (beat_of config n log) (start + olat_of config.shape.levels) end learner log s.step
+writes_pace {config} {n} {start} {leaf} {learner} {log} made end s few after until over =
+    paced end log s.step
     (scheduled-writes (public_of config) n start leaf made end log s.inside s.start_is few after until over)
 
 -- the next slot starts at the last end plus the rate in force
@@ -343,9 +342,9 @@ unfolding beat_at
 by_rate p code zero = omega arith
 by_rate p code (suc n) = start-next p code n
 
-pub stands_next : (config : Config) (n last next : ℕ) (learner : Learner) (log : LogLists)
+pub stands_next : {config : Config} {n last next : ℕ} {learner : Learner} {log : LogLists}
     → Stands config n last next learner log → next ≡ last + learner.rate
-stands_next config n last next learner log s =
+stands_next {config} {n} {last} {next} {learner} {log} s =
     omega (
       arith,
       s.last_is,
@@ -354,24 +353,24 @@ stands_next config n last next learner log s =
       by_rate (public_of config) (log_code (public_of config) log) n,
     )
 
-pub stands_apart : (config : Config) (n last next : ℕ) (learner : Learner) (log : LogLists)
+pub stands_apart : {config : Config} {n last next : ℕ} {learner : Learner} {log : LogLists}
     → Stands config n last next learner log → (last + 64 ≤ next) × (next ≤ last + 1048576)
-stands_apart config n last next learner log s =
+stands_apart {config} {n} {last} {next} {learner} {log} s =
     let bounds = rate_bounds config learner s.step.follows.is_of in
-    let next_is = stands_next config n last next learner log s in
+    let next_is = stands_next s in
     (omega (arith, bounds.0, next_is), omega (arith, bounds.1, next_is))
 
 -- so many slots took their cycles
-pub stands_far : (config : Config) (n last next : ℕ) (learner : Learner) (log : LogLists)
+pub stands_far : {config : Config} {n last next : ℕ} {learner : Learner} {log : LogLists}
     → Stands config n last next learner log → n * olat_of config.shape.levels ≤ last
-stands_far config n last next learner log s =
+stands_far {config} {n} {last} {next} {learner} {log} s =
     omega (arith, s.last_is, end-far (public_of config) (log_code (public_of config) log) n)
 
 -- the next slot is the first that starts at or after a time
-pub stands_from : (config : Config) (n last next time : ℕ) (learner : Learner) (log : LogLists)
+pub stands_from : {config : Config} {n last next : ℕ} {learner : Learner} {log : LogLists} (time : ℕ)
     → Stands config n last next learner log → time ≤ next → last < time + olat_of config.shape.levels
     → first_from (public_of config) (log_code (public_of config) log) time ≡ next
-stands_from config n last next time learner log s from late =
+stands_from {config} {n} {last} {next} {learner} {log} time s from late =
     first-after (public_of config) (log_code (public_of config) log) time n
     (omega (arith, s.next_is)) (omega (arith, s.last_is, late))
     ∙ sym s.next_is
@@ -383,30 +382,29 @@ product_below real end up small =
     omega arith
 
 -- the learner can see the next slot
-pub saw_fits : (config : Config) (n last next : ℕ) (learner : Learner) (asked : Option ℕ) (log : LogLists)
+pub saw_fits : {config : Config} {n last next : ℕ} {learner : Learner} {log : LogLists} (asked : Option ℕ)
     → Stands config n last next learner log → next < 2 ^ 29
     → (learner.real + real_count asked < 2 ^ 32) × (learner.waste + waiting next asked < 2 ^ 60)
-saw_fits config n last next learner None log s small =
-    let apart = stands_apart config n last next learner log s in
+saw_fits {config} {n} {last} {next} {learner} {log} None s small =
+    let apart = stands_apart s in
     let most : learner.real * last ≤ (2 ^ 29) * (2 ^ 29) =
     mul-le learner.real last (2 ^ 29) (2 ^ 29) (omega (arith, s.step.sums.real)) (omega arith) in
     (omega (arith, s.step.sums.real), omega (arith, s.step.sums.waste))
-saw_fits config n last next learner (Some asked) log s small =
-    let apart = stands_apart config n last next learner log s in
+saw_fits {config} {n} {last} {next} {learner} {log} (Some asked) s small =
+    let apart = stands_apart s in
     let most : learner.real * last ≤ (2 ^ 29) * (2 ^ 29) =
     mul-le learner.real last (2 ^ 29) (2 ^ 29) (omega (arith, s.step.sums.real)) (omega arith) in
     (omega (arith, s.step.sums.real), omega (arith, s.step.sums.waste))
 
 -- and the end of the one that it is in
-pub ended_fits : (config : Config) (n start leaf end : ℕ) (part : List Move) (learner : Learner) (log : LogLists)
+pub ended_fits : {config : Config} {n start leaf : ℕ} {part : List Move} {learner : Learner} {log : LogLists} (end : ℕ)
     → StandsIn config n start leaf part learner log → end ≡ start + olat_of config.shape.levels → start < 2 ^ 29
     → (end < 2 ^ 40) × (learner.since ≤ end) × (learner.real < 2 ^ 32) × (learner.waste < 2 ^ 60)
-ended_fits config n start leaf end part learner log s end_is small =
+ended_fits {config} {n} {start} {leaf} {part} {learner} {log} end s end_is small =
     let levels = (shape_layered config.shape s.step.follows.is_of.is_config.is_shape).levels_to in
     let short : start + olat_of config.shape.levels < 2 ^ 30 = omega arith in
     let most : learner.real * (start + olat_of config.shape.levels) < 2 ^ 60 =
-    product_below learner.real (start + olat_of config.shape.levels) s.step.sums.real short in
-    (
+    product_below learner.real (start + olat_of config.shape.levels) s.step.sums.real short in (
       omega arith,
       omega (arith, s.step.sums.since),
       omega (arith, s.step.sums.real),

@@ -72,7 +72,7 @@ after_end_keeps config learner end h =
       | inr none ↦ rw none record {
         is_config = h.is_config;
         rates = h.rates;
-          epoch = h.epoch;
+        epoch = h.epoch;
         olat = h.olat;
         most = h.most;
         in_force = h.in_force;

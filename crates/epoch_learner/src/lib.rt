@@ -26,9 +26,9 @@ mod tests;
 
 pub use laws::{
     choices_are_few, choices_take_the_nearest, codes_grow, ends_follow, learners_choose_by_rule,
-    learners_follow, learners_remember, logs_are_remembered, logs_go_on, nearest_is_near, rule_rows,
+    learners_follow, learners_remember, logs_are_remembered, logs_go_on, nearest_is_near,
+    rule_rows,
 };
-
 pub use stand_laws::{
     first_slot_stands, learners_stand, next_slots_follow, stands_begin, stands_end, stands_go_on,
     stands_keep_pace, sums_stay_small,
