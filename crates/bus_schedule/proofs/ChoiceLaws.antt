@@ -1,5 +1,6 @@
 -- How many choices fall, and how many timetables they leave.
-use Rattle.std.proofs.Common.{◌≡◌, ◌↔◌, ℕ, zero, suc, ◌+◌, ◌*◌, ◌/◌, ◌%◌, ◌^◌, ◌<◌, ◌≤◌, Bool, true, false, cond, refl, sym, ◌∙◌, ap, arith, inl, inr}
+use Rattle.std.proofs.Common.{◌≡◌, ◌↔◌, ℕ, zero, suc, ◌+◌, ◌*◌, ◌/◌, ◌%◌, ◌^◌, ◌<◌, ◌≤◌, Bool, true, false, cond}
+use Rattle.std.proofs.Common.{refl, sym, ◌∙◌, ap, arith, inl, inr}
 use Rattle.std.specs.Prelude.{nat_lt, nat_le, max}
 use Rattle.std.proofs.Math.Nat.{pow-zero, pow-suc, one-le-pow, mul-div-le, div-eq_of_lt, mul-zero, max-eq_right}
 use Rattle.std.proofs.Math.Pow.{pow_mono}
@@ -9,7 +10,8 @@ use Rattle.asc_base.specs.TreeShape.{olat_of}
 use Rattle.asc_base.proofs.Extremes.{greatest_is}
 use Rattle.asc_base.proofs.Levels.{lt-pow}
 use Rattle.bus_schedule.specs.declared.beat.Beat.{Beat}
-use Rattle.bus_schedule.specs.Timetable.{Public, AgreeTo, count_of, bits_of, most_of, choices_of, epoch_at, rate_at, digit_of, falls_next, beat_with, beat_after, beat_at, end_at, timetable}
+use Rattle.bus_schedule.specs.Timetable.{Public, AgreeTo, count_of, bits_of, most_of, choices_of, epoch_at, rate_at}
+use Rattle.bus_schedule.specs.Timetable.{digit_of, falls_next, beat_with, beat_after, beat_at, end_at, timetable}
 use Rattle.bus_schedule.proofs.CodeLaws.{digit-rest}
 use Rattle.bus_schedule.proofs.TimetableLaws.{beat_if, start-above, end-before, timetable-agrees}
 use Rattle.bus_schedule.proofs.Epochs.{epoch_at-rises, epoch_at-zero}

@@ -1,6 +1,9 @@
 -- Codes and their digits.
-use Rattle.std.proofs.Common.{◌≡◌, ℕ, zero, suc, ◌+◌, ◌-◌, ◌*◌, ◌/◌, ◌%◌, ◌^◌, ◌<◌, ◌≤◌, List, [], ◌∷◌, ◌++◌, length, get_or, All, sym, ◌∙◌, ap, arith}
-use Rattle.std.proofs.Math.Nat.{pow-zero, pow-suc, pow-succ', one-le-pow, mul_assoc, mul_comm, mul-one, mul-add, add-mul-div_right, add-mul-mod_self_right, mod-add-div', mod-eq_of_lt, div-div-eq-div-mul, div-one}
+use Rattle.std.proofs.Common.{◌≡◌, ℕ, zero, suc, ◌+◌, ◌-◌, ◌*◌, ◌/◌, ◌%◌, ◌^◌, ◌<◌, ◌≤◌, List, [], ◌∷◌, ◌++◌}
+use Rattle.std.proofs.Common.{length, get_or, All, sym, ◌∙◌, ap, arith}
+use Rattle.std.proofs.Math.Nat.{pow-zero, pow-suc, pow-succ', one-le-pow, mul_assoc, mul_comm, mul-one, mul-add}
+use Rattle.std.proofs.Math.Nat.{add-mul-div_right, add-mul-mod_self_right, mod-add-div', mod-eq_of_lt}
+use Rattle.std.proofs.Math.Nat.{div-div-eq-div-mul, div-one}
 use Rattle.std.proofs.lemmas.Nat.{pow-add, mul-le, div-mul-add, mod-mul-add}
 use Rattle.bus_schedule.specs.Timetable.{digit_of}
 use Rattle.bus_schedule.specs.Shown.{code_of}
@@ -57,7 +60,8 @@ digit-of-code base (digit ∷ digits) (suc place) within below =
     ap (λ n. (digit + base * code_of base digits) / n % base) (pow-succ' base place)
     ∙ ap (λ n. n % base) (sym (div-div-eq-div-mul (digit + base * code_of base digits) base (base ^ place)))
     ∙ ap (λ n. n / base ^ place % base)
-    (ap (λ n. n / base) (turn digit base (code_of base digits)) ∙ div-mul-add (code_of base digits) base digit (within 0 0 (omega arith)))
+    (ap (λ n. n / base) (turn digit base (code_of base digits))
+    ∙ div-mul-add (code_of base digits) base digit (within 0 0 (omega arith)))
     ∙ digit-of-code base digits place (λ k d h. within (suc k) d (omega arith)) (omega arith)
   where
     turn : (d b c : ℕ) → d + b * c ≡ c * b + d
@@ -79,7 +83,8 @@ digit-lower base code places index place some below =
     ∙ ap (λ n. n * base ^ place) (sym (mul_assoc index (base ^ (places - place - 1)) base)) in
     ap (λ n. (code + n) / base ^ place % base) moved
     ∙ ap (λ n. n % base)
-    (add-mul-div_right code (index * base ^ (places - place - 1) * base) {z = base ^ place} (one-le-pow place base some))
+    (add-mul-div_right code (index * base ^ (places - place - 1) * base) {z = base ^ place}
+    (one-le-pow place base some))
     ∙ add-mul-mod_self_right (code / base ^ place) (index * base ^ (places - place - 1)) base
   where
     split : (places place : ℕ) → place < places → places ≡ suc (places - place - 1) + place

@@ -1,5 +1,6 @@
 -- What starts tell of the code, and how codes compare by their digits.
-use Rattle.std.proofs.Common.{◌≡◌, ℕ, zero, suc, ◌+◌, ◌-◌, ◌*◌, ◌%◌, ◌^◌, ◌<◌, ◌≤◌, Bool, true, false, cond, List, length, get_or, refl, sym, ◌∙◌, ap, subst, inl, inr, arith}
+use Rattle.std.proofs.Common.{◌≡◌, ℕ, zero, suc, ◌+◌, ◌-◌, ◌*◌, ◌%◌, ◌^◌, ◌<◌, ◌≤◌, Bool, true, false, cond, List}
+use Rattle.std.proofs.Common.{length, get_or, refl, sym, ◌∙◌, ap, subst, inl, inr, arith}
 use Rattle.std.specs.Prelude.{nat_lt, nat_le, max, ◌&&◌}
 use Rattle.std.specs.List.{filter}
 use Rattle.std.specs.List.Sorted.{IsStrictlyIncreasing}
@@ -10,7 +11,8 @@ use Rattle.std.proofs.lemmas.List.Sums.{length-filter, count_by-le-length}
 use Rattle.std.proofs.lemmas.Nat.{mod_below, mul-le}
 use Rattle.asc_base.specs.TreeShape.{olat_of}
 use Rattle.bus_schedule.specs.declared.beat.Beat.{Beat}
-use Rattle.bus_schedule.specs.Timetable.{Public, AgreeTo, count_of, choices_of, epoch_at, rate_at, digit_of, falls_next, beat_after, beat_at, start_at, timetable, ended_by, fallen}
+use Rattle.bus_schedule.specs.Timetable.{Public, AgreeTo, count_of, choices_of, epoch_at, rate_at, digit_of}
+use Rattle.bus_schedule.specs.Timetable.{falls_next, beat_after, beat_at, start_at, timetable, ended_by, fallen}
 use Rattle.bus_schedule.proofs.TimetableLaws.{beat_if, start-next, beat-agrees}
 use Rattle.bus_schedule.proofs.TimetableParts.{timetable-at}
 use Rattle.bus_schedule.proofs.ChoiceLaws.{rate-chosen, rate-kept}
@@ -78,7 +80,8 @@ starts-tell p code other (suc n) rise some same =
           λ place below. elim (cases_lt place (beat_at p code n).choices) [
             | inl lower ↦ before place lower
             | inr top ↦ (
-                let at : (beat_at p code n).choices ≡ place = omega (arith, below, top, (rate-chosen p code n fell).1) in
+                let at : (beat_at p code n).choices ≡ place =
+                omega (arith, below, top, (rate-chosen p code n fell).1) in
                 subst (λ k. digit_of code (count_of p) k ≡ digit_of other (count_of p) k) at digit
                 )
           ]
@@ -108,8 +111,10 @@ after-same p one other i j next same =
     let there = after-is p other j in
     let falls : falls_next p one ≡ falls_next p other =
     ap (λ n. nat_lt one.reached (epoch_at p.epoch (n + olat_of p.levels)) && nat_lt one.choices (choices_of p)) next
-    ∙ ap (λ r. nat_lt r (epoch_at p.epoch (other.next + olat_of p.levels)) && nat_lt one.choices (choices_of p)) same.reached
-    ∙ ap (λ c. nat_lt other.reached (epoch_at p.epoch (other.next + olat_of p.levels)) && nat_lt c (choices_of p)) same.choices in
+    ∙ ap (λ r. nat_lt r (epoch_at p.epoch (other.next + olat_of p.levels)) && nat_lt one.choices (choices_of p))
+    same.reached
+    ∙ ap (λ c. nat_lt other.reached (epoch_at p.epoch (other.next + olat_of p.levels)) && nat_lt c (choices_of p))
+    same.choices in
     record {
       reached = here.1
           ∙ ap (λ r. max r (epoch_at p.epoch (one.next + olat_of p.levels))) same.reached
@@ -210,7 +215,8 @@ pub code-next-lt : (base code other places : ℕ) → 1 ≤ base → code < base
 code-next-lt base code other places some few same up =
     let split = code-by-next base code other places some few same in
     let weight : (digit_of code base places + 1) * base ^ places ≤ digit_of other base places * base ^ places =
-    mul-le (digit_of code base places + 1) (base ^ places) (digit_of other base places) (base ^ places) (omega arith) (omega arith) in
-    let one : (digit_of code base places + 1) * base ^ places ≡ digit_of code base places * base ^ places + base ^ places =
-    omega arith in
+    mul-le (digit_of code base places + 1) (base ^ places) (digit_of other base places) (base ^ places)
+    (omega arith) (omega arith) in
+    let one : (digit_of code base places + 1) * base ^ places
+    ≡ digit_of code base places * base ^ places + base ^ places = omega arith in
     omega (arith, split.0, split.1, one-le-pow places base some)

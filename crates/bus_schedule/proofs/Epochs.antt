@@ -11,7 +11,8 @@ use Rattle.bus_schedule.specs.Timetable.{epoch_at}
 
 -- a later epoch starts no earlier
 pub epoch-rises : (epoch i j : ℕ) → i ≤ j → epoch * (2 ^ i - 1) ≤ epoch * (2 ^ j - 1)
-epoch-rises epoch i j up = mul-le epoch (2 ^ i - 1) epoch (2 ^ j - 1) (omega arith) (omega (arith, pow_mono {i = i} {j = j} up))
+epoch-rises epoch i j up =
+    mul-le epoch (2 ^ i - 1) epoch (2 ^ j - 1) (omega arith) (omega (arith, pow_mono {i = i} {j = j} up))
 
 odd-times : (a y : ℕ) → a * (2 * y + 1) ≡ 2 * (a * y) + a
 odd-times a y = omega arith
@@ -19,7 +20,8 @@ odd-times a y = omega arith
 -- where the epoch after the next one starts
 pub epoch-twice : (epoch i : ℕ) → 2 * (epoch * (2 ^ (i + 1) - 1)) + epoch ≡ epoch * (2 ^ (i + 1 + 1) - 1)
 epoch-twice epoch i =
-    let twice : 2 ^ (i + 1 + 1) ≡ 2 ^ (i + 1) + 2 ^ (i + 1) = ap (λ n. 2 ^ n) (add-one (i + 1)) ∙ two-pow-succ (i + 1) in
+    let twice : 2 ^ (i + 1 + 1) ≡ 2 ^ (i + 1) + 2 ^ (i + 1) =
+    ap (λ n. 2 ^ n) (add-one (i + 1)) ∙ two-pow-succ (i + 1) in
     let odd : 2 ^ (i + 1 + 1) - 1 ≡ 2 * (2 ^ (i + 1) - 1) + 1 = omega (arith, twice, pow_pos (i + 1)) in
     sym (ap (λ n. epoch * n) odd ∙ odd-times epoch (2 ^ (i + 1) - 1))
 
@@ -29,7 +31,8 @@ epoch-most epoch i time some from below =
     elim (cases_lt i 41) [
       | inl few ↦ few
       | inr many ↦ (
-          let far : 1 * (2 ^ 41 - 1) ≤ epoch * (2 ^ 41 - 1) = mul-le 1 (2 ^ 41 - 1) epoch (2 ^ 41 - 1) some (omega arith) in
+          let far : 1 * (2 ^ 41 - 1) ≤ epoch * (2 ^ 41 - 1) =
+          mul-le 1 (2 ^ 41 - 1) epoch (2 ^ 41 - 1) some (omega arith) in
           absurd (omega (arith, epoch-rises epoch 41 i many))
           )
     ]

@@ -1,9 +1,11 @@
 -- The moves of slots, one after another, and what a time cuts off of them.
-use Rattle.std.proofs.Common.{◌≡◌, ℕ, zero, suc, ◌+◌, ◌*◌, ◌<◌, ◌≤◌, Bool, true, false, List, [], ◌∷◌, ◌++◌, length, refl, sym, ◌∙◌, ap, arith, subst, append-nil, append_assoc}
+use Rattle.std.proofs.Common.{◌≡◌, ℕ, zero, suc, ◌+◌, ◌*◌, ◌<◌, ◌≤◌, Bool, true, false, List, [], ◌∷◌, ◌++◌, length}
+use Rattle.std.proofs.Common.{refl, sym, ◌∙◌, ap, arith, subst, append-nil, append_assoc}
 use Rattle.std.specs.Prelude.{nat_lt}
 use Rattle.std.specs.List.{All}
 use Rattle.std.proofs.lemmas.List.Quantifiers.{all_pairs_push}
-use Rattle.std.proofs.lemmas.List.Elements.{All-head, All-tail, All-nil, All-push, All-append, All-weaker, All-filter, filter-append}
+use Rattle.std.proofs.lemmas.List.Elements.{All-head, All-tail, All-nil, All-push, All-append, All-weaker}
+use Rattle.std.proofs.lemmas.List.Elements.{All-filter, filter-append}
 use Rattle.asc_base.specs.TreeShape.{olat_of}
 use Rattle.bus_watch.specs.declared.log.Move.{Move}
 use Rattle.bus_watch.specs.Path.{move_along, along, reads, reads_end, writes_start, writes, slot_moves}
@@ -159,7 +161,8 @@ pub moves-go-on : (levels end later : ℕ) (starts leaves others more : List ℕ
     → GoesOn (λ (m : Move). m.time) end (moves_before_time end (moves_of levels starts leaves))
     (moves_before_time later (moves_of levels (starts ++ others) (leaves ++ more)))
 moves-go-on levels end later starts leaves others more h rise late counted =
-    let c : GoesOn (λ (m : Move). m.time) end (moves_before_time end (moves_of levels starts leaves)) (moves_before_time later (moves_of levels starts leaves)) =
+    let c : GoesOn (λ (m : Move). m.time) end (moves_before_time end (moves_of levels starts leaves))
+    (moves_before_time later (moves_of levels starts leaves)) =
     cut-later (λ (m : Move). m.time) 40 end later (moves_of levels starts leaves) h
     (moves-rise levels starts leaves rise) in
     record {

@@ -1,5 +1,6 @@
 -- How far a log has come in the schedule: what keeps this, and what leads on.
-use Rattle.std.proofs.Common.{◌≡◌, ℕ, suc, ◌+◌, ◌*◌, ◌^◌, ◌<◌, ◌≤◌, true, false, cond, List, [], ◌∷◌, ◌++◌, length, Option, refl, sym, ◌∙◌, ap, arith, subst, append-nil, append_assoc, length-append}
+use Rattle.std.proofs.Common.{◌≡◌, ℕ, suc, ◌+◌, ◌*◌, ◌^◌, ◌<◌, ◌≤◌, true, false, cond, List, [], ◌∷◌, ◌++◌, length}
+use Rattle.std.proofs.Common.{Option, refl, sym, ◌∙◌, ap, arith, subst, append-nil, append_assoc, length-append}
 use Rattle.std.specs.List.{flat_map, All}
 use Rattle.std.proofs.lemmas.List.{get_or_append_left, get_or_push}
 use Rattle.std.proofs.lemmas.List.Concat.{flat_map-append}
@@ -13,7 +14,8 @@ use Rattle.bus_watch.specs.declared.log.Event.{Event}
 use Rattle.bus_watch.specs.declared.log.Event.TheVariants.{Access, Drawn, Chosen}
 use Rattle.bus_watch.specs.Log.{LogLists, with_event}
 use Rattle.bus_schedule.specs.declared.beat.Beat.{Beat}
-use Rattle.bus_schedule.specs.Timetable.{Public, AgreeTo, public_of, ended_by, count_of, choices_of, rate_at, digit_of, falls_next, beat_with, beat_at, start_at, starts_from, starts}
+use Rattle.bus_schedule.specs.Timetable.{Public, AgreeTo, public_of, ended_by, count_of, choices_of, rate_at}
+use Rattle.bus_schedule.specs.Timetable.{digit_of, falls_next, beat_with, beat_at, start_at, starts_from, starts}
 use Rattle.bus_watch.specs.Path.{slot_moves}
 use Rattle.bus_schedule.specs.Schedule.{moves_of}
 use Rattle.bus_schedule.specs.Shown.{start_of, leaf_of, index_of, starts_of, leaves_of, indices_of, AreSilent, code_of}

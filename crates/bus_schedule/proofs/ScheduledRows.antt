@@ -3,7 +3,8 @@ use Rattle.std.proofs.Common.{◌≡◌, ℕ, ◌<◌, [], ◌∷◌, refl, arit
 use Rattle.std.proofs.lemmas.List.Elements.{All-nil, All-cons, All-head}
 use Rattle.asc_base.specs.Greatest.{greatest}
 use Rattle.bus_watch.specs.declared.log.Event.TheVariants.{Chosen}
-use Rattle.bus_schedule.specs.Timetable.{choices_of, bits_of, most_of, epoch_at, beat_at, starts_from, starts, timetable, ended_by, fallen}
+use Rattle.bus_schedule.specs.Timetable.{choices_of, start_at, bits_of, most_of, epoch_at, beat_at, starts_from, starts}
+use Rattle.bus_schedule.specs.Timetable.{timetable, ended_by, fallen}
 use Rattle.bus_watch.specs.Path.{along}
 use Rattle.bus_schedule.specs.Schedule.{moves_of, schedule}
 use Rattle.bus_schedule.specs.Shown.{code_of}
@@ -14,12 +15,14 @@ use Rattle.bus_schedule.proofs.TimetableParts.{fallen-inside}
 use Rattle.bus_schedule.proofs.ScheduledLaws.{scheduled-few}
 
 pub before-end : IsScheduled two_rates 303 (first_slot_log [])
-unfolding greatest bits_of most_of epoch_at beat_at starts_from starts timetable ended_by along moves_of schedule code_of
+unfolding greatest bits_of most_of epoch_at beat_at starts_from starts timetable ended_by
+    along moves_of schedule code_of
 before-end =
     record { starts = refl; leaves = refl; moves = refl; indices = All-nil (λ index. index < 2); fell = refl }
 
 pub at-end : IsScheduled two_rates 304 (first_slot_log (Chosen 1 ∷ []))
-unfolding greatest bits_of most_of epoch_at beat_at starts_from starts timetable ended_by along moves_of schedule code_of
+unfolding greatest bits_of most_of epoch_at beat_at starts_from starts timetable ended_by
+    along moves_of schedule code_of
 at-end = record {
   starts = refl;
   leaves = refl;
@@ -33,7 +36,8 @@ fallen-before : (index : ℕ) → fallen two_rates (log_code two_rates (first_sl
 unfolding beat_at
 fallen-before index =
     let code : ℕ = log_code two_rates (first_slot_log (Chosen index ∷ [])) in
-    fallen-inside two_rates code 0 303 (omega (arith, start-first two_rates code)) (omega (arith, start-first two_rates code))
+    let first : start_at two_rates code 0 ≡ 128 = start-first two_rates code in
+    fallen-inside two_rates code 0 303 (omega arith) (omega arith)
 
 fallen-after : fallen two_rates (log_code two_rates (first_slot_log [])) 304 ≡ 1
 unfolding greatest bits_of most_of epoch_at beat_at starts_from starts timetable ended_by code_of
@@ -60,8 +64,10 @@ two-idle end first second h =
 pub two-after : (end first second : ℕ)
     → IsScheduled two_rates end (first_slot_log (Chosen first ∷ Chosen second ∷ [])) → ⊥
 two-after end first second h =
-    absurd (omega (arith, scheduled-few two_rates end (first_slot_log (Chosen first ∷ Chosen second ∷ [])) h, one-choice))
+    let few = scheduled-few two_rates end (first_slot_log (Chosen first ∷ Chosen second ∷ [])) h in
+    absurd (omega (arith, few, one-choice))
 
 pub none-yet : IsScheduled two_rates 0 (idle_log [])
-unfolding greatest bits_of most_of epoch_at beat_at starts_from starts timetable ended_by along moves_of schedule code_of
+unfolding greatest bits_of most_of epoch_at beat_at starts_from starts timetable ended_by
+    along moves_of schedule code_of
 none-yet = record { starts = refl; leaves = refl; moves = refl; indices = All-nil (λ index. index < 2); fell = refl }

@@ -1,5 +1,7 @@
 -- The starts of slots, and which of them are below a time.
-use Rattle.std.proofs.Common.{◌≡◌, ℕ, zero, suc, ◌+◌, ◌-◌, ◌*◌, ◌/◌, ◌<◌, ◌≤◌, Bool, true, false, cond, List, [], ◌∷◌, ◌++◌, length, refl, sym, ◌∙◌, ap, subst, inl, inr, arith, append-nil, length-append}
+use Rattle.std.proofs.Common.{◌≡◌, ℕ, zero, suc, ◌+◌, ◌-◌, ◌*◌, ◌/◌, ◌<◌, ◌≤◌, Bool, true, false, cond, List, []}
+use Rattle.std.proofs.Common.{◌∷◌, ◌++◌, length, refl, sym, ◌∙◌, ap, subst, inl, inr, arith, append-nil}
+use Rattle.std.proofs.Common.{length-append}
 use Rattle.std.specs.Prelude.{nat_lt}
 use Rattle.std.specs.List.{filter, All}
 use Rattle.std.proofs.Math.Nat.{lt-div-mul-add}
@@ -8,7 +10,9 @@ use Rattle.std.proofs.lemmas.Bool.{cases_lt}
 use Rattle.std.proofs.lemmas.List.Elements.{All-nil, All-cons, All-push, All-weaker, filter-append}
 use Rattle.asc_base.specs.TreeShape.{olat_of}
 use Rattle.bus_schedule.specs.declared.beat.Beat.{Beat}
-use Rattle.bus_schedule.specs.Timetable.{Public, AgreeTo, count_of, rate_at, digit_of, falls_next, beat_with, beat_after, beat_at, start_at, end_at, starts_from, starts, slots_within, timetable}
+use Rattle.bus_schedule.specs.Timetable.{Public, AgreeTo, count_of, rate_at, digit_of, falls_next, beat_with}
+use Rattle.bus_schedule.specs.Timetable.{beat_after, beat_at, start_at, end_at, starts_from, starts, slots_within}
+use Rattle.bus_schedule.specs.Timetable.{timetable}
 use Rattle.bus_schedule.specs.Schedule.{RiseBy, GoesOn}
 use Rattle.bus_schedule.proofs.Rising.{pairs-append, pairs-left, filter-all, filter-none, cut-rising, cut-later}
 

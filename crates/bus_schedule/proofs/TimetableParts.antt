@@ -1,5 +1,6 @@
 -- Which starts are below a time, slot by slot.
-use Rattle.std.proofs.Common.{◌≡◌, ◌↔◌, ℕ, zero, suc, ◌+◌, ◌-◌, ◌*◌, ◌/◌, ◌<◌, ◌≤◌, Bool, true, cond, List, [], ◌∷◌, ◌++◌, length, take, get_or, refl, sym, ◌∙◌, ap, subst, inl, inr, arith, append-nil}
+use Rattle.std.proofs.Common.{◌≡◌, ◌↔◌, ℕ, zero, suc, ◌+◌, ◌-◌, ◌*◌, ◌/◌, ◌<◌, ◌≤◌, Bool, true, cond, List, [], ◌∷◌}
+use Rattle.std.proofs.Common.{◌++◌, length, take, get_or, refl, sym, ◌∙◌, ap, subst, inl, inr, arith, append-nil}
 use Rattle.std.specs.Prelude.{nat_le}
 use Rattle.std.specs.List.{filter, All}
 use Rattle.std.proofs.Math.Nat.{div-mul-le_self}
@@ -8,9 +9,12 @@ use Rattle.std.proofs.lemmas.Bool.{cases_lt, le-leb, lt-leb}
 use Rattle.std.proofs.lemmas.List.{get_or_append_left, get_or-append_right, take_all, take-append-le}
 use Rattle.std.proofs.lemmas.List.Elements.{All-head, All-tail, All-weaker, filter-append}
 use Rattle.asc_base.specs.TreeShape.{olat_of}
-use Rattle.bus_schedule.specs.Timetable.{Public, beat_at, start_at, end_at, starts, slots_within, timetable, ended_by, fallen, first_from}
+use Rattle.bus_schedule.specs.Timetable.{Public, beat_at, start_at, end_at, starts, slots_within, timetable}
+use Rattle.bus_schedule.specs.Timetable.{ended_by, fallen, first_from}
 use Rattle.bus_schedule.proofs.Rising.{filter-all}
-use Rattle.bus_schedule.proofs.TimetableLaws.{length-starts, starts-next, starts-all, start-up, start-rises, starts-ended, end-before, within-far, timetable-upto, timetable-between, timetable-inside}
+use Rattle.bus_schedule.proofs.TimetableLaws.{length-starts, starts-next, starts-all, start-up, start-rises}
+use Rattle.bus_schedule.proofs.TimetableLaws.{starts-ended, end-before, within-far, timetable-upto}
+use Rattle.bus_schedule.proofs.TimetableLaws.{timetable-between, timetable-inside}
 
 -- an earlier slot starts no later
 pub start-order : (p : Public) (code k n : ℕ) → k ≤ n → start_at p code k ≤ start_at p code n
@@ -111,11 +115,15 @@ timetable-first p code end k few =
     ap (take k) (timetable-is p code end) ∙ starts-first p code (length (timetable p code end)) k few
 
 -- no more slots start before a time than go into it
-pub timetable-few : (p : Public) (code end : ℕ) → length (timetable p code end) * olat_of p.levels ≤ end + olat_of p.levels
+pub timetable-few : (p : Public) (code end : ℕ)
+    → length (timetable p code end) * olat_of p.levels ≤ end + olat_of p.levels
 timetable-few p code end =
     let few : length (timetable p code end) ≤ slots_within p end =
     elim (cases_lt (slots_within p end) (length (timetable p code end))) [
-      | inl more ↦ absurd (omega (arith, (timetable-before p code end).before (slots_within p end) more, within-far p code end))
+      | inl more ↦ (
+          let before = (timetable-before p code end).before (slots_within p end) more in
+          absurd (omega (arith, before, within-far p code end))
+          )
       | inr few ↦ few
     ] in
     product (length (timetable p code end)) (olat_of p.levels) few (div-mul-le_self end (olat_of p.levels))
@@ -193,7 +201,8 @@ pub first-is : (p : Public) (code time n : ℕ) → time ≤ start_at p code n �
 first-is p code time n next before =
     ap (start_at p code) (length-timetable-of p code time n (record { next = next; before = before }))
 
--- where the last slot before a start ended less than a slot's cycles after a time, no slot before it starts from then on
+-- where the last slot before a start ended less than a slot's cycles after a time, no slot before it starts from then
+-- on
 pub before-start : (p : Public) (code time n : ℕ) → end_at p code n < time + olat_of p.levels
     → (k : ℕ) → k < n → start_at p code k < time
 before-start p code time zero late k below = absurd (omega arith)

@@ -1,5 +1,6 @@
 -- Up to which times a log is scheduled.
-use Rattle.std.proofs.Common.{◌≡◌, ℕ, zero, suc, ◌+◌, ◌-◌, ◌*◌, ◌<◌, ◌≤◌, Bool, true, false, List, [], ◌∷◌, ◌++◌, length, sym, ◌∙◌, ap, arith, append-nil, append_assoc, length-append}
+use Rattle.std.proofs.Common.{◌≡◌, ℕ, zero, suc, ◌+◌, ◌-◌, ◌*◌, ◌<◌, ◌≤◌, Bool, true, false, List, [], ◌∷◌, ◌++◌}
+use Rattle.std.proofs.Common.{length, sym, ◌∙◌, ap, arith, append-nil, append_assoc, length-append}
 use Rattle.std.specs.Prelude.{nat_lt}
 use Rattle.std.specs.List.{All}
 use Rattle.std.proofs.lemmas.List.Elements.{All-nil, All-push, All-append, All-weaker, filter-append}
@@ -11,7 +12,8 @@ use Rattle.bus_watch.specs.Path.{move_along, along, reads, reads_end, writes_sta
 use Rattle.bus_schedule.specs.Schedule.{moves_of, moves_before_time, schedule}
 use Rattle.bus_schedule.specs.Shown.{starts_of, leaves_of}
 use Rattle.bus_schedule.specs.Scheduled.{log_code, IsScheduled, Between, Inside}
-use Rattle.bus_schedule.proofs.TimetableLaws.{starts-ended, start-rises, end-before, length-starts, starts-next, timetable-between, timetable-inside}
+use Rattle.bus_schedule.proofs.TimetableLaws.{starts-ended, start-rises, end-before, length-starts, starts-next}
+use Rattle.bus_schedule.proofs.TimetableLaws.{timetable-between, timetable-inside}
 use Rattle.bus_schedule.proofs.TimetableParts.{fallen-between, fallen-inside}
 use Rattle.bus_schedule.proofs.SlotMoves.{along-suc}
 use Rattle.bus_schedule.proofs.Rising.{filter-all, filter-none}

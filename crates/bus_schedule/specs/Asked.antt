@@ -4,7 +4,8 @@ use Rattle.bus_watch.specs.declared.log.Event.{Event}
 use Rattle.bus_watch.specs.declared.log.Event.TheVariants.{Access, Drawn, Tagged, Accepted, Chosen, Answered}
 use Rattle.bus_schedule.specs.Shown.{start_of}
 
--- A start is the first from a time on, where these are the starts before it: it isn't before the time, and they all are.
+-- A start is the first from a time on, where these are the starts before it: it isn't before the time, and they all
+-- are.
 pub record IsFirstFrom (time : ℕ) (earlier : List ℕ) (start : ℕ) : Type 0 where
   pub from : time ≤ start
   pub others : All (λ other. other < time) earlier

@@ -1,6 +1,7 @@
 -- The Timetable: when slots start, and when a rate is chosen. It mentions no program. All numbers of cycles, the epochs
 -- and the choices are this project's own.
-use Rattle.std.specs.Prelude.{◌≡◌, ℕ, zero, suc, ◌+◌, ◌-◌, ◌*◌, ◌/◌, ◌%◌, ◌^◌, ◌<◌, nat_lt, nat_le, max, Bool, ◌&&◌, if◌then◌else◌, List, [], ◌∷◌, length, take, slice_index}
+use Rattle.std.specs.Prelude.{◌≡◌, ℕ, zero, suc, ◌+◌, ◌-◌, ◌*◌, ◌/◌, ◌%◌, ◌^◌, ◌<◌, nat_lt, nat_le, max, Bool, ◌&&◌}
+use Rattle.std.specs.Prelude.{if◌then◌else◌, List, [], ◌∷◌, length, take, slice_index}
 use Rattle.std.specs.List.{filter}
 use Rattle.asc_base.specs.Greatest.{greatest}
 use Rattle.asc_base.specs.TreeShape.{olat_of}

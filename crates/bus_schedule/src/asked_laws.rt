@@ -38,8 +38,8 @@ pub fn next_slot_is_first()
         → IsFirstFrom time (starts_of log.events) (start_at p (log_code p log) n) }
 {}
 
-/// After a slot from 128 on, one that was asked for at 129 may start at 432; one that was asked for at 128 may not, since
-/// the slot at 128 was the first from there on, and neither may one that was asked for at 433.
+/// After a slot from 128 on, one that was asked for at 129 may start at 432; one that was asked for at 128 may not,
+/// since the slot at 128 was the first from there on, and neither may one that was asked for at 433.
 pub fn asked_rows()
     ensures served { ServesPromptly ((first_slot_log []).events ++ Access 432 (Some 129) ∷ []) }
     ensures passed_by { ServesPromptly ((first_slot_log []).events ++ Access 432 (Some 128) ∷ []) → ⊥ }

@@ -25,7 +25,7 @@ pub use starts_laws::{
 };
 pub use timetable_laws::{
     choices_are_few, choices_decide, choices_fall, codes_have_digits, public_parts, slots_apart,
-    timetable_rows, timetables_are_few, timetables_go_on,
+    starts_rows, timetable_rows, timetables_are_few, timetables_go_on,
 };
 
 #[cfg(test)]

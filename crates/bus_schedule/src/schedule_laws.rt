@@ -1,7 +1,8 @@
 //! Laws of the moves of slots, for any tree and any lists of starts and leaves. The functions do nothing: each
 //! states a law in its contract.
 
-ghost use Rattle.std.specs.Prelude.{◌≡◌, ◌↔◌, ℕ, zero, suc, ◌+◌, ◌*◌, ◌<◌, ◌≤◌, All, Bool, true, false, List, [], ◌∷◌, ◌++◌, length, take};
+ghost use Rattle.std.specs.Prelude.{◌≡◌, ◌↔◌, ℕ, zero, suc, ◌+◌, ◌*◌, ◌<◌, ◌≤◌, All, Bool, true, false, List, []};
+ghost use Rattle.std.specs.Prelude.{◌∷◌, ◌++◌, length, take};
 ghost use Rattle.asc_base.specs.TreeShape.{olat_of, bucket_of};
 ghost use Rattle.bus_watch.specs.declared.log.Move.{Move};
 ghost use Rattle.bus_schedule.specs.Timetable.{Public, timetable};
@@ -37,8 +38,8 @@ pub fn moves_rise()
 {}
 
 /// A time cuts off nothing of slots that are over by then, and of the slot that it falls into what isn't before it.
-/// Where slots don't overlap, all before one that has started are over. A slot has a move before a time exactly where it
-/// starts before it.
+/// Where slots don't overlap, all before one that has started are over. A slot has a move before a time exactly where
+/// it starts before it.
 pub fn moves_are_cut()
     ensures over { (levels end : ℕ) (starts leaves : List ℕ) → All (λ start. start + olat_of levels ≤ end) starts
         → moves_before_time end (moves_of levels starts leaves) ≡ moves_of levels starts leaves }

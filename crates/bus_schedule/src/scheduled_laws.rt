@@ -1,6 +1,7 @@
 //! Laws of how far a log has come in the schedule. The functions do nothing: each states a law in its contract.
 
-ghost use Rattle.std.specs.Prelude.{◌≡◌, ℕ, suc, ◌+◌, ◌*◌, ◌^◌, ◌<◌, ◌≤◌, All, Bool, true, false, Option, List, [], ◌∷◌, ◌++◌, length};
+ghost use Rattle.std.specs.Prelude.{◌≡◌, ℕ, suc, ◌+◌, ◌*◌, ◌^◌, ◌<◌, ◌≤◌, All, Bool, true, false, Option, List, []};
+ghost use Rattle.std.specs.Prelude.{◌∷◌, ◌++◌, length};
 ghost use Rattle.asc_base.specs.Settings.{IsConfig};
 ghost use Rattle.asc_base.specs.TreeShape.{olat_of};
 ghost use Rattle.asc_base.specs.declared.settings.Config.{Config};
@@ -12,7 +13,8 @@ ghost use Rattle.bus_watch.specs.declared.log.Move.{Move};
 ghost use Rattle.bus_watch.specs.declared.log.Event.{Event};
 ghost use Rattle.bus_watch.specs.declared.log.Event.TheVariants.{Access, Drawn, Tagged, Accepted, Chosen, Answered};
 ghost use Rattle.bus_watch.specs.Log.{LogLists, with_event};
-ghost use Rattle.bus_schedule.specs.Timetable.{Public, public_of, count_of, choices_of, rate_at, falls_next, beat_with, beat_at, start_at, end_at};
+ghost use Rattle.bus_schedule.specs.Timetable.{Public, public_of, count_of, choices_of, rate_at, falls_next};
+ghost use Rattle.bus_schedule.specs.Timetable.{beat_with, beat_at, start_at, end_at};
 ghost use Rattle.bus_watch.specs.Path.{along, reads, writes_start, slot_moves};
 ghost use Rattle.bus_schedule.specs.Rows.{two_rates, first_slot_log, idle_log};
 ghost use Rattle.bus_schedule.specs.Shown.{starts_of, leaves_of, indices_of, AreSilent};
@@ -47,16 +49,18 @@ pub fn log_is_scheduled()
         → end < start + olat_of p.levels → IsScheduled p end log }
 {}
 
-/// The choice at a slot's end is noted by the time of that end, and not before; and no more choices are noted than fall.
-/// So the log of one slot, at whose end a choice falls, is scheduled up to the cycle before the end without the choice
-/// alone, and up to the end with it alone; and a log of two choices, where one is allowed, is scheduled up to no time.
+/// The choice at a slot's end is noted by the time of that end, and not before; and no more choices are noted than
+/// fall. So the log of one slot, at whose end a choice falls, is scheduled up to the cycle before the end without the
+/// choice alone, and up to the end with it alone; and a log of two choices, where one is allowed, is scheduled up to
+/// no time.
 pub fn scheduled_rows()
     ensures before { IsScheduled two_rates 303 (first_slot_log []) }
     ensures early { (index : ℕ) → IsScheduled two_rates 303 (first_slot_log (Chosen index ∷ [])) → ⊥ }
     ensures missed { IsScheduled two_rates 304 (first_slot_log []) → ⊥ }
     ensures noted { IsScheduled two_rates 304 (first_slot_log (Chosen 1 ∷ [])) }
     ensures no_rate { IsScheduled two_rates 304 (first_slot_log (Chosen 2 ∷ [])) → ⊥ }
-    ensures twice { (end first second : ℕ) → IsScheduled two_rates end (idle_log (Chosen first ∷ Chosen second ∷ [])) → ⊥ }
+    ensures twice { (end first second : ℕ)
+        → IsScheduled two_rates end (idle_log (Chosen first ∷ Chosen second ∷ [])) → ⊥ }
     ensures twice_after { (end first second : ℕ)
         → IsScheduled two_rates end (first_slot_log (Chosen first ∷ Chosen second ∷ [])) → ⊥ }
     ensures idle { IsScheduled two_rates 0 (idle_log []) }
@@ -65,8 +69,9 @@ pub fn scheduled_rows()
 /// A slot begins at its time, and its leaf is drawn.
 pub fn slot_begins()
     ensures inside { (p : Public) (n start : ℕ) (asked : Option ℕ) (point : Point) (leaf : Leaf)
-        (old mid new : LogLists) → Between p n old → start ≡ start_at p (log_code p old) n → mid ≡ with_event old (Access start asked)
-        → new ≡ with_event mid (Drawn point leaf) → Inside p n leaf.0 [] new }
+        (old mid new : LogLists) → Between p n old → start ≡ start_at p (log_code p old) n
+        → mid ≡ with_event old (Access start asked) → new ≡ with_event mid (Drawn point leaf)
+        → Inside p n leaf.0 [] new }
     ensures code { (p : Public) (start : ℕ) (asked : Option ℕ) (point : Point) (leaf : Leaf) (old mid new : LogLists)
         → mid ≡ with_event old (Access start asked) → new ≡ with_event mid (Drawn point leaf)
         → log_code p new ≡ log_code p old }
@@ -86,8 +91,8 @@ pub fn slot_goes_on()
     ensures joined { (old mid new : LogLists) → ShowsNoMore old mid → ShowsNoMore mid new → ShowsNoMore old new }
 {}
 
-/// A tag that is put on or accepted, and a line that is answered, show nothing of slots; nor do no events, nor two lists
-/// of which neither does.
+/// A tag that is put on or accepted, and a line that is answered, show nothing of slots; nor do no events, nor two
+/// lists of which neither does.
 pub fn events_are_silent()
     ensures none { AreSilent [] }
     ensures both { (xs ys : List Event) → AreSilent xs → AreSilent ys → AreSilent (xs ++ ys) }
@@ -121,7 +126,8 @@ pub fn slot_ends_with_choice()
         → falls_next p (beat_at p (log_code p old) n) ≡ true → index < count_of p
         → new ≡ with_event old (Chosen index)
         → beat_at p (log_code p new) (suc n)
-        ≡ beat_with p (beat_at p (log_code p old) n) (rate_at p.rates index) ((beat_at p (log_code p old) n).choices + 1) }
+        ≡ beat_with p (beat_at p (log_code p old) n) (rate_at p.rates index)
+        ((beat_at p (log_code p old) n).choices + 1) }
 {}
 
 /// A log has no more choices than are allowed, and its code is below the number of codes with so many digits; so has

@@ -4,7 +4,9 @@
 ghost use Rattle.std.specs.Prelude.{◌≡◌, ◌↔◌, ℕ, suc, ◌+◌, ◌*◌, ◌^◌, ◌<◌, ◌≤◌, true, List, length, take, slice_index};
 ghost use Rattle.std.specs.List.Sorted.{IsStrictlyIncreasing};
 ghost use Rattle.asc_base.specs.TreeShape.{olat_of};
-ghost use Rattle.bus_schedule.specs.Timetable.{Public, AgreeTo, count_of, digit_of, rate_at, falls_next, first_beat, beat_by, beat_at, start_at, end_at, starts, timetable, ended_by, fallen, first_from};
+ghost use Rattle.bus_schedule.specs.Timetable.{Public, AgreeTo, count_of, digit_of, rate_at, falls_next};
+ghost use Rattle.bus_schedule.specs.Timetable.{first_beat, beat_by, beat_at, start_at, end_at, starts, timetable};
+ghost use Rattle.bus_schedule.specs.Timetable.{ended_by, fallen, first_from};
 
 /// Where the timetable stands before the first slot, and after each one.
 pub fn beats_go_on()
@@ -61,7 +63,8 @@ pub fn starts_tell_digits()
     ensures next { (p : Public) (code other n : ℕ) → IsStrictlyIncreasing p.rates → 1 ≤ count_of p
         → AgreeTo p code other (beat_at p code n).choices → falls_next p (beat_at p code n) ≡ true
         → start_at p code (suc n) ≡ start_at p other (suc n)
-        → digit_of code (count_of p) (beat_at p code n).choices ≡ digit_of other (count_of p) (beat_at p code n).choices }
+        → digit_of code (count_of p) (beat_at p code n).choices
+        ≡ digit_of other (count_of p) (beat_at p code n).choices }
     ensures starts { (p : Public) (code other n : ℕ) → IsStrictlyIncreasing p.rates → 1 ≤ count_of p
         → ((k : ℕ) → k ≤ n → start_at p code k ≡ start_at p other k)
         → AgreeTo p code other (beat_at p code n).choices }
@@ -69,8 +72,8 @@ pub fn starts_tell_digits()
         → fallen p code end ≡ fallen p other end }
 {}
 
-/// Of two codes that have the same first digits, the one that has no more digits isn't greater. Where it has one more at
-/// most, the next digit of both decides.
+/// Of two codes that have the same first digits, the one that has no more digits isn't greater. Where it has one more
+/// at most, the next digit of both decides.
 pub fn codes_compare()
     ensures least { (p : Public) (code other places : ℕ) → 1 ≤ count_of p → code < count_of p ^ places
         → AgreeTo p code other places → code ≤ other }

@@ -1,14 +1,18 @@
 //! Laws of timetables and codes, for any public part of a configuration and any code. The functions do nothing: each
 //! states a law in its contract.
 
-ghost use Rattle.std.specs.Prelude.{◌≡◌, ℕ, suc, ◌+◌, ◌-◌, ◌*◌, ◌/◌, ◌^◌, ◌<◌, ◌≤◌, ◌↔◌, true, false, All, List, [], ◌∷◌, ◌++◌, length, slice_index};
+ghost use Rattle.std.specs.Prelude.{◌≡◌, ℕ, suc, ◌+◌, ◌-◌, ◌*◌, ◌/◌, ◌^◌, ◌<◌, ◌≤◌, ◌↔◌, true, false, All, List};
+ghost use Rattle.std.specs.Prelude.{[], ◌∷◌, ◌++◌, length, slice_index};
 ghost use Rattle.std.specs.List.Sorted.{IsStrictlyIncreasing};
 ghost use Rattle.asc_base.specs.TreeShape.{olat_of};
 ghost use Rattle.asc_base.specs.Settings.{IsPowerTo, IsConfig};
 ghost use Rattle.asc_base.specs.declared.settings.Config.{Config};
-ghost use Rattle.bus_schedule.specs.Timetable.{Public, AgreeTo, public_of, count_of, bits_of, choices_of, epoch_at, digit_of, rate_at, falls_next, beat_at, start_at, end_at, starts, timetable};
+ghost use Rattle.bus_schedule.specs.Timetable.{Public, AgreeTo, public_of, count_of, bits_of, choices_of, epoch_at};
+ghost use Rattle.bus_schedule.specs.Timetable.{digit_of, rate_at, falls_next, beat_at, start_at, end_at, starts};
+ghost use Rattle.bus_schedule.specs.Timetable.{timetable, fallen, first_from};
 ghost use Rattle.bus_schedule.specs.Schedule.{RiseBy, GoesOn};
 ghost use Rattle.bus_schedule.specs.Shown.{code_of};
+ghost use Rattle.bus_schedule.specs.Rows.{four_rates};
 
 /// The first slot starts at the first rate, and each further one at the end of the one before it plus the rate in
 /// force, which is one of the rates. So slots don't overlap.
@@ -63,18 +67,28 @@ pub fn choices_decide()
 /// The first starts of some timetables. Where slots take 176 cycles and epoch 0 takes 400, the second and the fifth end
 /// are the first in epochs 1 and 2. Two rates under two bits have a choice at each of them, and under one bit at the
 /// first alone; four rates under one bit have none, and neither has one rate.
-pub fn timetable_rows()
+pub fn starts_rows()
     ensures two { starts (record { levels = 1; rates = 64 ∷ 128 ∷ []; first = 0; epoch = 400; leak = 2 }) 1 8
         ≡ 64 ∷ 304 ∷ 608 ∷ 912 ∷ 1216 ∷ 1456 ∷ 1696 ∷ 1936 ∷ [] }
     ensures one { starts (record { levels = 1; rates = 64 ∷ 128 ∷ []; first = 0; epoch = 400; leak = 1 }) 1 8
         ≡ 64 ∷ 304 ∷ 608 ∷ 912 ∷ 1216 ∷ 1520 ∷ 1824 ∷ 2128 ∷ [] }
-    ensures four { starts (record { levels = 1; rates = 64 ∷ 128 ∷ 256 ∷ 512 ∷ []; first = 1; epoch = 400; leak = 1 }) 3 5
+    ensures four { starts
+        (record { levels = 1; rates = 64 ∷ 128 ∷ 256 ∷ 512 ∷ []; first = 1; epoch = 400; leak = 1 }) 3 5
         ≡ 128 ∷ 432 ∷ 736 ∷ 1040 ∷ 1344 ∷ [] }
-    ensures late { timetable (record { levels = 5; rates = 256 ∷ 1024 ∷ 4096 ∷ 16384 ∷ []; first = 0; epoch = 4096; leak = 2 }) 3 25000
-        ≡ 256 ∷ 1008 ∷ 1760 ∷ 2512 ∷ 3264 ∷ 4016 ∷ 20896 ∷ [] }
-    ensures count { length (timetable (record { levels = 5; rates = 256 ∷ 1024 ∷ 4096 ∷ 16384 ∷ []; first = 0; epoch = 32768; leak = 2 }) 3 200000) ≡ 53 }
     ensures alone { starts (record { levels = 5; rates = 256 ∷ []; first = 0; epoch = 65536; leak = 0 }) 0 8
         ≡ 256 ∷ 1008 ∷ 1760 ∷ 2512 ∷ 3264 ∷ 4016 ∷ 4768 ∷ 5520 ∷ [] }
+{}
+
+/// The timetable of four rates under code 3 up to 200,000 has 53 starts. The 44th slot ends at 33,088, where the one
+/// choice falls, so the 45th starts at 49,472, and the first start from 200,000 on is 201,392.
+pub fn timetable_rows()
+    ensures starts { timetable four_rates 3 4000 ≡ 256 ∷ 1008 ∷ 1760 ∷ 2512 ∷ 3264 ∷ [] }
+    ensures count { length (timetable four_rates 3 200000) ≡ 53 }
+    ensures end { end_at four_rates 3 44 ≡ 33088 }
+    ensures next { start_at four_rates 3 44 ≡ 49472 }
+    ensures first { first_from four_rates 3 200000 ≡ 201392 }
+    ensures before { fallen four_rates 3 33087 ≡ 0 }
+    ensures fallen { fallen four_rates 3 33088 ≡ 1 }
 {}
 
 /// No more choices fall than the budget has bits for, where a choice among `2 ^ bits` rates takes so many bits: none

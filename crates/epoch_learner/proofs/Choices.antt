@@ -14,6 +14,7 @@ choices_fit config learner choices h within =
     let p = public_of config in
     let ranges = has_ranges config learner h in
     let number : learner.rates.count ≡ config.rates.count = ap (λ r. r.count) h.rates in
-    let count : count_of p ≡ learner.rates.count = ap (λ r. length (take r.count r.list)) (sym h.rates) ∙ ranges.listed in
+    let count : count_of p ≡ learner.rates.count =
+    ap (λ r. length (take r.count r.list)) (sym h.rates) ∙ ranges.listed in
     let most : choices_of p ≡ learner.most = ap (λ n. most_of n config.leak) (count ∙ number) ∙ sym h.most in
     rw (← count) (codes-few p ranges.power.0 choices (count ∙ ranges.power.2) (omega arith))

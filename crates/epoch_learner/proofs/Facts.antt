@@ -33,7 +33,8 @@ has_ranges config learner h =
       some = omega (arith, counted.0);
       few = few;
       power = rw count h.is_config.rates.power;
-      listed = length-take-le learner.rates.count learner.rates.list (omega (arith, ap (λ r. length r.list) h.rates, h.is_config.sixteen));
+      listed = length-take-le learner.rates.count learner.rates.list
+          (omega (arith, ap (λ r. length r.list) h.rates, h.is_config.sixteen));
       olat = omega (arith, h.olat, levels);
       epoch_from = omega (arith, h.epoch, h.is_config.epoch.0);
       epoch_to = omega (arith, h.epoch, h.is_config.epoch.1);

@@ -12,7 +12,8 @@ use Rattle.bus_schedule.proofs.ScheduledLaws.{shows-same}
 use Rattle.epoch_learner.specs.Learner.{learner_at_start, after_access, after_end, choice_by_sums}
 use Rattle.epoch_learner.specs.Stands.{Stands, StandsIn, KeepsPace, one_slot, noted}
 use Rattle.epoch_learner.specs.declared.Learner.{Learner}
-use Rattle.epoch_learner.proofs.StandLaws.{stands_first, stands_begun, inside_silent, stands_passed, stands_chosen, stands_pace, writes_pace}
+use Rattle.epoch_learner.proofs.StandLaws.{stands_first, stands_begun, inside_silent, stands_passed, stands_chosen}
+use Rattle.epoch_learner.proofs.StandLaws.{stands_pace, writes_pace}
 
 -- nothing, and the first slot's start and leaf
 abbrev none : LogLists
@@ -40,7 +41,8 @@ slot_inside config leaf is =
     (shows-same (drawn start leaf) (one_slot config leaf) refl) refl
 
 pub slot_before : (config : Config) (leaf : Leaf) (end : ℕ) → IsConfig config
-    → end + 1 ≡ (learner_at_start config).rate + olat_of config.shape.levels → KeepsPace config end (one_slot config leaf)
+    → end + 1 ≡ (learner_at_start config).rate + olat_of config.shape.levels
+    → KeepsPace config end (one_slot config leaf)
 slot_before config leaf end is at =
     writes_pace (config.shape.levels + 1) end (slot_inside config leaf is)
     (omega arith) (omega arith) (omega arith) (omega arith)
@@ -59,7 +61,8 @@ answered : (answer : Option ℕ) (config : Config) (leaf : Leaf) (end : ℕ) (le
 answered None config leaf end learner is at of answer =
     stands_passed end (seen_by config leaf learner is of) at answer
 answered (Some index) config leaf end learner is at of answer =
-    stands_chosen end index (noted (Some index) (one_slot config leaf)) (seen_by config leaf learner is of) at answer refl
+    stands_chosen end index (noted (Some index) (one_slot config leaf)) (seen_by config leaf learner is of) at answer
+    refl
 
 pub slot_done : (config : Config) (leaf : Leaf) (end : ℕ) (learner : Learner) → IsConfig config
     → end ≡ (learner_at_start config).rate + olat_of config.shape.levels → learner ≡ seen config

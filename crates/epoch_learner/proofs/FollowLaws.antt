@@ -6,9 +6,11 @@ use Rattle.asc_base.specs.Settings.{IsConfig}
 use Rattle.asc_base.specs.TreeShape.{olat_of}
 use Rattle.asc_base.specs.declared.settings.Config.{Config}
 use Rattle.bus_schedule.specs.declared.beat.Beat.{Beat}
-use Rattle.bus_schedule.specs.Timetable.{Public, public_of, count_of, choices_of, most_of, falls_next, rate_at, first_beat, beat_after}
+use Rattle.bus_schedule.specs.Timetable.{Public, public_of, count_of, choices_of, most_of, falls_next, rate_at}
+use Rattle.bus_schedule.specs.Timetable.{first_beat, beat_after}
 use Rattle.bus_schedule.proofs.PublicParts.{count-is}
-use Rattle.epoch_learner.specs.Learner.{rates_of, IsLearnerOf, Follows, learner_at_start, after_access, falls_at, chosen_at, after_end, next_end}
+use Rattle.epoch_learner.specs.Learner.{rates_of, IsLearnerOf, Follows, learner_at_start, after_access, falls_at}
+use Rattle.epoch_learner.specs.Learner.{chosen_at, after_end, next_end}
 use Rattle.epoch_learner.specs.declared.Learner.{Learner}
 use Rattle.epoch_learner.proofs.Facts.{has_ranges, chosen_at_below}
 use Rattle.epoch_learner.proofs.Steps.{after_choice_keeps, after_end_keeps}
@@ -65,7 +67,8 @@ pub record HasPublic (p : Public) (learner : Learner) : Type 0 where
   pub epoch : p.epoch ≡ learner.epoch
   pub most : choices_of p ≡ learner.most
 
-pub has_public : (config : Config) (learner : Learner) → IsLearnerOf config learner → HasPublic (public_of config) learner
+pub has_public : (config : Config) (learner : Learner) → IsLearnerOf config learner
+    → HasPublic (public_of config) learner
 has_public config learner h =
     let p = public_of config in
     let same : p.rates ≡ rates_of learner = sym (ap (λ r. take r.count r.list) h.rates) in
@@ -131,7 +134,8 @@ pub rate_bounds : (config : Config) (learner : Learner) → IsLearnerOf config l
     → (64 ≤ learner.rate) × (learner.rate ≤ 1048576)
 rate_bounds config learner h =
     let index : ℕ = h.in_force.0 in
-    let counted : length (take config.rates.count config.rates.list) ≡ config.rates.count = count-is config h.is_config in
+    let counted : length (take config.rates.count config.rates.list) ≡ config.rates.count =
+    count-is config h.is_config in
     let bounds = h.is_config.rates.bounds index 0 (omega (arith, h.in_force.1)) in
     let same : get_or (take config.rates.count config.rates.list) index 0 ≡ learner.rate =
     get_or-take config.rates.count config.rates.list index 0 h.in_force.1 ∙ sym h.in_force.2 in

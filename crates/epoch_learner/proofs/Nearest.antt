@@ -29,7 +29,8 @@ nearest_passes rates number index h =
 pub passes_nearest : (rates : List ℕ) (number index k : ℕ) → is_nearest rates number index ≡ true → k < length rates
     → far rates number index ≤ far rates number k
 passes_nearest rates number index k e below =
-    leb-true _ _ (AllPass-from_list_all (λ rate. nat_le (far rates number index) (abs_diff number rate)) rates e k 0 below)
+    leb-true _ _
+    (AllPass-from_list_all (λ rate. nat_le (far rates number index) (abs_diff number rate)) rates e k 0 below)
 
 -- the nearest rate is the first nearest
 pub nearest_is : (rates : List ℕ) (number index : ℕ) → index < length rates

@@ -1,5 +1,6 @@
 -- Learners and the rule.
-use Rattle.std.proofs.Common.{◌≡◌, ℕ, ◌+◌, ◌-◌, ◌*◌, ◌^◌, true, false, List, [], ◌∷◌, ◌++◌, Option, refl, ap, sym, ◌∙◌, arith}
+use Rattle.std.proofs.Common.{◌≡◌, ℕ, ◌+◌, ◌-◌, ◌*◌, ◌^◌, true, false, List, [], ◌∷◌, ◌++◌, Option, refl, ap, sym}
+use Rattle.std.proofs.Common.{◌∙◌, arith}
 use Rattle.std.proofs.lemmas.List.{length-append}
 use Rattle.std.proofs.lemmas.List.Sums.{sum_by_push}
 use Rattle.asc_base.specs.TreeShape.{olat_of}
@@ -12,7 +13,8 @@ use Rattle.bus_schedule.specs.Shown.{code_of}
 use Rattle.bus_schedule.proofs.CodeLaws.{code-append}
 use Rattle.epoch_learner.specs.LearnerRule.{Seen, real_count, waiting, learner_rule}
 use Rattle.epoch_learner.specs.Heard.{Heard, nothing_heard, with_access, with_choice, told_by, ChoosesByRule}
-use Rattle.epoch_learner.specs.Learner.{rates_of, Follows, Remembers, HasCode, learner_at_start, after_access, falls_at, chosen_at, after_end, next_end}
+use Rattle.epoch_learner.specs.Learner.{rates_of, Follows, Remembers, HasCode, learner_at_start, after_access}
+use Rattle.epoch_learner.specs.Learner.{falls_at, chosen_at, after_end, next_end}
 use Rattle.epoch_learner.specs.declared.Learner.{Learner}
 use Rattle.epoch_learner.proofs.FollowLaws.{has_public, falls_as_next}
 use Rattle.epoch_learner.proofs.HeardLaws.{heard_of_more, by_rule_more}
@@ -86,7 +88,8 @@ pub choice_heard : (config : Config) (beat : Beat) (learner : Learner) (events :
 choice_heard config beat learner events index follows some last =
     let p = public_of config in
     rw (heard_of_more (olat_of p.levels) nothing_heard events (Chosen index))
-    (choice_remembers learner (told_by p events) (next_end p beat) (falls_as_next config beat learner follows ∙ some) last)
+    (choice_remembers learner (told_by p events) (next_end p beat)
+    (falls_as_next config beat learner follows ∙ some) last)
 
 pub start_code : (config : Config) → HasCode (public_of config) [] (learner_at_start config)
 unfolding code_of

@@ -1,5 +1,6 @@
 -- A learner and a log from slot to slot.
-use Rattle.std.proofs.Common.{◌≡◌, ℕ, zero, suc, ◌+◌, ◌-◌, ◌*◌, ◌^◌, ◌<◌, ◌≤◌, true, false, List, [], ◌∷◌, ◌++◌, Option, None, Some, refl, sym, ◌∙◌, ap, subst, inl, inr, arith, append-nil}
+use Rattle.std.proofs.Common.{◌≡◌, ℕ, zero, suc, ◌+◌, ◌-◌, ◌*◌, ◌^◌, ◌<◌, ◌≤◌, true, false, List, [], ◌∷◌, ◌++◌}
+use Rattle.std.proofs.Common.{Option, None, Some, refl, sym, ◌∙◌, ap, subst, inl, inr, arith, append-nil}
 use Rattle.std.proofs.lemmas.Bool.{cases_Bool}
 use Rattle.std.proofs.lemmas.Nat.{mul-le}
 use Rattle.asc_base.specs.Settings.{IsConfig}
@@ -17,24 +18,30 @@ use Rattle.bus_watch.specs.Made.{Made}
 use Rattle.bus_watch.specs.RunEnd.{RunEnd}
 use Rattle.bus_watch.specs.Path.{along, reads, writes_start, slot_moves}
 use Rattle.bus_schedule.specs.declared.beat.Beat.{Beat}
-use Rattle.bus_schedule.specs.Timetable.{Public, public_of, count_of, digit_of, rate_at, falls_next, first_beat, beat_after, beat_with, beat_at, start_at, end_at, first_from}
+use Rattle.bus_schedule.specs.Timetable.{Public, public_of, count_of, digit_of, rate_at, falls_next, first_beat}
+use Rattle.bus_schedule.specs.Timetable.{beat_after, beat_with, beat_at, start_at, end_at, first_from}
 use Rattle.bus_schedule.specs.Shown.{starts_of, indices_of, AreSilent}
 use Rattle.bus_schedule.specs.Asked.{IsFirstFrom, ServesPromptly}
 use Rattle.bus_schedule.specs.Scheduled.{log_code, IsScheduled, Between, Inside, ShowsNoMore}
 use Rattle.bus_schedule.proofs.TimetableLaws.{start-next, end-before, end-far}
 use Rattle.bus_schedule.proofs.TimetableParts.{first-after}
 use Rattle.bus_schedule.proofs.AskedLaws.{serves-none, serves-kept, serves-dummy, serves-real, between-first}
-use Rattle.bus_schedule.proofs.ScheduledLaws.{between-none, between-same, between-without, between-chosen, inside-begin, inside-more, begin-indices, begin-code, same-code, shown-indices, shows-more, MoreChosen, more-chosen, beat-more}
+use Rattle.bus_schedule.proofs.ScheduledLaws.{between-none, between-same, between-without, between-chosen}
+use Rattle.bus_schedule.proofs.ScheduledLaws.{inside-begin, inside-more, begin-indices, begin-code, same-code}
+use Rattle.bus_schedule.proofs.ScheduledLaws.{shown-indices, shows-more, MoreChosen, more-chosen, beat-more}
 use Rattle.bus_schedule.proofs.Windows.{scheduled-between, scheduled-reads, scheduled-writes}
 use Rattle.epoch_learner.specs.Heard.{nothing_heard, heard_of, told_by, ChoosesByRule}
 use Rattle.epoch_learner.specs.LearnerRule.{real_count, waiting}
-use Rattle.epoch_learner.specs.Learner.{IsLearnerOf, Follows, Remembers, HasCode, learner_at_start, after_access, after_end, falls_at, chosen_at, choice_by_sums, next_end}
+use Rattle.epoch_learner.specs.Learner.{IsLearnerOf, Follows, Remembers, HasCode, learner_at_start, after_access}
+use Rattle.epoch_learner.specs.Learner.{after_end, falls_at, chosen_at, choice_by_sums, next_end}
 use Rattle.epoch_learner.specs.Stands.{SumsTo, IsInStep, Stands, StandsIn, IsFirstFor, KeepsPace}
 use Rattle.epoch_learner.specs.declared.Learner.{Learner}
 use Rattle.epoch_learner.proofs.Facts.{has_ranges, chosen_at_below}
-use Rattle.epoch_learner.proofs.FollowLaws.{start_is_of, start_follows, access_follows, has_public, falls_as_next, end_passed, end_chosen, rate_bounds}
+use Rattle.epoch_learner.proofs.FollowLaws.{start_is_of, start_follows, access_follows, has_public, falls_as_next}
+use Rattle.epoch_learner.proofs.FollowLaws.{end_passed, end_chosen, rate_bounds}
 use Rattle.epoch_learner.proofs.HeardLaws.{silence_heard, by_rule_kept, other_events}
-use Rattle.epoch_learner.proofs.RuleLaws.{start_remembers, access_heard, access_ended, end_remembers, choice_heard, choice_by_rule, start_code, access_code, end_code, choice_code}
+use Rattle.epoch_learner.proofs.RuleLaws.{start_remembers, access_heard, access_ended, end_remembers, choice_heard}
+use Rattle.epoch_learner.proofs.RuleLaws.{choice_by_rule, start_code, access_code, end_code, choice_code}
 
 -- where the timetable of a log's code stands
 abbrev pub beat_of : Config → ℕ → LogLists → Beat
@@ -109,7 +116,8 @@ inside_silent {config} {n} {start} {leaf} {part} {learner} {old} {new} more s si
     let code : log_code p old ≡ log_code p new = same-code p old new (shown-indices old new silent) in
     let told : told_by p new.events ≡ told_by p old.events =
     ap (told_by p) silent.events
-    ∙ silence_heard (olat_of p.levels) nothing_heard old.events silent.more silent.silent.starts silent.silent.indices in
+    ∙ silence_heard (olat_of p.levels) nothing_heard old.events silent.more silent.silent.starts
+    silent.silent.indices in
     record {
       start_is = s.start_is ∙ ap (λ c. start_at p c n) code;
       inside = inside-more p n leaf part more old new s.inside silent moves;
@@ -183,7 +191,8 @@ stands_begun {config} {n} {last} {next} {learner} {old} asked point leaf mid new
       step = record {
         follows = subst (λ c. Follows config (beat_at p c n) learned) code
             (access_follows config (beat_of config n old) learner next asked s.step.follows);
-        remembers = subst (Remembers learned) (sym told) (access_heard p learner old.events next asked s.step.remembers);
+        remembers = subst (Remembers learned) (sym told)
+            (access_heard p learner old.events next asked s.step.remembers);
         rule = subst (ChoosesByRule p) (sym events)
             (by_rule_kept p.rates olat nothing_heard with_access (Drawn point leaf ∷ []) refl
             (by_rule_kept p.rates olat nothing_heard old.events (Access next asked ∷ []) refl s.step.rule));
@@ -315,7 +324,8 @@ pub stands_pace : {config : Config} {n last next : ℕ} {learner : Learner} {log
     → Stands config n last next learner log → last ≤ end → end ≤ next → KeepsPace config end log
 stands_pace {config} {n} {last} {next} {learner} {log} end s past before =
     paced end log s.step
-    (scheduled-between (public_of config) n end log s.between (omega (arith, s.last_is, past)) (omega (arith, s.next_is)))
+    (scheduled-between (public_of config) n end log s.between (omega (arith, s.last_is, past))
+    (omega (arith, s.next_is)))
 
 pub reads_pace : {config : Config} {n start leaf : ℕ} {learner : Learner} {log : LogLists} (made end : ℕ)
     → StandsIn config n start leaf (along config.shape.levels false start leaf made) learner log
@@ -378,7 +388,8 @@ stands_from {config} {n} {last} {next} {learner} {log} time s from late =
 -- the sums of two numbers below a bound stay below its square
 product_below : (real end : ℕ) → real ≤ end → end < 2 ^ 30 → real * end < 2 ^ 60
 product_below real end up small =
-    let most : real * end ≤ (2 ^ 30 - 1) * (2 ^ 30 - 1) = mul-le real end (2 ^ 30 - 1) (2 ^ 30 - 1) (omega arith) (omega arith) in
+    let most : real * end ≤ (2 ^ 30 - 1) * (2 ^ 30 - 1) =
+    mul-le real end (2 ^ 30 - 1) (2 ^ 30 - 1) (omega arith) (omega arith) in
     omega arith
 
 -- the learner can see the next slot

@@ -1,5 +1,6 @@
 -- A learner's running sums, and what they stand for.
-use Rattle.std.specs.Prelude.{◌≡◌, ℕ, ◌+◌, ◌-◌, ◌*◌, ◌^◌, ◌<◌, ◌≤◌, max, Bool, if◌then◌else◌, List, take, length, Option, Some, None}
+use Rattle.std.specs.Prelude.{◌≡◌, ℕ, ◌+◌, ◌-◌, ◌*◌, ◌^◌, ◌<◌, ◌≤◌, max, Bool, if◌then◌else◌, List, take, length}
+use Rattle.std.specs.Prelude.{Option, Some, None}
 use Rattle.std.specs.Int.{abs_diff}
 use Rattle.asc_base.specs.Settings.{IsConfig}
 use Rattle.asc_base.specs.TreeShape.{olat_of}
@@ -7,7 +8,8 @@ use Rattle.asc_base.specs.declared.settings.Config.{Config}
 use Rattle.bus_schedule.specs.declared.beat.Beat.{Beat}
 use Rattle.bus_schedule.specs.Timetable.{Public, count_of, most_of, epoch_at, falls, rate_at}
 use Rattle.bus_schedule.specs.Shown.{code_of}
-use Rattle.epoch_learner.specs.LearnerRule.{real_of, waste_of, real_count, waiting, idle_per_access, index_by_sums, learner_rule}
+use Rattle.epoch_learner.specs.LearnerRule.{real_of, waste_of, real_count, waiting, idle_per_access, index_by_sums}
+use Rattle.epoch_learner.specs.LearnerRule.{learner_rule}
 use Rattle.epoch_learner.specs.Heard.{Heard}
 use Rattle.epoch_learner.specs.declared.Learner.{Learner}
 

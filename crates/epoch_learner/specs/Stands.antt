@@ -18,8 +18,9 @@ use Rattle.epoch_learner.specs.Heard.{told_by, ChoosesByRule}
 use Rattle.epoch_learner.specs.Learner.{Follows, Remembers, HasCode}
 use Rattle.epoch_learner.specs.declared.Learner.{Learner}
 
--- The sums of a learner are those of accesses up to a time: each starts in a cycle of its own, and waited no longer than
--- up to its start. They may have waited longer in all than since the last choice, before which they may have been asked.
+-- The sums of a learner are those of accesses up to a time: each starts in a cycle of its own, and waited no longer
+-- than up to its start. They may have waited longer in all than since the last choice, before which they may have been
+-- asked.
 pub record SumsTo (end : ℕ) (learner : Learner) : Type 0 where
   pub real : learner.real ≤ end
   pub waste : learner.waste ≤ learner.real * end
@@ -35,8 +36,8 @@ pub record IsInStep (config : Config) (beat : Beat) (end : ℕ) (learner : Learn
   pub prompt : ServesPromptly events
   pub sums : SumsTo end learner
 
--- Between two slots: so many of the timetable's slots were done, the last of them ended at a time, 0 where there is none,
--- and the next one starts at another; the learner is in step.
+-- Between two slots: so many of the timetable's slots were done, the last of them ended at a time, 0 where there is
+-- none, and the next one starts at another; the learner is in step.
 pub record Stands (config : Config) (n last next : ℕ) (learner : Learner) (log : LogLists) : Type 0 where
   pub last_is : last ≡ end_at (public_of config) (log_code (public_of config) log) n
   pub next_is : next ≡ start_at (public_of config) (log_code (public_of config) log) n
@@ -58,8 +59,8 @@ pub record StandsIn (config : Config) (n start leaf : ℕ) (part : List Move) (l
 abbrev pub IsFirstFor : (olat last next : ℕ) (asked : Option ℕ) → Type 0
 IsFirstFor olat last next asked = IfSome asked (λ time. (time ≤ next) × (last < time + olat))
 
--- Up to a time a log keeps the pace of a configuration: it is scheduled, each choice is by the rule, and each real slot is
--- the first from its time on.
+-- Up to a time a log keeps the pace of a configuration: it is scheduled, each choice is by the rule, and each real
+-- slot is the first from its time on.
 pub record KeepsPace (config : Config) (end : ℕ) (log : LogLists) : Type 0 where
   pub scheduled : IsScheduled (public_of config) end log
   pub rule : ChoosesByRule (public_of config) log.events

@@ -13,9 +13,12 @@ ghost use Rattle.bus_schedule.specs.Timetable.{Public, bits_of, rate_at, public_
 ghost use Rattle.bus_schedule.specs.Shown.{starts_of, indices_of};
 ghost use Rattle.bus_schedule.specs.Rows.{four_rates, two_rates, first_slot_log};
 ghost use Rattle.epoch_learner.specs.LearnerRule.{nearest, index_by_sums, learner_rule};
-ghost use Rattle.epoch_learner.specs.Heard.{Heard, nothing_heard, with_access, with_choice, hears, heard_of, told_by, IsByRule, AreByRule, ChoosesByRule};
+ghost use Rattle.epoch_learner.specs.Heard.{Heard, nothing_heard, with_access, with_choice, hears, heard_of};
+ghost use Rattle.epoch_learner.specs.Heard.{told_by, IsByRule, AreByRule, ChoosesByRule};
 ghost use Rattle.epoch_learner.specs.declared.Learner.{Learner};
-ghost use Rattle.epoch_learner.specs.Learner.{IsLearnerOf, Follows, Remembers, HasCode, rates_of, apart_at, learner_at_start, after_access, falls_at, chosen_at, after_end, next_end};
+ghost use Rattle.epoch_learner.specs.Learner.{IsLearnerOf, Follows, Remembers, HasCode, rates_of, apart_at};
+ghost use Rattle.epoch_learner.specs.Learner.{learner_at_start, after_access, falls_at, chosen_at, after_end};
+ghost use Rattle.epoch_learner.specs.Learner.{next_end};
 
 /// A learner stands where the timetable does: a new one at its first slot, and each one that does before an access does
 /// after it.
@@ -140,10 +143,10 @@ pub fn choices_take_the_nearest()
         → rate_at (rates_of learner) (chosen_at learner end) ≤ rate_at (rates_of learner) k }
 {}
 
-/// The rule on some sums: ten real accesses in slots of 496 cycles up to the end 33,088, the first in epoch 1. With 3,000
-/// cycles waited in all it takes the second of four rates; with 21,728 there is a tie between the first two, which the
-/// first wins, and with 10 fewer the second is nearer. Without a real access it takes the greatest. So in a log of a
-/// dummy the greatest rate is by the rule, and no other.
+/// The rule on some sums: ten real accesses in slots of 496 cycles up to the end 33,088, the first in epoch 1. With
+/// 3,000 cycles waited in all it takes the second of four rates; with 21,728 there is a tie between the first two,
+/// which the first wins, and with 10 fewer the second is nearer. Without a real access it takes the greatest. So in a
+/// log of a dummy the greatest rate is by the rule, and no other.
 pub fn rule_rows()
     ensures waited { index_by_sums four_rates.rates 496 33088 10 3000 ≡ 1 }
     ensures tie { index_by_sums four_rates.rates 496 33088 10 21728 ≡ 0 }

@@ -14,7 +14,8 @@ ghost use Rattle.asc_base.specs.Settings.{AreRates, IsConfig, IsFromTo};
 ghost use Rattle.bus_schedule.specs.Timetable.{public_of, rate_at, first_beat};
 ghost use Rattle.epoch_learner.specs.LearnerRule.{waiting, real_count, nearest};
 ghost use Rattle.epoch_learner.specs.Heard.{Heard};
-ghost use Rattle.epoch_learner.specs.Learner.{IsLearnerOf, IsLearner, learner_at_start, after_access, chosen_at, after_end, choice_by_sums, choice_at, Remembers, Follows};
+ghost use Rattle.epoch_learner.specs.Learner.{IsLearnerOf, IsLearner, learner_at_start, after_access, chosen_at};
+ghost use Rattle.epoch_learner.specs.Learner.{after_end, choice_by_sums, choice_at, Remembers, Follows};
 
 use asc_base::{Config, Rates};
 use bus_schedule::{epoch_of, most_choices, with_digit};

@@ -1,6 +1,7 @@
 //! Laws of a learner and a log that go through the timetable together, slot by slot. The calls do nothing.
 
-ghost use Rattle.std.specs.Prelude.{◌≡◌, ℕ, suc, ◌+◌, ◌*◌, ◌^◌, ◌<◌, ◌≤◌, true, false, Option, None, Some, List, [], ◌∷◌, ◌++◌};
+ghost use Rattle.std.specs.Prelude.{◌≡◌, ℕ, suc, ◌+◌, ◌*◌, ◌^◌, ◌<◌, ◌≤◌, true, false, Option, None, Some, List};
+ghost use Rattle.std.specs.Prelude.{[], ◌∷◌, ◌++◌};
 ghost use Rattle.asc_base.specs.Settings.{IsConfig};
 ghost use Rattle.asc_base.specs.TreeShape.{olat_of};
 ghost use Rattle.asc_base.specs.declared.block.Leaf.{Leaf};
@@ -22,14 +23,15 @@ ghost use Rattle.epoch_learner.specs.Learner.{learner_at_start, after_access, af
 ghost use Rattle.epoch_learner.specs.Stands.{Stands, StandsIn, IsFirstFor, KeepsPace, one_slot, noted};
 ghost use Rattle.epoch_learner.specs.declared.Learner.{Learner};
 
-/// Before the first slot a new learner and an empty log stand at the start, and the first slot starts at the first rate.
+/// Before the first slot a new learner and an empty log stand at the start, and the first slot starts at the first
+/// rate.
 pub fn learners_stand()
     ensures { (config : Config) (log : LogLists) → IsConfig config → log.events ≡ [] → log.moves ≡ []
         → Stands config 0 0 (learner_at_start config).rate (learner_at_start config) log }
 {}
 
-/// A slot begins at its time, is seen by the learner, and its leaf is drawn. Where it was asked for, it is the first from
-/// its time on.
+/// A slot begins at its time, is seen by the learner, and its leaf is drawn. Where it was asked for, it is the first
+/// from its time on.
 pub fn stands_begin()
     ensures { (config : Config) (n last next : ℕ) (learner : Learner) (asked : Option ℕ) (point : Point) (leaf : Leaf)
         (old mid new : LogLists) → Stands config n last next learner old
@@ -56,8 +58,8 @@ pub fn stands_go_on()
         → Made cut more events m m2 t t2 → StandsIn config n start leaf (part ++ more) learner t2.log }
 {}
 
-/// A slot whose moves are all made ends: where the learner answers None at its end, as it is; where it answers an index,
-/// with this choice noted. The next slot starts at the end plus the rate that is then in force.
+/// A slot whose moves are all made ends: where the learner answers None at its end, as it is; where it answers an
+/// index, with this choice noted. The next slot starts at the end plus the rate that is then in force.
 pub fn stands_end()
     ensures passed { (config : Config) (n start leaf end : ℕ) (learner : Learner) (log : LogLists)
         → StandsIn config n start leaf (slot_moves config.shape.levels start leaf) learner log
@@ -70,9 +72,10 @@ pub fn stands_end()
         → Stands config (suc n) end (end + (after_end learner end).rate) (after_end learner end) new }
 {}
 
-/// Between two slots the log keeps the pace up to each time from the last end to the next start. In a slot it does, with
-/// some of its reads, up to each time after the last of them and not after the next, or after the reads' end; and with
-/// some of its writes likewise, before the slot's end. A log that keeps the pace tells no more bits than the budget.
+/// Between two slots the log keeps the pace up to each time from the last end to the next start. In a slot it does,
+/// with some of its reads, up to each time after the last of them and not after the next, or after the reads' end; and
+/// with some of its writes likewise, before the slot's end. A log that keeps the pace tells no more bits than the
+/// budget.
 pub fn stands_keep_pace()
     ensures between { (config : Config) (n last next end : ℕ) (learner : Learner) (log : LogLists)
         → Stands config n last next learner log → last ≤ end → end ≤ next → KeepsPace config end log }
@@ -117,9 +120,9 @@ pub fn sums_stay_small()
         → (end < 2 ^ 40) × (learner.since ≤ end) × (learner.real < 2 ^ 32) × (learner.waste < 2 ^ 60) }
 {}
 
-/// So the first slot of every configuration, a dummy: with its moves made the log stands in it and keeps the pace up to
-/// the cycle before its end, and with the choice that falls at the end, if one does, it stands behind the slot and keeps
-/// the pace up to its end.
+/// So the first slot of every configuration, a dummy: with its moves made the log stands in it and keeps the pace up
+/// to the cycle before its end, and with the choice that falls at the end, if one does, it stands behind the slot and
+/// keeps the pace up to its end.
 pub fn first_slot_stands()
     ensures inside { (config : Config) (leaf : Leaf) → IsConfig config
         → StandsIn config 0 (learner_at_start config).rate leaf.0

@@ -15,4 +15,5 @@ returns c =
     let last : c.loop-index.index ≡ c.args.rates.now.count = omega arith in
     let whole : length c.args.rates.now.list ≡ 16 = search rules in
     let rates = c.args.rates.now in
-    sym (nearest_in_take rates.list c.args.number rates.count c.loop-index.best (omega arith) (omega arith) (rw last at c.loop-index.invariant.first))
+    sym (nearest_in_take rates.list c.args.number rates.count c.loop-index.best (omega arith) (omega arith)
+    (rw last at c.loop-index.invariant.first))

@@ -4,7 +4,10 @@ use Rattle.bus_schedule.proofs.arithmetic.epoch_of.Goals as goal
 
 pub overflow_add-epoch : goal.overflow_add-epoch
 overflow_add-epoch c =
-    omega (arith, epoch-most c.args.b0 c.loop-end.epoch c.args.time c.requires.some c.loop-end.invariant.from c.requires.time)
+    omega (
+      arith,
+      epoch-most c.args.b0 c.loop-end.epoch c.args.time c.requires.some c.loop-end.invariant.from c.requires.time,
+    )
 
 pub loop-end-preserved : goal.loop-end-preserved
 loop-end-preserved c = record {

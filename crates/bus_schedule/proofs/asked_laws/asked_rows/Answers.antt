@@ -1,4 +1,4 @@
-use Rattle.std.proofs.Common.{◌<◌, [], ◌∷◌, arith}
+use Rattle.std.proofs.Common.{All, ◌<◌, [], ◌∷◌, arith}
 use Rattle.std.proofs.lemmas.List.Elements.{All-nil, All-cons, All-head}
 use Rattle.bus_schedule.specs.Rows.{first_slot_log}
 use Rattle.bus_schedule.specs.Asked.{IsFirstFrom, ArePrompt}
@@ -8,7 +8,9 @@ use Rattle.bus_schedule.proofs.asked_laws.asked_rows.Goals as goal
 pub returns-clause-served : goal.returns-clause-served
 unfolding ArePrompt
 returns-clause-served c =
-    (tt, (tt, (record { from = omega arith; others = All-cons (λ other. other < 129) 128 [] (omega arith) (All-nil (λ other. other < 129)) }, tt)))
+    let others : All (λ other. other < 129) (128 ∷ []) =
+    All-cons (λ other. other < 129) 128 [] (omega arith) (All-nil (λ other. other < 129)) in
+    (tt, (tt, (record { from = omega arith; others = others }, tt)))
 
 pub returns-clause-passed_by : goal.returns-clause-passed_by
 returns-clause-passed_by c = λ h.

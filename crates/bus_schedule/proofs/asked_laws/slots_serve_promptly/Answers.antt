@@ -1,4 +1,5 @@
-use Rattle.bus_schedule.proofs.AskedLaws.{serves-none, serves-kept, serves-dummy, serves-real, serves-each, scheduled-first}
+use Rattle.bus_schedule.proofs.AskedLaws.{serves-none, serves-kept, serves-dummy, serves-real, serves-each}
+use Rattle.bus_schedule.proofs.AskedLaws.{scheduled-first}
 use Rattle.bus_schedule.proofs.asked_laws.slots_serve_promptly.Goals as goal
 
 pub returns-clause-empty : goal.returns-clause-empty

@@ -8,4 +8,5 @@ returns-then-count-le1 c = sym (most-one c.args.count c.args.leak c.if-count-le1
 pub returns-else-count-le1 : goal.returns-else-count-le1
 returns-else-count-le1 c =
     sym (most-more c.args.count c.args.leak c.if-count-le1.false
-    ∙ ap (λ b. c.args.leak / b) (bits_of-is c.args.count c.ilog2.result c.ilog2.ensures.power_le c.ilog2.ensures.next_power_gt))
+    ∙ ap (λ b. c.args.leak / b)
+    (bits_of-is c.args.count c.ilog2.result c.ilog2.ensures.power_le c.ilog2.ensures.next_power_gt))

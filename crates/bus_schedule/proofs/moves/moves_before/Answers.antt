@@ -8,5 +8,8 @@ returns c = λ leaf.
     let reads : c.min-reads.result ≡ min (forties (c.args.end - c.args.start)) (c.args.levels + 1) = omega arith in
     let writes : c.min-writes.result ≡ min (forties (c.args.end - c.args.start - (40 * (c.args.levels + 1) + 16)))
     (c.args.levels + 1) = omega arith in
-    (let e : c.min-reads.result + c.min-writes.result ≡ min (forties (c.args.end - c.args.start)) (c.args.levels + 1) + min (forties (c.args.end - c.args.start - (40 * (c.args.levels + 1) + 16))) (c.args.levels + 1) = omega arith in e)
+    (let e : c.min-reads.result + c.min-writes.result
+    ≡ min (forties (c.args.end - c.args.start)) (c.args.levels + 1)
+    + min (forties (c.args.end - c.args.start - (40 * (c.args.levels + 1) + 16))) (c.args.levels + 1) =
+    omega arith in e)
     ∙ sym (slot-before c.args.levels c.args.start leaf c.args.end)

@@ -1,4 +1,5 @@
-use Rattle.bus_schedule.proofs.ScheduledLaws.{chosen-few, chosen-below, scheduled-few, scheduled-below, scheduled-codes, scheduled-budget, scheduled-config}
+use Rattle.bus_schedule.proofs.ScheduledLaws.{chosen-few, chosen-below, scheduled-few, scheduled-below}
+use Rattle.bus_schedule.proofs.ScheduledLaws.{scheduled-codes, scheduled-budget, scheduled-config}
 use Rattle.bus_schedule.proofs.scheduled_laws.code_is_bounded.Goals as goal
 
 pub returns-clause-choices : goal.returns-clause-choices

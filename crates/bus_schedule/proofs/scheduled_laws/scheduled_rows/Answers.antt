@@ -1,4 +1,5 @@
-use Rattle.bus_schedule.proofs.ScheduledRows.{before-end, at-end, too-early, not-noted, no-rate, two-idle, two-after, none-yet}
+use Rattle.bus_schedule.proofs.ScheduledRows.{before-end, at-end, too-early, not-noted, no-rate, two-idle}
+use Rattle.bus_schedule.proofs.ScheduledRows.{two-after, none-yet}
 use Rattle.bus_schedule.proofs.scheduled_laws.scheduled_rows.Goals as goal
 
 pub returns-clause-before : goal.returns-clause-before

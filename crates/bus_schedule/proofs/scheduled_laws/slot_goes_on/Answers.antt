@@ -1,5 +1,6 @@
 use Rattle.std.proofs.Common.{sym}
-use Rattle.bus_schedule.proofs.ScheduledLaws.{between-same, inside-more, same-code, shown-indices, shows-same, shows-more, shows-joined}
+use Rattle.bus_schedule.proofs.ScheduledLaws.{between-same, inside-more, same-code, shown-indices, shows-same}
+use Rattle.bus_schedule.proofs.ScheduledLaws.{shows-more, shows-joined}
 use Rattle.bus_schedule.proofs.scheduled_laws.slot_goes_on.Goals as goal
 
 pub returns-clause-between : goal.returns-clause-between

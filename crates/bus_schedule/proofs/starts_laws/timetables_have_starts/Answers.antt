@@ -1,4 +1,5 @@
-use Rattle.bus_schedule.proofs.TimetableParts.{timetable-has, timetable-is, timetable-at, timetable-first, timetable-few}
+use Rattle.bus_schedule.proofs.TimetableParts.{timetable-has, timetable-is, timetable-at, timetable-first}
+use Rattle.bus_schedule.proofs.TimetableParts.{timetable-few}
 use Rattle.bus_schedule.proofs.starts_laws.timetables_have_starts.Goals as goal
 
 pub returns-clause-has : goal.returns-clause-has

@@ -27,5 +27,6 @@ returns-clause-config c = λ config h. after_end_is_kept config c.args.self.now 
 pub returns-clause-learner : goal.returns-clause-learner
 returns-clause-learner c = record {
   config = c.requires.learner.config;
-  is_of = after_end_is_kept c.requires.learner.config c.args.self.now _ c.args.end c.requires.learner.is_of (search rules);
+  is_of = after_end_is_kept c.requires.learner.config c.args.self.now _ c.args.end c.requires.learner.is_of
+      (search rules);
 }

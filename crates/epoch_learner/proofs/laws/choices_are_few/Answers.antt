@@ -1,4 +1,5 @@
-use Rattle.epoch_learner.proofs.Steps.{after_end_keeps, falls_never_after, falls_never_of_one, falls_never_of_few, code_fits}
+use Rattle.epoch_learner.proofs.Steps.{after_end_keeps, falls_never_after, falls_never_of_one, falls_never_of_few}
+use Rattle.epoch_learner.proofs.Steps.{code_fits}
 use Rattle.epoch_learner.proofs.laws.choices_are_few.Goals as goal
 
 pub returns-clause-kept : goal.returns-clause-kept

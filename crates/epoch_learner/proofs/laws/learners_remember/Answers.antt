@@ -1,4 +1,5 @@
-use Rattle.epoch_learner.proofs.RuleLaws.{start_remembers, access_remembers, end_remembers, choice_remembers, rule_by_sums}
+use Rattle.epoch_learner.proofs.RuleLaws.{start_remembers, access_remembers, end_remembers, choice_remembers}
+use Rattle.epoch_learner.proofs.RuleLaws.{rule_by_sums}
 use Rattle.epoch_learner.proofs.laws.learners_remember.Goals as goal
 
 pub returns-clause-start : goal.returns-clause-start
