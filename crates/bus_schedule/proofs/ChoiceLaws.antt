@@ -1,7 +1,7 @@
 -- How many choices fall, and how many timetables they leave.
 use Rattle.std.proofs.Common.{◌≡◌, ◌↔◌, ℕ, zero, suc, ◌+◌, ◌*◌, ◌/◌, ◌%◌, ◌^◌, ◌<◌, ◌≤◌, Bool, true, false, cond}
 use Rattle.std.proofs.Common.{refl, sym, ◌∙◌, ap, arith, inl, inr}
-use Rattle.std.specs.Prelude.{nat_lt, nat_le, max}
+use Rattle.std.specs.Prelude.{nat_lt, nat_le}
 use Rattle.std.proofs.Math.Nat.{pow-zero, pow-suc, one-le-pow, mul-div-le, div-eq_of_lt, mul-zero, max-eq_right}
 use Rattle.std.proofs.Math.Pow.{pow_mono}
 use Rattle.std.proofs.lemmas.Bool.{cases_Bool, and_parts, and_from, lt-ltb, cases_lt, ltb-true, le-leb, lt-leb}
@@ -13,7 +13,7 @@ use Rattle.bus_schedule.specs.declared.beat.Beat.{Beat}
 use Rattle.bus_schedule.specs.Timetable.{Public, AgreeTo, count_of, bits_of, most_of, choices_of, epoch_at, rate_at}
 use Rattle.bus_schedule.specs.Timetable.{digit_of, falls_next, beat_with, beat_after, beat_at, end_at, timetable}
 use Rattle.bus_schedule.proofs.CodeLaws.{digit-rest}
-use Rattle.bus_schedule.proofs.TimetableLaws.{beat_if, start-above, end-before, timetable-agrees}
+use Rattle.bus_schedule.proofs.TimetableLaws.{beat_if, after-is, start-above, end-before, timetable-agrees}
 use Rattle.bus_schedule.proofs.Epochs.{epoch_at-rises, epoch_at-zero}
 
 -- after an end at which a choice falls, and after one at which none does
@@ -71,21 +71,12 @@ pub reached-last : (p : Public) (code n : ℕ) → 1 ≤ p.epoch
 unfolding beat_at
 reached-last p code zero some = sym (epoch_at-zero p.epoch some)
 reached-last p code (suc n) some =
-    after-reached p (beat_at p code n) (digit_of code (count_of p) (beat_at p code n).choices)
+    (after-is p (beat_at p code n) (digit_of code (count_of p) (beat_at p code n).choices)).1
     ∙ max-eq_right (omega (
       arith,
       reached-last p code n some,
       epoch_at-rises p.epoch (end_at p code n) (end_at p code (suc n)) (omega (arith, end-before p code n)),
     ))
-  where
-    after-reached : (p : Public) (beat : Beat) (index : ℕ)
-        → (beat_after p beat index).reached ≡ max beat.reached (epoch_at p.epoch (beat.next + olat_of p.levels))
-    after-reached p beat index = go (falls_next p beat)
-      where
-        go : (fell : Bool) → (beat_if p beat index fell).reached
-            ≡ max beat.reached (epoch_at p.epoch (beat.next + olat_of p.levels))
-        go true = refl
-        go false = refl
 
 -- the end of the slot that is next is in a later epoch than every end before it, and choices are left
 abbrev is_later : Public → Beat → Bool

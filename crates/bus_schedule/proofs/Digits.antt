@@ -1,5 +1,5 @@
 -- What starts tell of the code, and how codes compare by their digits.
-use Rattle.std.proofs.Common.{◌≡◌, ℕ, zero, suc, ◌+◌, ◌-◌, ◌*◌, ◌%◌, ◌^◌, ◌<◌, ◌≤◌, Bool, true, false, cond, List}
+use Rattle.std.proofs.Common.{◌≡◌, ℕ, zero, suc, ◌+◌, ◌-◌, ◌*◌, ◌%◌, ◌^◌, ◌<◌, ◌≤◌, true, cond, List}
 use Rattle.std.proofs.Common.{length, get_or, refl, sym, ◌∙◌, ap, subst, inl, inr, arith}
 use Rattle.std.specs.Prelude.{nat_lt, nat_le, max, ◌&&◌}
 use Rattle.std.specs.List.{filter}
@@ -13,7 +13,7 @@ use Rattle.asc_base.specs.TreeShape.{olat_of}
 use Rattle.bus_schedule.specs.declared.beat.Beat.{Beat}
 use Rattle.bus_schedule.specs.Timetable.{Public, AgreeTo, count_of, choices_of, epoch_at, rate_at, digit_of}
 use Rattle.bus_schedule.specs.Timetable.{falls_next, beat_after, beat_at, start_at, timetable, ended_by, fallen}
-use Rattle.bus_schedule.proofs.TimetableLaws.{beat_if, start-next, beat-agrees}
+use Rattle.bus_schedule.proofs.TimetableLaws.{after-is, start-next, beat-agrees}
 use Rattle.bus_schedule.proofs.TimetableParts.{timetable-at}
 use Rattle.bus_schedule.proofs.ChoiceLaws.{rate-chosen, rate-kept}
 
@@ -93,16 +93,6 @@ starts-tell p code other (suc n) rise some same =
 pub record SameFalls (one other : Beat) : Type 0 where
   pub reached : one.reached ≡ other.reached
   pub choices : one.choices ≡ other.choices
-
-after-is : (p : Public) (beat : Beat) (index : ℕ)
-    → ((beat_after p beat index).choices ≡ cond (falls_next p beat) (beat.choices + 1) beat.choices)
-    × ((beat_after p beat index).reached ≡ max beat.reached (epoch_at p.epoch (beat.next + olat_of p.levels)))
-after-is p beat index = go (falls_next p beat)
-  where
-    go : (fell : Bool) → ((beat_if p beat index fell).choices ≡ cond fell (beat.choices + 1) beat.choices)
-        × ((beat_if p beat index fell).reached ≡ max beat.reached (epoch_at p.epoch (beat.next + olat_of p.levels)))
-    go true = (refl, refl)
-    go false = (refl, refl)
 
 after-same : (p : Public) (one other : Beat) (i j : ℕ) → one.next ≡ other.next → SameFalls one other
     → SameFalls (beat_after p one i) (beat_after p other j)

@@ -1,6 +1,7 @@
 pub mod AskedLaws
 pub mod ChoiceLaws
 pub mod CodeLaws
+pub mod DigitRows
 pub mod Digits
 pub mod Epochs
 pub mod PublicParts

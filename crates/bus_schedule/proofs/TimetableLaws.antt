@@ -2,7 +2,7 @@
 use Rattle.std.proofs.Common.{◌≡◌, ℕ, zero, suc, ◌+◌, ◌-◌, ◌*◌, ◌/◌, ◌<◌, ◌≤◌, Bool, true, false, cond, List, []}
 use Rattle.std.proofs.Common.{◌∷◌, ◌++◌, length, refl, sym, ◌∙◌, ap, subst, inl, inr, arith, append-nil}
 use Rattle.std.proofs.Common.{length-append}
-use Rattle.std.specs.Prelude.{nat_lt}
+use Rattle.std.specs.Prelude.{nat_lt, max}
 use Rattle.std.specs.List.{filter, All}
 use Rattle.std.proofs.Math.Nat.{lt-div-mul-add}
 use Rattle.std.proofs.lemmas.Nat.{mul-le}
@@ -10,7 +10,7 @@ use Rattle.std.proofs.lemmas.Bool.{cases_lt}
 use Rattle.std.proofs.lemmas.List.Elements.{All-nil, All-cons, All-push, All-weaker, filter-append}
 use Rattle.asc_base.specs.TreeShape.{olat_of}
 use Rattle.bus_schedule.specs.declared.beat.Beat.{Beat}
-use Rattle.bus_schedule.specs.Timetable.{Public, AgreeTo, count_of, rate_at, digit_of, falls_next, beat_with}
+use Rattle.bus_schedule.specs.Timetable.{Public, AgreeTo, count_of, epoch_at, rate_at, digit_of, falls_next, beat_with}
 use Rattle.bus_schedule.specs.Timetable.{beat_after, beat_at, start_at, end_at, starts_from, starts, slots_within}
 use Rattle.bus_schedule.specs.Timetable.{timetable}
 use Rattle.bus_schedule.specs.Schedule.{RiseBy, GoesOn}
@@ -34,6 +34,17 @@ after-next p beat index = go (falls_next p beat)
         ≡ beat.next + olat_of p.levels + (beat_if p beat index fell).rate
     go true = refl
     go false = refl
+
+-- one choice more where one falls, and the greatest epoch so far
+pub after-is : (p : Public) (beat : Beat) (index : ℕ)
+    → ((beat_after p beat index).choices ≡ cond (falls_next p beat) (beat.choices + 1) beat.choices)
+    × ((beat_after p beat index).reached ≡ max beat.reached (epoch_at p.epoch (beat.next + olat_of p.levels)))
+after-is p beat index = go (falls_next p beat)
+  where
+    go : (fell : Bool) → ((beat_if p beat index fell).choices ≡ cond fell (beat.choices + 1) beat.choices)
+        × ((beat_if p beat index fell).reached ≡ max beat.reached (epoch_at p.epoch (beat.next + olat_of p.levels)))
+    go true = (refl, refl)
+    go false = (refl, refl)
 
 -- at most one choice falls
 pub after-choices : (p : Public) (beat : Beat) (index : ℕ) → beat.choices ≤ (beat_after p beat index).choices

@@ -20,7 +20,7 @@ pub use scheduled_laws::{
     scheduled_rows, slot_begins, slot_ends, slot_ends_with_choice, slot_goes_on,
 };
 pub use starts_laws::{
-    beats_go_on, codes_compare, first_starts, slots_end_by, starts_tell_digits,
+    beats_go_on, codes_compare, digit_rows, first_starts, slots_end_by, starts_tell_digits,
     timetables_have_starts,
 };
 pub use timetable_laws::{

@@ -6,14 +6,10 @@ ghost use Rattle.bus_watch.specs.declared.log.Move.{Move};
 ghost use Rattle.bus_watch.specs.Path.{slot_moves};
 ghost use Rattle.bus_schedule.specs.Schedule.{moves_before_time, move_time_of};
 
-/// The cycles from one move of a path to the next.
-const MOVE_CYCLES: u64 = 40;
-
-/// The cycles from the end of a slot's reads to its first write.
-const PAUSE_CYCLES: u64 = 16;
+use asc_base::{MOVE_CYCLES, TURN_CYCLES};
 
 /// The time of the k-th move of a slot, from 0, in cycles: first come the reads of its path from the root down,
-/// then, after the pause, the writes. The slot begins at `start`, and the leaves of the tree are at level `levels`.
+/// then, after the turn, the writes. The slot begins at `start`, and the leaves of the tree are at level `levels`.
 pub fn move_time(start: u64, levels: u32, k: u32) -> u64
     requires start { start < 2 ^ 40 }
     requires levels { levels ≤ 20 }
@@ -26,7 +22,7 @@ pub fn move_time(start: u64, levels: u32, k: u32) -> u64
     if k <= levels {
         time
     } else {
-        time + PAUSE_CYCLES
+        time + TURN_CYCLES
     }
 }
 
@@ -40,8 +36,8 @@ pub fn moves_before(start: u64, levels: u32, end: u64) -> u32
 {
     let path = u64::from(levels) + 1;
     let since = end.saturating_sub(start);
-    let since_pause = since.saturating_sub(MOVE_CYCLES * path + PAUSE_CYCLES);
+    let since_turn = since.saturating_sub(MOVE_CYCLES * path + TURN_CYCLES);
     let reads = since.div_ceil(MOVE_CYCLES).min(path);
-    let writes = since_pause.div_ceil(MOVE_CYCLES).min(path);
+    let writes = since_turn.div_ceil(MOVE_CYCLES).min(path);
     (reads + writes) as u32
 }

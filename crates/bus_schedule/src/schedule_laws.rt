@@ -3,7 +3,7 @@
 
 ghost use Rattle.std.specs.Prelude.{◌≡◌, ◌↔◌, ℕ, zero, suc, ◌+◌, ◌*◌, ◌<◌, ◌≤◌, All, Bool, true, false, List, []};
 ghost use Rattle.std.specs.Prelude.{◌∷◌, ◌++◌, length, take};
-ghost use Rattle.asc_base.specs.TreeShape.{olat_of, bucket_of};
+ghost use Rattle.asc_base.specs.TreeShape.{olat_of, move_cycles};
 ghost use Rattle.bus_watch.specs.declared.log.Move.{Move};
 ghost use Rattle.bus_schedule.specs.Timetable.{Public, timetable};
 ghost use Rattle.bus_watch.specs.Path.{along, reads, reads_end, writes_start, writes, slot_moves};
@@ -23,13 +23,13 @@ pub fn slots_join()
         ≡ reads levels start leaf ++ along levels true (writes_start levels start) leaf k }
 {}
 
-/// The moves of a slot are made in its cycles, 40 cycles apart at least, and so are those of slots that don't
-/// overlap. The writes come at least 16 cycles after the reads' end.
+/// The moves of a slot are made in its cycles, a move's cycles apart at least, and so are those of slots that don't
+/// overlap. The writes come after the turn at the reads' end.
 pub fn moves_rise()
     ensures within { (levels start leaf : ℕ)
-        → All (λ (m : Move). (start ≤ m.time) × (m.time + 40 ≤ start + olat_of levels)) (slot_moves levels start leaf) }
+        → All (λ (m : Move). (start ≤ m.time) × (m.time + move_cycles ≤ start + olat_of levels)) (slot_moves levels start leaf) }
     ensures reads { (levels start leaf : ℕ)
-        → All (λ (m : Move). m.time + 40 ≤ reads_end levels start) (reads levels start leaf) }
+        → All (λ (m : Move). m.time + move_cycles ≤ reads_end levels start) (reads levels start leaf) }
     ensures writes { (levels start leaf : ℕ)
         → All (λ (m : Move). writes_start levels start ≤ m.time) (writes levels start leaf) }
     ensures slot { (levels start leaf : ℕ) → MovesRise (slot_moves levels start leaf) }

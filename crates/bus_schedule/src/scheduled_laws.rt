@@ -3,7 +3,7 @@
 ghost use Rattle.std.specs.Prelude.{◌≡◌, ℕ, suc, ◌+◌, ◌*◌, ◌^◌, ◌<◌, ◌≤◌, All, Bool, true, false, Option, List, []};
 ghost use Rattle.std.specs.Prelude.{◌∷◌, ◌++◌, length};
 ghost use Rattle.asc_base.specs.Settings.{IsConfig};
-ghost use Rattle.asc_base.specs.TreeShape.{olat_of};
+ghost use Rattle.asc_base.specs.TreeShape.{olat_of, move_cycles};
 ghost use Rattle.asc_base.specs.declared.settings.Config.{Config};
 ghost use Rattle.asc_base.specs.declared.block.Leaf.{Leaf};
 ghost use Rattle.asc_base.specs.declared.block.Message.{Message};
@@ -40,12 +40,12 @@ pub fn log_is_scheduled()
         → start < end → end < start + olat_of p.levels → IsScheduled p end log }
     ensures reads { (p : Public) (n start leaf made end : ℕ) (log : LogLists)
         → Inside p n leaf (along p.levels false start leaf made) log → start ≡ start_at p (log_code p log) n
-        → made ≤ p.levels + 1 → start < end → start + 40 * made < end + 40 → end ≤ start + 40 * made
+        → made ≤ p.levels + 1 → start < end → start + move_cycles * made < end + move_cycles → end ≤ start + move_cycles * made
         → IsScheduled p end log }
     ensures writes { (p : Public) (n start leaf made end : ℕ) (log : LogLists)
         → Inside p n leaf (reads p.levels start leaf ++ along p.levels true (writes_start p.levels start) leaf made) log
         → start ≡ start_at p (log_code p log) n → made ≤ p.levels + 1
-        → writes_start p.levels start + 40 * made < end + 40 → end ≤ writes_start p.levels start + 40 * made
+        → writes_start p.levels start + move_cycles * made < end + move_cycles → end ≤ writes_start p.levels start + move_cycles * made
         → end < start + olat_of p.levels → IsScheduled p end log }
 {}
 

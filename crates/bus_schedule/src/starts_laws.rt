@@ -7,6 +7,7 @@ ghost use Rattle.asc_base.specs.TreeShape.{olat_of};
 ghost use Rattle.bus_schedule.specs.Timetable.{Public, AgreeTo, count_of, digit_of, rate_at, falls_next};
 ghost use Rattle.bus_schedule.specs.Timetable.{first_beat, beat_by, beat_at, start_at, end_at, starts, timetable};
 ghost use Rattle.bus_schedule.specs.Timetable.{ended_by, fallen, first_from};
+ghost use Rattle.bus_schedule.specs.Rows.{four_rates};
 
 /// Where the timetable stands before the first slot, and after each one.
 pub fn beats_go_on()
@@ -83,4 +84,11 @@ pub fn codes_compare()
     ensures less { (p : Public) (code other places : ℕ) → 1 ≤ count_of p → code < count_of p ^ suc places
         → AgreeTo p code other places → digit_of code (count_of p) places < digit_of other (count_of p) places
         → code < other }
+{}
+
+/// A start tells a digit: of the codes under which the 45th slot of four rates starts at 49,472, each has the digit 3 first,
+/// and 3 is the least.
+pub fn digit_rows()
+    ensures digit { (other : ℕ) → start_at four_rates other 44 ≡ 49472 → digit_of other 4 0 ≡ 3 }
+    ensures least { (other : ℕ) → start_at four_rates other 44 ≡ 49472 → 3 ≤ other }
 {}

@@ -3,7 +3,7 @@
 ghost use Rattle.std.specs.Prelude.{◌≡◌, ℕ, suc, ◌+◌, ◌*◌, ◌^◌, ◌<◌, ◌≤◌, true, false, Option, None, Some, List};
 ghost use Rattle.std.specs.Prelude.{[], ◌∷◌, ◌++◌};
 ghost use Rattle.asc_base.specs.Settings.{IsConfig};
-ghost use Rattle.asc_base.specs.TreeShape.{olat_of};
+ghost use Rattle.asc_base.specs.TreeShape.{olat_of, move_cycles};
 ghost use Rattle.asc_base.specs.declared.block.Leaf.{Leaf};
 ghost use Rattle.asc_base.specs.declared.block.Point.{Point};
 ghost use Rattle.asc_base.specs.declared.settings.Config.{Config};
@@ -81,14 +81,14 @@ pub fn stands_keep_pace()
         → Stands config n last next learner log → last ≤ end → end ≤ next → KeepsPace config end log }
     ensures reads { (config : Config) (n start leaf made end : ℕ) (learner : Learner) (log : LogLists)
         → StandsIn config n start leaf (along config.shape.levels false start leaf made) learner log
-        → made ≤ config.shape.levels + 1 → start < end → start + 40 * made < end + 40 → end ≤ start + 40 * made
+        → made ≤ config.shape.levels + 1 → start < end → start + move_cycles * made < end + move_cycles → end ≤ start + move_cycles * made
         → KeepsPace config end log }
     ensures writes { (config : Config) (n start leaf made end : ℕ) (learner : Learner) (log : LogLists)
         → StandsIn config n start leaf
         (reads config.shape.levels start leaf
         ++ along config.shape.levels true (writes_start config.shape.levels start) leaf made) learner log
-        → made ≤ config.shape.levels + 1 → writes_start config.shape.levels start + 40 * made < end + 40
-        → end ≤ writes_start config.shape.levels start + 40 * made → end < start + olat_of config.shape.levels
+        → made ≤ config.shape.levels + 1 → writes_start config.shape.levels start + move_cycles * made < end + move_cycles
+        → end ≤ writes_start config.shape.levels start + move_cycles * made → end < start + olat_of config.shape.levels
         → KeepsPace config end log }
     ensures budget { (config : Config) (end : ℕ) (log : LogLists) → IsConfig config → KeepsPace config end log
         → log_code (public_of config) log < 2 ^ config.leak }
