@@ -5,7 +5,7 @@ use Rattle.std.proofs.lemmas.Bool.Decides.{eqb_tells}
 use Rattle.std.proofs.lemmas.Option.{get_or_from_slice_get}
 use Rattle.std.specs.Option.{option_map, option_map_or}
 use Rattle.asc_base.specs.declared.block.Line.{Line}
-use Rattle.request_plan.specs.Plan.{Plan, Done, Ask, bind, Ends, Alike}
+use Rattle.request_plan.specs.Plan.{Plan, Done, bind, Ends, Alike}
 use Rattle.request_plan.specs.Play.{served}
 use Rattle.request_plan.specs.Laws.{Tells}
 use Rattle.request_plan.proofs.Told.{Ends-told}
@@ -16,8 +16,8 @@ use Rattle.rv32_core.specs.LineList.{LineKind, Read, Write, WholeWrite, LineUse}
 use Rattle.data_cache.specs.Lines.{LineRequest, Fetch, Store, IsLineAnswer, TellsFetch, TellsStore, serve_lines}
 use Rattle.data_cache.specs.CacheLists.{Kept, Sets, Lines, changes, needs, keeps, keeps_dirty, others, set_of, with_kept, set_after, victim, line_in, stored, fetched, set_settled, ask_all, use_set, after_use, read_lines, write_lines, write_whole_line}
 use Rattle.data_cache.specs.Contents.{Contents, find_line, held_in, read_plan, write_plan, write_line_plan}
-use Rattle.data_cache.specs.Mirror.{marks, pairs, Mirrors}
-use Rattle.data_cache.specs.Standing.{lists_of, StoredOrDirty, StandFor}
+use Rattle.data_cache.specs.Mirror.{marks, Mirrors}
+use Rattle.data_cache.specs.Standing.{lists_of, StandFor}
 use Rattle.data_cache.specs.declared.set.Held.{Held}
 use Rattle.data_cache.proofs.Parts.{patched_own, other_line, other-patched}
 use Rattle.data_cache.proofs.KeptLaws.{hit, miss, unkept}
@@ -135,9 +135,13 @@ module _ (mem : List ℕ) (list : List (List ℕ)) where
 
   settled-by : {B : Type 0} (left : B) (v : ℕ) (b : Bool) → Settled (Some (record { line = v; dirty = b }))
       (served serve_lines (ask_all left mem (if b then Store v (line_in mem v) ∷ [] else [])) list)
-  settled-by left v false =
-      (refl, refl, λ m lt h. h, λ m lt q. (let e : Some false ≡ Some true = ap (option_map (λ (k : Kept). k.dirty)) q
-      in cc))
+  settled-by left v false = (
+    refl,
+    refl,
+    λ m lt h. h,
+    λ m lt q. (let e : Some false ≡ Some true = ap (option_map (λ (k : Kept). k.dirty)) q
+        in cc),
+  )
   settled-by left v true = (
     refl,
     length-set list v (line_in mem v),
@@ -146,7 +150,7 @@ module _ (mem : List ℕ) (list : List (List ℕ)) where
       | inr ne ↦ get_or-set_other list v m (line_in mem v) [] ne ∙ h
     ],
     λ m lt q. (let e : Some v ≡ Some m = ap (option_map (λ (k : Kept). k.line)) q in
-    let is : v ≡ m = cc in new m is lt),
+        let is : v ≡ m = cc in new m is lt),
   )
     where
       new : (m : ℕ) → v ≡ m → m < length list → Right mem (set list v (line_in mem v)) m
@@ -195,8 +199,7 @@ module _ (mem : List ℕ) (list : List (List ℕ)) where
       (ask_all (set_settled ways ms v) now (fetched ms use_of)) (λ brought. Done (set_after ways ms use_of, brought)))
       list
       ∙ served-bind serve_lines (λ left. left) (ask_all (set_settled ways ms v) (one.0) (fetched ms use_of))
-      (λ brought. Done (set_after ways ms use_of, brought)) (one.1)))
-      (
+      (λ brought. Done (set_after ways ms use_of, brought)) (one.1))) (
         refl,
         f.0,
         ap length (f.1) ∙ s.1,
