@@ -3,3 +3,4 @@ pub mod Parts
 pub mod KeptLaws
 pub mod MirrorLaws
 pub mod UseLaws
+pub mod ToldLaws

@@ -65,7 +65,7 @@ module _ (count : ℕ) where
   first_line sets k n mem (w ∷ ws) h f = sym (f.2) ∙ ap (line_in mem) h
 
   -- the set of the lists is that of the cache, marked
-  set_of_is : (c : Contents) (n : ℕ) → 0 < length (c.sets) → set_of (map marks (c.sets)) n ≡ marks (held_in c n)
+  pub set_of_is : (c : Contents) (n : ℕ) → 0 < length (c.sets) → set_of (map marks (c.sets)) n ≡ marks (held_in c n)
   set_of_is c n h =
       rw (length-map (c.sets) marks) (get_or-map marks (c.sets) (n % length (c.sets)) [] [] (below-mod n (length
       (c.sets)) h))

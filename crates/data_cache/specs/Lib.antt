@@ -2,3 +2,4 @@ pub mod Lines
 pub mod CacheLists
 pub mod Contents
 pub mod Mirror
+pub mod Standing

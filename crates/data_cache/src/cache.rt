@@ -4,7 +4,7 @@ ghost use Rattle.std.specs.Prelude.{◌≡◌, ℕ, ◌<◌, ◌≤◌, ◌+◌,
 ghost use Rattle.request_plan.specs.Plan.{Ends, Stops};
 ghost use Rattle.data_cache.specs.Contents.{read_plan, write_plan, write_line_plan, CacheBelow};
 
-use crate::set::{Held, bring, put_whole, read_first, write_first};
+use crate::set::{Held, bring, put_whole, read_first, set_index, write_first};
 use crate::store::LineStore;
 use asc_base::{Line, NoMemory};
 use std::alloc::Global;
@@ -73,7 +73,7 @@ impl Cache {
         ensures below { CacheBelow (S.lines store.new) self.new }
         ensures same { S.lines store.new ≡ S.lines store.old }
     {
-        let index = line as usize % self.sets.len();
+        let index = set_index(&self.sets, line);
         let set = &mut self.sets[index];
         bring(set, self.ways as usize, store, line)?;
         read_first(set, offset, into);
@@ -99,7 +99,7 @@ impl Cache {
         ensures below { CacheBelow (S.lines store.new) self.new }
         ensures same { S.lines store.new ≡ S.lines store.old }
     {
-        let index = line as usize % self.sets.len();
+        let index = set_index(&self.sets, line);
         let set = &mut self.sets[index];
         bring(set, self.ways as usize, store, line)?;
         write_first(set, offset, bytes);
@@ -123,7 +123,7 @@ impl Cache {
         ensures below { CacheBelow (S.lines store.new) self.new }
         ensures same { S.lines store.new ≡ S.lines store.old }
     {
-        let index = line as usize % self.sets.len();
+        let index = set_index(&self.sets, line);
         let set = &mut self.sets[index];
         put_whole(set, self.ways as usize, store, line, *value)?;
         Ok(())

@@ -1,9 +1,13 @@
 //! Lines in one vector.
 
-ghost use Rattle.std.specs.Prelude.{◌≡◌, ◌<◌, All, IfOk, length, map};
+ghost use Rattle.std.specs.Prelude.{◌≡◌, ℕ, ◌<◌, ◌≤◌, ◌+◌, ◌*◌, List, All, IfOk, length, map};
 ghost use Rattle.asc_base.specs.declared.block.Line.{Line};
 ghost use Rattle.data_cache.specs.Lines.{FlatStep, FlatStep-length, FlatStep-answers, FlatStep-told, FlatStep-fetch, FlatStep-store};
+ghost use Rattle.rv32_core.specs.Access.{slice_of};
+ghost use Rattle.data_cache.specs.Contents.{CacheBelow};
+ghost use Rattle.data_cache.specs.Standing.{StandFor};
 
+use crate::cache::Cache;
 use crate::store::LineStore;
 use asc_base::{Line, NoMemory};
 use std::alloc::Global;
@@ -81,4 +85,21 @@ impl LineStore for FlatLines {
     ghost tells_fetch = { λ s t line bytes h. FlatStep-fetch Never s t line bytes h };
 
     ghost tells_store = { λ s t line value done h. FlatStep-store Never s t line value done h };
+}
+
+/// Reads bytes of a line through a cache over such a memory, from `offset` on: they are bytes of the list for which
+/// both stand.
+pub fn read_flat(cache: &mut Cache, flat: &mut FlatLines, line: u32, offset: usize, into: &mut [u8])
+    requires line { line < length flat.old }
+    requires lines { CacheBelow (length flat.old) cache.old }
+    requires range { offset + length into.old ≤ 64 }
+    ensures flat { (memory : List ℕ) → StandFor cache.old flat.old memory → StandFor cache.new flat.new memory
+        × (into.new ≡ slice_of memory (64 * line + offset) (length into.old)) }
+    ensures below { CacheBelow (length flat.new) cache.new }
+    ensures same { length flat.new ≡ length flat.old }
+{
+    match cache.read(flat, line, offset, into) {
+        Ok(()) => (),
+        Err(never) => match never {},
+    }
 }

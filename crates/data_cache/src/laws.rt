@@ -1,14 +1,21 @@
 //! Laws of the cache's lists. The calls do nothing.
 
 ghost use Rattle.std.specs.Prelude.{◌≡◌, ℕ, ◌+◌, ◌*◌, ◌<◌, ◌≤◌, List, [], ◌∷◌, length, replicate};
-ghost use Rattle.request_plan.specs.Plan.{Alike};
+ghost use Rattle.std.specs.Prelude.{Some, slice_index_or};
+ghost use Rattle.std.specs.Option.{option_map_or};
+ghost use Rattle.request_plan.specs.Plan.{Alike, Ends};
+ghost use Rattle.rv32_core.specs.Access.{slice_of, spliced};
 ghost use Rattle.rv32_core.specs.LineList.{LineUse, Read, Write, WholeWrite};
 ghost use Rattle.data_cache.specs.Lines.{Fetch, Store, IsLineAnswer};
-ghost use Rattle.data_cache.specs.CacheLists.{Sets, Lines, no_lines, set_of, requests_of, requests_along, use_set, Requests};
+ghost use Rattle.data_cache.specs.CacheLists.{Sets, Lines, no_lines, set_of, requests_of, requests_along, use_set, Requests, line_in};
 ghost use Rattle.data_cache.specs.CacheLists.{read_lines, write_lines, write_whole_line};
-ghost use Rattle.data_cache.specs.Contents.{Contents, read_plan, write_plan, write_line_plan};
+ghost use Rattle.data_cache.specs.Contents.{Contents, read_plan, write_plan, write_line_plan, find_line, held_in};
+ghost use Rattle.data_cache.specs.declared.set.Held.{Held};
 ghost use Rattle.data_cache.specs.Mirror.{Mirrors};
+ghost use Rattle.data_cache.specs.Standing.{StandFor};
 ghost use Rattle.asc_base.specs.declared.block.Line.{Line};
+
+use crate::store::LineStore;
 
 /// Where lists of kept lines and a list of bytes stand for what a cache holds, the cache asks its store as the lists
 /// do, whatever lines are answered, and the lists and the list of bytes, in which each fetched line took its place,
@@ -45,6 +52,41 @@ pub fn empty_cache_has_empty_lists()
     ensures { (count sets ways : ℕ) (memory : List ℕ) → 0 < sets → 0 < ways → length memory ≡ 64 * count
         → Mirrors count (record { ways = ways; sets = replicate sets [] })
         (record { memory = memory; sets = no_lines sets }) }
+{}
+
+/// A cache and the list of its store stand for one list of bytes, each line of which is the held one, or else the
+/// store's; and a cache that holds nothing, for the bytes of which the store's lines are the parts.
+pub fn stand_for_one_list()
+    ensures one { (cache : Contents) (list : List (List ℕ)) (memory : List ℕ) (n : ℕ) → StandFor cache list memory
+        → n < length list → line_in memory n
+        ≡ option_map_or (λ (h : Held). h.value.0) (find_line n (held_in cache n)) (slice_index_or list n []) }
+    ensures start { (sets ways : ℕ) (list : List (List ℕ)) (memory : List ℕ) → 0 < sets → 0 < ways
+        → length memory ≡ 64 * length list
+        → ((n : ℕ) → n < length list → slice_index_or list n [] ≡ line_in memory n)
+        → StandFor (record { ways = ways; sets = replicate sets [] }) list memory }
+{}
+
+/// Where the store's lines are told after a call, store and cache stand for a list of bytes if they did before it: a
+/// read gives bytes of that list and leaves it, and a write changes its own bytes of it alone.
+pub fn reads_the_flat_bytes<S: LineStore>()
+    ensures read { (old new : S) (cache after : Contents) (line offset count : ℕ) (bytes memory : List ℕ)
+        → line < S.lines old → offset + count ≤ 64
+        → ((list : List (List ℕ)) → S.told old ≡ Some list → StandFor cache list memory)
+        → Ends S.step (read_plan cache line offset count) old new (after, bytes)
+        → (list : List (List ℕ)) → S.told new ≡ Some list
+        → StandFor after list memory × (bytes ≡ slice_of memory (64 * line + offset) count) }
+    ensures write { (old new : S) (cache after : Contents) (line offset : ℕ) (bytes memory : List ℕ)
+        → line < S.lines old → offset + length bytes ≤ 64
+        → ((list : List (List ℕ)) → S.told old ≡ Some list → StandFor cache list memory)
+        → Ends S.step (write_plan cache line offset bytes) old new after
+        → (list : List (List ℕ)) → S.told new ≡ Some list
+        → StandFor after list (spliced memory (64 * line + offset) bytes) }
+    ensures write_line { (old new : S) (cache after : Contents) (line : ℕ) (value : Line) (memory : List ℕ)
+        → line < S.lines old → length (value.0) ≡ 64
+        → ((list : List (List ℕ)) → S.told old ≡ Some list → StandFor cache list memory)
+        → Ends S.step (write_line_plan cache line value) old new after
+        → (list : List (List ℕ)) → S.told new ≡ Some list
+        → StandFor after list (spliced memory (64 * line) (value.0)) }
 {}
 
 /// Worked rows: one set of one way, in which an image line is used and put out by line 1; one set of two ways; and a

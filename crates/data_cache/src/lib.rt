@@ -14,9 +14,10 @@ mod set;
 mod store;
 
 pub use cache::Cache;
-pub use flat::{FlatLines, Never};
+pub use flat::{FlatLines, Never, read_flat};
 pub use laws::{
-    asks_as_its_lists, empty_cache_has_empty_lists, uses_make_their_requests, worked_requests,
+    asks_as_its_lists, empty_cache_has_empty_lists, reads_the_flat_bytes, stand_for_one_list,
+    uses_make_their_requests, worked_requests,
 };
 pub use set::Held;
 pub use store::LineStore;

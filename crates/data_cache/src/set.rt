@@ -1,6 +1,6 @@
 //! One set of a cache: its lines, the most recent first.
 
-ghost use Rattle.std.specs.Prelude.{◌≡◌, ◌<◌, ◌≤◌, ◌+◌, ◌-◌, ◌∷◌, Some, None, MatchOption, IfOk, IfErr, OnOk, length, vec_len, vec_capacity, take};
+ghost use Rattle.std.specs.Prelude.{◌≡◌, ◌<◌, ◌≤◌, ◌+◌, ◌-◌, ◌%◌, ◌∷◌, Some, None, MatchOption, IfOk, IfErr, OnOk, length, vec_len, vec_capacity, take};
 ghost use Rattle.request_plan.specs.Plan.{Ends, Stops};
 ghost use Rattle.rv32_core.specs.Access.{slice_of};
 ghost use Rattle.data_cache.specs.Contents.{find_line, StandsAt, moved, settle, obtain, replace, first_bytes, written, HoldsBelow};
@@ -17,6 +17,15 @@ pub struct Held {
     pub dirty: bool,
     /// Its bytes.
     pub value: Line,
+}
+
+/// Which of the sets is a line's.
+pub(crate) fn set_index(sets: &Vec<Vec<Held>>, line: u32) -> usize
+    requires { 0 < vec_len sets.now }
+    ensures set { result ≡ line % vec_len sets.now }
+    ensures inside { result < vec_len sets.now }
+{
+    line as usize % sets.len()
 }
 
 /// Where a line stands in a set.
@@ -100,7 +109,7 @@ pub(crate) fn bring<S: LineStore>(
         to_front(set, i);
         return Ok(());
     }
-    settle_last(set, ways, store)?;
+    settle_last(set, ways, store)?; // before the fetch
     let value = store.fetch(line)?;
     push_first(
         set,

@@ -1,4 +1,7 @@
-use crate::{Cache, FlatLines, LineStore, Never};
+ghost use Rattle.std.specs.Prelude.{◌≡◌, length};
+ghost use Rattle.data_cache.specs.Contents.{CacheBelow};
+
+use crate::{Cache, FlatLines, LineStore, Never, read_flat};
 use asc_base::Line;
 use std::test::Fail;
 
@@ -29,5 +32,58 @@ fn writes_back_at_an_eviction(rt: HostRuntime) -> Result<(), Fail> {
     assert!(rt; two == [3, 3]);
     assert!(rt; answered(flat.fetch(0)) == filled(7));
     assert!(rt; answered(flat.fetch(1)) == filled(2));
+    Ok(())
+}
+
+/// One use of a line through a cache over 16 lines, told by a number, and the same on a plain list: whether what was
+/// read is the same.
+fn used_alike(cache: &mut Cache, flat: &mut FlatLines, plain: &mut [u8; 1024], number: u64) -> bool
+    requires lines { length flat.old ≡ 16 }
+    requires below { CacheBelow 16 cache.old }
+    ensures lines { length flat.new ≡ 16 }
+    ensures below { CacheBelow 16 cache.new }
+{
+    let bytes = number.to_le_bytes();
+    let line = (number % 16) as u32;
+    let start = 64 * line as usize;
+    let offset = (number / 16 % 57) as usize;
+    let count = (number / 1024 % 9) as usize;
+    let at = start + offset;
+    match number / 16384 % 8 {
+        0 => {
+            answered(cache.write_line(flat, line, &filled(bytes[4])));
+            plain[start..start + 64].fill(bytes[4]);
+            true
+        }
+        1..=3 => {
+            answered(cache.write(flat, line, offset, &bytes[..count]));
+            plain[at..at + count].copy_from_slice(&bytes[..count]);
+            true
+        }
+        _ => {
+            let mut into = [0u8; 8];
+            read_flat(cache, flat, line, offset, &mut into[..count]);
+            into[..count] == plain[at..at + count]
+        }
+    }
+}
+
+#[test]
+fn uses_as_a_plain_list(rt: HostRuntime) -> Result<(), Fail> {
+    for (seed, sets, ways) in [(1, 1, 1), (2, 1, 3), (3, 4, 1), (4, 3, 2), (5, 16, 2)] {
+        let mut flat = FlatLines::new(rt.alloc(), &[filled(0); 16])?;
+        let mut cache = Cache::new(rt.alloc(), sets, ways)?;
+        let mut plain = [0u8; 1024];
+        let mut state: u64 = seed;
+        for step in 0..400 {
+            state = state
+                .wrapping_mul(6364136223846793005)
+                .wrapping_add(1442695040888963407);
+            assert!(rt;
+                used_alike(&mut cache, &mut flat, &mut plain, state >> 24),
+                "seed {seed}, step {step}"
+            );
+        }
+    }
     Ok(())
 }
