@@ -1,0 +1,5 @@
+pub mod Trace
+pub mod Grammar
+pub mod Reader
+pub mod OfLog
+pub mod Rows
