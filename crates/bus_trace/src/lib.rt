@@ -15,4 +15,3 @@ pub use fault::TraceKind;
 pub use laws::{trace_rows, traces_have_forms, traces_have_one_text};
 pub use printer::print;
 pub use trace::{Header, Seen};
-
