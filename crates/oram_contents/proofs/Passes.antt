@@ -1,5 +1,5 @@
--- Slots that put nothing back, and what happens between slots: a block is held, a displaced one is put at hand, a held one
--- renumbered.
+-- Slots that put nothing back, and what happens between slots: a block is held, a displaced one is put at hand, a held
+-- one renumbered.
 use Rattle.std.proofs.Common.{arith, ◌≡◌, ◌+◌, ◌⊎◌, inl, inr, ℕ, zero, suc, List, [], ◌∷◌, ◌++◌}
 use Rattle.std.proofs.Common.{take, slice_get, Option, None, Some, refl, sym, ◌∙◌, ap, subst, append_assoc, append-nil}
 use Rattle.asc_base.specs.TreeShape.{parent_of}

@@ -63,8 +63,8 @@ pub buckets_are : (levels : ℕ) → buckets_of levels ≡ 2 ^ (levels + 1) - 1
 unfolding buckets_of
 buckets_are levels = refl
 
--- An entry in a bucket after a write: the bucket isn't on the path, and it stood there before; or it was at hand, and the
--- bucket is on the path of its leaf too.
+-- An entry in a bucket after a write: the bucket isn't on the path, and it stood there before; or it was at hand, and
+-- the bucket is on the path of its leaf too.
 pub written_from : (keys : Keys) (lawful : AreKeys keys) (leaf : ℕ) (now : Contents) (b : ℕ) (e : Entry)
     → leaf < 2 ^ keys.shape.levels → AreOfShape keys.shape now.hand
     → length now.mirror ≡ keys.shape.buckets → 0 < now.seed → now.seed < 2 ^ 63

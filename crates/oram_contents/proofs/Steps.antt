@@ -1,5 +1,5 @@
--- Each part of an access keeps the invariant: the log grows, a path is read, entries leave, a counter rises, a line is put
--- at hand, a path is written.
+-- Each part of an access keeps the invariant: the log grows, a path is read, entries leave, a counter rises, a line is
+-- put at hand, a path is written.
 use Rattle.std.proofs.Common.{◌≡◌, ◌<◌, ◌⊎◌, inl, inr, ℕ, zero, suc, List, [], ◌∷◌, ◌++◌, Option}
 use Rattle.std.proofs.Common.{None, Some, refl, sym, ◌∙◌, ap, subst, arith}
 use Rattle.std.proofs.lemmas.Bool.{cases_eq}
@@ -137,8 +137,8 @@ module _ (keys : Keys) where
     in_tree = s.in_tree;
   }
 
-  -- A block's counter rises, while its parent is on chip, and no genuine entry of it is left at hand or off the open path.
-  -- Nothing is tagged under the new counter yet.
+  -- A block's counter rises, while its parent is on chip, and no genuine entry of it is left at hand or off the open
+  -- path. Nothing is tagged under the new counter yet.
   module _ (lawful : AreKeys keys) (log : LogLists) (g : Ghost) (now : Contents) (a : ℕ) (c : Counter) (pend : Option ℕ)
       (up : IsBefore (g.count a) c) (parent_away : (p : ℕ) → parent_of keys.shape.lines keys.shape.layers a ≡ Some p
       → IsAway g p)

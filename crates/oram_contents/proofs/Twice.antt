@@ -1,4 +1,5 @@
--- A data line whose parent is on top is stored, dummies pass, and it is accessed again: what is found is what was stored.
+-- A data line whose parent is on top is stored, dummies pass, and it is accessed again: what is found is what was
+-- stored.
 use Rattle.std.proofs.Common.{◌≡◌, ◌<◌, ◌+◌, ◌⊎◌, inl, inr, ℕ, zero, suc, List, [], ◌∷◌, ◌++◌, length, Option}
 use Rattle.std.proofs.Common.{None, Some, refl, sym, ◌∙◌, ap, subst}
 use Rattle.asc_base.specs.TreeShape.{parent_of, children_of}

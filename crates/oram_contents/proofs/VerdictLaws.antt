@@ -1,4 +1,5 @@
--- The verdict on a log that a slot or an append lengthens is the first of the verdict before and that of the slot or append.
+-- The verdict on a log that a slot or an append lengthens is the first of the verdict before and that of the slot or
+-- append.
 use Rattle.std.proofs.Common.{◌≡◌, ◌<◌, ◌≤◌, ◌+◌, inl, inr, ℕ, Bool, true, false, if◌then◌else◌, ◌==◌, List}
 use Rattle.std.proofs.Common.{[], ◌∷◌, ◌++◌, length, All, Option, None, Some, Result, Ok, Err, refl, sym, ◌∙◌, ap, ap₂}
 use Rattle.std.proofs.Common.{arith, append-nil}

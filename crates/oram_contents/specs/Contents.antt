@@ -1,5 +1,5 @@
--- The contents beside a log: the entries at hand, the buckets as last written, and the seed of the next one; and the two
--- halves of a slot as steps on them.
+-- The contents beside a log: the entries at hand, the buckets as last written, and the seed of the next one; and the
+-- two halves of a slot as steps on them.
 use Rattle.std.specs.Prelude.{◌≡◌, ◌+◌, ℕ, List, [], map, flat_map, Option, Result, Ok, Err}
 use Rattle.std.specs.Option.{option_to_list}
 use Rattle.asc_base.specs.declared.block.Entry.{Entry}

@@ -1,5 +1,5 @@
--- What a log says of hand and buckets: a fold over its events. Between slots a path stays open until the next event shows
--- that nothing more joins the hand.
+-- What a log says of hand and buckets: a fold over its events. Between slots a path stays open until the next event
+-- shows that nothing more joins the hand.
 use Rattle.std.specs.Prelude.{◌+◌, ◌-◌, ◌==◌, ℕ, List, [], ◌∷◌, ◌++◌, filter, if◌then◌else◌}
 use Rattle.std.specs.Prelude.{Bool, false, Option, None, Some, Result, Ok, Err}
 use Rattle.asc_base.specs.declared.block.Entry.{Entry}

@@ -56,44 +56,51 @@ abbrev pub OffOpen : ℕ → Option ℕ → ℕ → Type 0
 OffOpen levels None bucket = Unit {0}
 OffOpen levels (Some leaf) bucket = OnPath levels leaf bucket → ⊥
 
--- Beside a log, what blocks there are, and the contents.
+-- Unless the log shows a forgery: what stands off the open path is known, and messages fit the blocks' counters and
+-- lines. At each clause stands which step needs it.
 pub record Sound (keys : Keys) (log : LogLists) (g : Ghost) (now : Contents) : Type 0 where
-  -- S1: what is tagged is of a block of the shape, under a counter that the block has or had
+  -- What is tagged is of a block of the shape, under a counter that the block has or had. A take needs it: under the
+  -- next counter nothing is tagged yet.
   pub fresh : (m : Message) → Has (Tagged m) log.events
-      → (m.address.0 < keys.shape.total) × IsBefore first_counter m.counter × IsNotAfter m.counter (g.count m.address.0)
-  -- S2: under its block's counter, the block's line
+      → (m.address.0 < keys.shape.total) × IsBefore first_counter m.counter
+      × IsNotAfter m.counter (g.count m.address.0)
+  -- Under its block's counter, a message has the block's line. A take needs it: so what it finds is that line.
   pub last : (m : Message) → Has (Tagged m) log.events → m.counter ≡ g.count m.address.0
       → m.line.0 ≡ line_at keys.shape g m.address.0
-  -- S3
+  -- Each block is tagged at most once under each counter. No step needs it: it is what the others come to.
   pub once : AtMostOnce log.events
-  -- S4: a block that was never accessed is zeros
+  -- A block that was never accessed is zeros. A take needs it where nothing is found.
   pub blank : (a : ℕ) → a < keys.shape.total → g.count a ≡ first_counter → line_at keys.shape g a ≡ zero_line
-  -- S5: a drawn point is past, or its slot is open
+  -- A drawn point is past, or its slot is open, and dummies are numbered in turn. No step needs these: they say that no
+  -- point is drawn twice.
   pub drawn : (a : ℕ) (c : Counter) (x : Leaf) → Has (Drawn (real a c) x) log.events
       → IsBefore c (g.count a) ⊎ ((g.pend ≡ Some a) × (c ≡ g.count a))
   pub dummies : (n : ℕ) (x : Leaf) → Has (Drawn (Dummy n) x) log.events → n < g.dummies
-  -- S6: a block on chip was accessed, and isn't tagged under its counter
+  -- A block on chip was accessed, and isn't tagged under its counter. A put needs it, a renumbered block, a line that
+  -- is stored, and the line of a parent whose child's counter rises.
   pub away : (a : ℕ) → IsAway g a
       → (a < keys.shape.total) × IsBefore first_counter (g.count a) × Untagged log.events a (g.count a)
-  -- S7
+  -- What is at hand is known. A take needs it.
   pub at_hand : (e : Entry) → Has e now.hand → Known keys log g.count e
-  -- S8
+  -- What stands in the tree is known, but on the open path, which is written anew. A read needs it.
   pub in_tree : (bucket : ℕ) (e : Entry) → OffOpen keys.shape.levels g.path bucket
       → Has e (entries_at keys now.mirror bucket) → Known keys log g.count e
 
--- What holds whatever was altered.
+-- What holds whatever was altered, and whatever was forged.
 pub record Always (keys : Keys) (log : LogLists) (now : Contents) : Type 0 where
-  -- A1: each entry stands on the path of its leaf
+  -- Each entry stands on the path of its leaf. A take needs it: no genuine copy of its block stands off the path.
   pub placed : (bucket : ℕ) (e : Entry) → Has e (entries_at keys now.mirror bucket)
       → OnPath keys.shape.levels e.leaf.0 bucket
-  -- A2
+  -- Addresses at hand differ. A take needs it: no second copy is left.
   pub apart : AreApart now.hand
+  -- A write needs it, so that a bucket opens to the slots that it was sealed with.
   pub of_shape : AreOfShape keys.shape now.hand
-  -- A3: what stands at hand or in the tree was tagged, or stood in an altered reply
+  -- What stands at hand or in the tree was tagged, or stood in an altered reply. No step needs it: what the chip writes
+  -- came from nowhere else.
   pub hand_came : (e : Entry) → Has e now.hand → Came keys log e
   pub tree_came : (bucket : ℕ) (e : Entry) → Has e (entries_at keys now.mirror bucket) → Came keys log e
-  -- A4: an altered reply was noted when it was
+  -- An altered reply was noted when it was: a forgery needs one that came before.
   pub past : (reply : Altered) → Has reply log.altered → reply.before ≤ length log.events
-  -- there are the shape's buckets, and seeds from 1 on
+  -- There are the shape's buckets, and seeds from 1 on. A write needs these.
   pub mirrored : length now.mirror ≡ keys.shape.buckets
   pub seeds : 0 < now.seed

@@ -1,6 +1,8 @@
 //! Laws of contents and of the invariant. The functions do nothing: each states a law in its contract.
 
-ghost use Rattle.std.specs.Prelude.{IsTrue, ◌↔◌, true, count_by, ◌==◌, ◌*◌, ◌≡◌, ◌<◌, ◌≤◌, ◌+◌, ◌-◌, ◌%◌, ◌^◌, ◌⊎◌, ℕ, suc, false, List, [], ◌∷◌, ◌++◌, length, All, replicate, slice_index, slice_set, Option, None, Some};
+ghost use Rattle.std.specs.Prelude.{IsTrue, ◌↔◌, true, count_by, ◌==◌, ◌*◌, ◌≡◌, ◌<◌, ◌≤◌, ◌+◌, ◌-◌, ◌%◌, ◌^◌, ◌⊎◌, ℕ};
+ghost use Rattle.std.specs.Prelude.{suc, false, List, [], ◌∷◌, ◌++◌, length, All, replicate, slice_index, slice_set};
+ghost use Rattle.std.specs.Prelude.{Option, None, Some};
 ghost use Rattle.asc_base.specs.Shape.{IsShape};
 ghost use Rattle.asc_base.specs.TreeShape.{parent_of, children_of};
 ghost use Rattle.asc_base.specs.declared.block.Counter.{Counter};
@@ -20,11 +22,13 @@ ghost use Rattle.oram_contents.specs.Contents.{Contents, after_write, IsReadTo};
 ghost use Rattle.oram_contents.specs.Entries.{Keys, AreKeys, real, entry_of};
 ghost use Rattle.asc_base.specs.Has.{Has};
 ghost use Rattle.oram_contents.specs.Counts.{Ghost, IsAway, line_at, put_at};
-ghost use Rattle.oram_contents.specs.Chip.{HeldBlock, Chip, AreGroups, first_chip, root_place, root_stepped, with_group};
+ghost use Rattle.oram_contents.specs.Chip.{HeldBlock, Chip, AreGroups, first_chip, root_place, root_stepped};
+ghost use Rattle.oram_contents.specs.Chip.{with_group};
 ghost use Rattle.oram_contents.specs.Chip.{addresses, recount_held, with_held, with_used};
 ghost use Rattle.oram_contents.specs.Groups.{IsGroupOf, AreCounters, AreSmall, moved_of};
 ghost use Rattle.oram_contents.specs.Home.{Home, AreInForm, flying};
-ghost use Rattle.oram_contents.specs.Fold.{Fold, IsCut, LogEnd, Whole, with_entry, is_open_for, fold_events, whole, contents_of_log};
+ghost use Rattle.oram_contents.specs.Fold.{Fold, IsCut, LogEnd, Whole, with_entry, is_open_for, fold_events, whole};
+ghost use Rattle.oram_contents.specs.Fold.{contents_of_log};
 ghost use Rattle.bus_watch.specs.Path.{along, reads, reads_end, slot_moves};
 ghost use Rattle.oram_contents.specs.PathWritten.{sealed};
 ghost use Rattle.oram_stash.specs.Entries.{held};
@@ -40,7 +44,8 @@ ghost use Rattle.oram_contents.specs.Provenance.{Sound, Always};
 ghost use Rattle.oram_contents.specs.Steps.{Adds, opened_at, raised, taken, stored, landed, closed, inserted};
 ghost use Rattle.oram_contents.specs.Starts.{empty_log, first_ghost, first_contents, forged_log, unforged_log};
 ghost use Rattle.bucket_codec.specs.Slot.{IsEntry, IsInRange};
-ghost use Rattle.oram_contents.specs.Slots.{drawn_events, MayDraw, IsRead, IsFound, MayRise, IsPut, HasSeeds, IsAccess, IsRefill};
+ghost use Rattle.oram_contents.specs.Slots.{drawn_events, MayDraw, IsRead, IsFound, MayRise, IsPut, HasSeeds, IsAccess};
+ghost use Rattle.oram_contents.specs.Slots.{IsRefill};
 ghost use Rattle.oram_contents.specs.Slots.{IsPass, IsEnd, ArePasses, IsBetween, done, refilled, passed_by};
 
 /// The contents of a log that a slot lengthens are the slot's step on the contents before.
@@ -66,18 +71,19 @@ pub fn slots_step_contents()
         → whole keys first new ≡ with_entry now (entry_of keys m.address.0 m.counter m.line.0) }
 {}
 
-/// The verdict on a log that a slot, an append, a slot's end or an answer lengthens: that before, and else that of the slot
-/// or the append.
+/// The verdict on a log that a slot, an append, a slot's end or an answer lengthens: that before, and else that of the
+/// slot or the append.
 pub fn verdicts_are_the_first()
-    ensures slot { (keys : Keys) (stash : ℕ) (first : Fold) (old new : LogLists) (start : ℕ) (asked : Option ℕ) (p : Point)
-        (note : Option (Message × List ℕ)) (put : Option Message) (extra : List Altered)
+    ensures slot { (keys : Keys) (stash : ℕ) (first : Fold) (old new : LogLists) (start : ℕ) (asked : Option ℕ)
+        (p : Point) (note : Option (Message × List ℕ)) (put : Option Message) (extra : List Altered)
         → ((reply : Altered) → Has reply old.altered → reply.before ≤ length old.events)
         → new.events ≡ old.events ++ (drawn_events keys start asked p ++ (note_events note ++ put_events put))
         → new.altered ≡ old.altered ++ extra
         → All (λ (reply : Altered). reply.before ≡ length old.events + 2) extra → IsOfPoint put p
         → log_verdict keys stash first new ≡ first_of (log_verdict keys stash first old)
         (slot_verdict keys stash p (keys.leaf_of p) (path_read keys.pads keys.shape (keys.leaf_of p)
-        (replies keys.shape.levels start (keys.leaf_of p) (whole keys first old).mirror extra) (whole keys first old).hand) put) }
+        (replies keys.shape.levels start (keys.leaf_of p) (whole keys first old).mirror extra)
+        (whole keys first old).hand) put) }
     ensures append { (keys : Keys) (stash : ℕ) (first : Fold) (old new : LogLists) (m : Message)
         → is_open_for m (fold_events keys old.altered 0 old.events first).path ≡ false
         → new.events ≡ old.events ++ Tagged m ∷ [] → new.altered ≡ old.altered
@@ -111,8 +117,8 @@ pub fn reads_keep()
         → Always keys old now → Always keys new (record now { hand = joined }) }
 {}
 
-/// An access after which the block is put back: the invariant is kept, and what was found has the block's line, or the log
-/// shows a forgery.
+/// An access after which the block is put back: the invariant is kept, and what was found has the block's line, or the
+/// log shows a forgery.
 pub fn accesses_keep()
     ensures sound { (keys : Keys) → AreKeys keys → (old new : LogLists) (g : Ghost) (now after : Contents) (start a : ℕ)
         (c : Counter) (found : Option Entry) (l : List ℕ)
@@ -121,8 +127,8 @@ pub fn accesses_keep()
         → l ≡ line_at keys.shape (done g a c l) a → length l ≡ 64 → HasSeeds now
         → Always keys old now → Sound keys old g now
         → Forgery keys new ⊎ (Sound keys new (done g a c l) after × (line_found found ≡ line_at keys.shape g a)) }
-    ensures always { (keys : Keys) → AreKeys keys → (old new : LogLists) (g : Ghost) (now after : Contents) (start a : ℕ)
-        (c : Counter) (found : Option Entry) (l : List ℕ)
+    ensures always { (keys : Keys) → AreKeys keys → (old new : LogLists) (g : Ghost) (now after : Contents)
+        (start a : ℕ) (c : Counter) (found : Option Entry) (l : List ℕ)
         → IsAccess keys old new now after start a (g.count a) c found l
         → a < keys.shape.total → length l ≡ 64 → HasSeeds now → Always keys old now → Always keys new after }
 {}
@@ -134,8 +140,8 @@ pub fn refills_keep()
         → g.path ≡ None → g.pend ≡ Some a → MayRise keys g a c → HasSeeds now
         → Always keys old now → Sound keys old g now
         → Forgery keys new ⊎ (Sound keys new (refilled g a c) after × (line_found found ≡ line_at keys.shape g a)) }
-    ensures always { (keys : Keys) → AreKeys keys → (old new : LogLists) (g : Ghost) (now after : Contents) (start a : ℕ)
-        (c : Counter) (found : Option Entry) → IsRefill keys old new now after start a (g.count a) found
+    ensures always { (keys : Keys) → AreKeys keys → (old new : LogLists) (g : Ghost) (now after : Contents)
+        (start a : ℕ) (c : Counter) (found : Option Entry) → IsRefill keys old new now after start a (g.count a) found
         → HasSeeds now → Always keys old now → Always keys new after }
 {}
 
@@ -150,18 +156,18 @@ pub fn ends_keep()
     ensures forgery { (keys : Keys) (old new : LogLists) → IsEnd old new → Forgery keys old → Forgery keys new }
 {}
 
-/// Dummies, however many, each with the choice at its end where one falls, keep what is known, whichever block waits for its
-/// slot or is in flight.
+/// Dummies, however many, each with the choice at its end where one falls, keep what is known, whichever block waits
+/// for its slot or is in flight.
 pub fn dummies_keep()
     ensures contents { (keys : Keys) → AreKeys keys → (k : ℕ) (first : Fold) (old new : LogLists) (g : Ghost)
         (now after : Contents) (n : ℕ) → ArePasses keys k old new now after n
         → Always keys old now → whole keys first old ≡ now → Always keys new after × (whole keys first new ≡ after) }
-    ensures sound { (keys : Keys) → AreKeys keys → (k : ℕ) (old new : LogLists) (g : Ghost) (now after : Contents) (n : ℕ)
-        → ArePasses keys k old new now after n → g.path ≡ None → n ≡ g.dummies
+    ensures sound { (keys : Keys) → AreKeys keys → (k : ℕ) (old new : LogLists) (g : Ghost) (now after : Contents)
+        (n : ℕ) → ArePasses keys k old new now after n → g.path ≡ None → n ≡ g.dummies
         → Always keys old now → Sound keys old g now
         → Always keys new after × Sound keys new (passed_by k g) after }
-    ensures home { (keys : Keys) → AreKeys keys → (k : ℕ) (old new : LogLists) (g : Ghost) (now after : Contents) (n : ℕ)
-        → ArePasses keys k old new now after n → new.altered ≡ [] → g.path ≡ None
+    ensures home { (keys : Keys) → AreKeys keys → (k : ℕ) (old new : LogLists) (g : Ghost) (now after : Contents)
+        (n : ℕ) → ArePasses keys k old new now after n → new.altered ≡ [] → g.path ≡ None
         → Always keys old now → Home keys g now → Always keys new after × Home keys (passed_by k g) after }
 {}
 
@@ -172,8 +178,8 @@ pub fn changes_between_keep()
     ensures appended { (keys : Keys) (old new : LogLists) (g : Ghost) (now after : Contents) (a : ℕ) (l : List ℕ)
         → g.flight ≡ Some a → (Has a g.held → ⊥) → l ≡ line_at keys.shape g a
         → IsPut keys old new now after a (g.count a) l → Sound keys old g now → Sound keys new (landed g) after }
-    ensures renumbered { (keys : Keys) → AreKeys keys → (log : LogLists) (g : Ghost) (now : Contents) (a : ℕ) (c : Counter)
-        → IsAway g a → IsBefore (g.count a) c
+    ensures renumbered { (keys : Keys) → AreKeys keys → (log : LogLists) (g : Ghost) (now : Contents) (a : ℕ)
+        (c : Counter) → IsAway g a → IsBefore (g.count a) c
         → ((p : ℕ) → parent_of keys.shape.lines keys.shape.layers a ≡ Some p → IsAway g p)
         → Sound keys log g now → Sound keys log (raised g a c g.pend) now }
 {}
@@ -231,7 +237,8 @@ pub fn groups_show_counters()
         → IsGroupOf shape (record g { move = None }) p ((group + 1) % 2 ^ 64) (replicate 32 0) }
 {}
 
-/// The start is sound and at home. There is a log that shows a forgery, and one with the same altered reply that doesn't.
+/// The start is sound and at home. There is a log that shows a forgery, and one with the same altered reply that
+/// doesn't.
 pub fn instances_are_there()
     ensures sound { (keys : Keys) → Sound keys empty_log first_ghost (first_contents keys) }
     ensures always { (keys : Keys) → Always keys empty_log (first_contents keys) }
@@ -276,8 +283,8 @@ pub fn ends_show_contents()
         → contents_of_log keys first log Whole ≡ whole keys first log }
 {}
 
-/// The chip goes on showing the counters of all blocks: at the start, where a block's slot comes next, where a block of the
-/// top layer or the first held block is stepped, and where a child's slot takes it.
+/// The chip goes on showing the counters of all blocks: at the start, where a block's slot comes next, where a block of
+/// the top layer or the first held block is stepped, and where a child's slot takes it.
 pub fn chip_shows_counters()
     ensures start { (shape : Shape) (plb roots : ℕ) → AreGroups shape plb first_ghost (first_chip roots) }
     ensures waits { (shape : Shape) → IsShape shape → (plb : ℕ) (g : Ghost) (chip : Chip) → AreGroups shape plb g chip
@@ -311,8 +318,8 @@ pub fn chip_shows_counters()
         → g.stepped ≡ Some a → (Has a g.held → ⊥) → AreGroups shape plb (taken g a (next_group (g.count a))) chip }
 {}
 
-/// So it does over a group move, in which each child is moved in its slot or, where it is held, renumbered; and where a block
-/// is held or a held one is used.
+/// So it does over a group move, in which each child is moved in its slot or, where it is held, renumbered; and where a
+/// block is held or a held one is used.
 pub fn chip_shows_moves()
     ensures begins { (shape : Shape) → IsShape shape → (plb : ℕ) (g : Ghost) (roots : List ℕ) (h : HeldBlock)
         (rest : List HeldBlock) → AreGroups shape plb g (record { roots = roots; held = h ∷ rest }) → g.move ≡ None
@@ -362,8 +369,8 @@ pub fn counters_keep_room()
         → AreCounters shape g → AreCounters shape (record g { count = put_at g.count a c; move = move }) }
 {}
 
-/// Counters stay small: from the start on, however the log goes on, and where a counter changes within its room. So while
-/// fewer than 2 ^ 28 points are drawn no group count wraps, and each own count fits its place in a line.
+/// Counters stay small: from the start on, however the log goes on, and where a counter changes within its room. So
+/// while fewer than 2 ^ 28 points are drawn no group count wraps, and each own count fits its place in a line.
 pub fn counters_stay_small()
     ensures start { (shape : Shape) (ic : ℕ) → AreSmall shape ic empty_log (λ a. first_counter) }
     ensures grown { (shape : Shape) (ic : ℕ) (old new : LogLists) (events : List Event) (altered : List Altered)
@@ -385,7 +392,8 @@ pub fn stored_is_found()
         (s1 s2 a k : ℕ) (c1 c2 : Counter) (found1 found2 : Option Entry) (v1 v2 : List ℕ)
         → IsAccess keys l0 l1 n0 n1 s1 a (g.count a) c1 found1 v1 → ArePasses keys k l1 l2 n1 n2 g.dummies
         → IsAccess keys l2 l3 n2 n3 s2 a c1 c2 found2 v2
-        → children_of keys.shape.lines keys.shape.layers a ≡ None → parent_of keys.shape.lines keys.shape.layers a ≡ None
+        → children_of keys.shape.lines keys.shape.layers a ≡ None
+        → parent_of keys.shape.lines keys.shape.layers a ≡ None
         → a < keys.shape.total → IsBefore (g.count a) c1 → IsBefore c1 c2 → (Has a g.held → ⊥)
         → length v1 ≡ 64 → length v2 ≡ 64 → HasSeeds n0 → HasSeeds n2 → IsBetween g → g.pend ≡ Some a
         → Always keys l0 n0 → Sound keys l0 g n0 → Forgery keys l3 ⊎ (line_found found2 ≡ v1) }
