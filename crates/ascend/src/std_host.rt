@@ -16,7 +16,9 @@ pub(crate) struct StdHost<'a, R> {
 }
 
 impl<'a, R: Files + Print + AllocGlobal> StdHost<'a, R> {
-    pub(crate) fn new(rt: &'a R) -> StdHost<'a, R> {
+    pub(crate) fn new(rt: &'a R) -> StdHost<'a, R>
+        ensures { result.faults ≡ 0 }
+    {
         StdHost { rt, faults: 0 }
     }
 
