@@ -1,0 +1,2 @@
+pub mod HonestLaws
+pub mod Rows

@@ -1,0 +1,8 @@
+use Rattle.fed_run.proofs.Rows.{fed-exits, fed-starves}
+use Rattle.fed_run.proofs.worked_fed_runs.Goals as goal
+
+pub returns-clause-exits : goal.returns-clause-exits
+returns-clause-exits c = fed-exits
+
+pub returns-clause-starves : goal.returns-clause-starves
+returns-clause-starves c = fed-starves

@@ -1,0 +1,150 @@
+-- Fed: the flat run taken use by use of its lines, where each line for which the cache's lists ask a fetch first takes
+-- its bytes from a list of lines.
+use Rattle.std.specs.Prelude.{ℕ, zero, suc, ◌+◌, ◌*◌, Bool, true, false, ◌&&◌, not, if◌then◌else◌, List, [], ◌∷◌, ◌++◌, replicate, Option, Some, None}
+use Rattle.std.specs.Option.{option_map, option_and_then}
+use Rattle.std.specs.Int.{from_le_bytes, w32}
+use Rattle.rv32_core.specs.Access.{spliced}
+use Rattle.rv32_core.specs.Machine.{Machine, is_inside, effect_of_word, cost_of_word}
+use Rattle.rv32_core.specs.FlatMachine.{FlatStep, bytes_at, effected, trap_at, flat_step}
+use Rattle.rv32_core.specs.FlatRun.{FlatEnding, Exited, Trapped, Budget}
+use Rattle.rv32_core.specs.LineList.{LineUse, fetch_line, word_lines, step_lines}
+use Rattle.rv32_core.specs.declared.outcome.Done.{Done}
+use Rattle.rv32_core.specs.declared.outcome.Ended.{Ended}
+use Rattle.rv32_core.specs.declared.outcome.Ended.TheVariants.{No, Exit, Trap}
+use Rattle.rv32_core.specs.declared.outcome.TrapKind.TheVariants.{FetchFault}
+use Rattle.data_cache.specs.CacheLists.{Sets, needs, keeps, set_of, sets_after, line_in}
+
+-- What stands behind a machine that is fed: its list of bytes, which of its lines are kept, and the lines that are left.
+pub record Feed : Type 0 where
+  pub memory : List ℕ
+  pub sets : Sets
+  pub left : List (List ℕ)
+
+-- whether the lists ask a fetch for a use: its line's bytes are needed, and aren't kept
+abbrev pub asks : Sets → LineUse → Bool
+asks sets use_of = needs use_of.kind && not (keeps (set_of sets use_of.line) use_of.line)
+
+-- A line for which a fetch is asked takes the next of the lines that are left. Where none is left there is nothing.
+abbrev pub fed_line : List ℕ → ℕ → List (List ℕ) → Bool → Option (List ℕ × List (List ℕ))
+fed_line memory line left false = Some (memory, left)
+fed_line memory line [] true = None
+fed_line memory line (bytes ∷ rest) true = Some (spliced memory (64 * line) bytes, rest)
+
+abbrev pub fed_use : ℕ → Feed → LineUse → Option Feed
+fed_use ways feed use_of = option_map
+    (λ (r : List ℕ × List (List ℕ)). let after : Feed =
+    record { memory = r.0; sets = sets_after ways feed.sets use_of; left = r.1 } in after)
+    (fed_line feed.memory use_of.line feed.left (asks feed.sets use_of))
+
+-- the uses one after another
+abbrev pub fed_uses : ℕ → Feed → List LineUse → Option Feed
+fed_uses ways feed [] = Some feed
+fed_uses ways feed (first ∷ others) = option_and_then (λ now. fed_uses ways now others) (fed_use ways feed first)
+
+-- What an instruction leaves: the machine, what stands behind it, and how it ended.
+pub record FedStep : Type 0 where
+  pub machine : Machine
+  pub feed : Feed
+  pub done : Done
+
+-- a flat step's end, with these sets and these lines left
+abbrev pub fed_after : FlatStep → Sets → List (List ℕ) → FedStep
+fed_after step sets left = record {
+  machine = step.machine;
+  feed = record { memory = step.memory; sets = sets; left = left };
+  done = step.done;
+}
+
+-- A word that was fetched: the lines of its data are used, each once, and then it has its effect on the bytes.
+abbrev pub fed_word : ℕ → Machine → ℕ → Feed → Option FedStep
+fed_word ways machine word feed = option_map
+    (λ (now : Feed). fed_after (effected machine now.memory (cost_of_word machine word) (effect_of_word machine word))
+    now.sets now.left)
+    (fed_uses ways feed (word_lines machine word))
+
+-- An instruction: the line of its fetch is used, and then the word there. A fetch that isn't wholly inside the memory
+-- is a trap, and uses none.
+abbrev pub fed_step : ℕ → Machine → Feed → Option FedStep
+fed_step ways machine feed =
+    let core = machine.core in
+    if is_inside core core.pc 4
+    then option_and_then
+    (λ (now : Feed). fed_word ways machine (from_le_bytes w32 (bytes_at machine now.memory core.pc 4)) now)
+    (fed_use ways feed (fetch_line core))
+    else Some (record { machine = machine; feed = feed; done = trap_at core FetchFault })
+
+-- How it ends: as a flat run; or at a fetch for which no line is left.
+pub data FedEnding : Type 0 where
+  Ends : FlatEnding → FedEnding
+  Starves : FedEnding
+
+-- How many instructions finished, the machine after them, what stands behind it, and the ending.
+pub record FedRun : Type 0 where
+  pub instructions : ℕ
+  pub machine : Machine
+  pub feed : Feed
+  pub ending : FedEnding
+
+-- a run before which an instruction more finished
+abbrev pub one_before : FedRun → FedRun
+one_before run = record run { instructions = 1 + run.instructions }
+
+-- a run from an instruction on, where rest is the run from what it leaves
+abbrev pub fed_on : (Machine → Feed → FedRun) → FedStep → Ended → FedRun
+fed_on rest step No = one_before (rest step.machine step.feed)
+fed_on rest step (Exit status) =
+    record { instructions = 1; machine = step.machine; feed = step.feed; ending = Ends (Exited status) }
+fed_on rest step (Trap kind pc) =
+    record { instructions = 0; machine = step.machine; feed = step.feed; ending = Ends (Trapped kind pc) }
+
+-- Where an instruction starves, all lines were used, and the instructions before it are finished.
+abbrev pub fed_from : (Machine → Feed → FedRun) → Machine → Feed → Option FedStep → FedRun
+fed_from rest machine feed None =
+    record { instructions = 0; machine = machine; feed = record feed { left = [] }; ending = Starves }
+fed_from rest machine feed (Some step) = fed_on rest step step.done.ended
+
+-- The run of at most so many instructions.
+unfoldable pub fed_run : ℕ → ℕ → Machine → Feed → FedRun
+fed_run ways zero machine feed =
+    record { instructions = 0; machine = machine; feed = feed; ending = Ends Budget }
+fed_run ways (suc n) machine feed = fed_from (fed_run ways n) machine feed (fed_step ways machine feed)
+
+-- ---- what an honest store answers
+-- the lines for which uses ask, as a list of bytes has them, and the lists after these uses
+abbrev pub answers_of : ℕ → List ℕ → Sets → List LineUse → List (List ℕ)
+answers_of ways memory sets [] = []
+answers_of ways memory sets (first ∷ others) =
+    (if asks sets first then line_in memory first.line ∷ [] else [])
+    ++ answers_of ways memory (sets_after ways sets first) others
+
+abbrev pub sets_along : ℕ → Sets → List LineUse → Sets
+sets_along ways sets [] = sets
+sets_along ways sets (first ∷ others) = sets_along ways (sets_after ways sets first) others
+
+-- from a step on, where rest is what is answered from there
+abbrev pub answers_on : (Machine → List ℕ → List (List ℕ)) → FlatStep → Ended → List (List ℕ)
+answers_on rest step No = rest step.machine step.memory
+answers_on rest step (Exit status) = []
+answers_on rest step (Trap kind pc) = []
+
+-- The lines that a flat run's uses ask for, each as the flat list has it at that time.
+unfoldable pub flat_answers : ℕ → ℕ → Sets → Machine → List ℕ → List (List ℕ)
+flat_answers ways zero sets machine memory = []
+flat_answers ways (suc n) sets machine memory =
+    let uses = step_lines machine memory in
+    let step = flat_step machine memory in
+    answers_of ways memory sets uses
+    ++ answers_on (flat_answers ways n (sets_along ways sets uses)) step step.done.ended
+
+-- ---- what the worked rows are computed on
+-- the line of `lw x5, 64(x0); addi x17, x0, 93; ecall`
+abbrev pub program_line : List ℕ
+program_line = 0x83 ∷ 0x22 ∷ 0 ∷ 4 ∷ 0x93 ∷ 0x08 ∷ 0xd0 ∷ 0x05 ∷ 0x73 ∷ 0 ∷ 0 ∷ 0 ∷ replicate 52 0
+
+-- two lines, the first of which is kept as an image line, and these lines to be fed with
+abbrev pub over_image_line : List (List ℕ) → Feed
+over_image_line left = record {
+  memory = program_line ++ replicate 64 0;
+  sets = (record { line = 0; dirty = true } ∷ []) ∷ [];
+  left = left;
+}

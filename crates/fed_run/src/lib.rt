@@ -1,0 +1,39 @@
+//! What a core over a cache computes on: the flat machine, fed with the lines that the store answered.
+//!
+//! `specs/Fed.antt` has the flat run taken use by use of its lines, where each line for which the cache's lists ask a
+//! fetch first takes its bytes from a list of lines, whatever they are. The crate has laws alone; the calls do nothing.
+#![tactic(auto)]
+
+ghost use Rattle.std.specs.Prelude.{◌≡◌, ℕ, List, [], ◌∷◌, ◌++◌, length, replicate};
+ghost use Rattle.asc_base.specs.Memory.{IsMemory};
+ghost use Rattle.rv32_core.specs.Machine.{Machine};
+ghost use Rattle.rv32_core.specs.FlatRun.{Exited, flat_run, machine_at_start, output_limit};
+ghost use Rattle.data_cache.specs.CacheLists.{Sets};
+ghost use Rattle.fed_run.specs.Fed.{Ends, Starves, fed_run, flat_answers, program_line, over_image_line};
+
+/// Where each line that is answered is the flat list's at that time, a run that is fed is the flat run, whatever lines
+/// are kept at its start: as many instructions, the machine, the bytes and the ending; and it uses these lines, in
+/// order, and no other.
+pub fn honest_lines_give_the_flat_run()
+    ensures { (ways n : ℕ) (machine : Machine) (memory : List ℕ) (sets : Sets) (more : List (List ℕ))
+        → IsMemory machine.core.base machine.core.size → length memory ≡ machine.core.size
+        → let fed = fed_run ways n machine (record {
+          memory = memory;
+          sets = sets;
+          left = flat_answers ways n sets machine memory ++ more;
+        }) in
+        let run = flat_run n machine memory in
+        (fed.instructions ≡ run.instructions) × (fed.machine ≡ run.machine) × (fed.feed.memory ≡ run.memory)
+        × (fed.feed.left ≡ more) × (fed.ending ≡ Ends run.ending) }
+{}
+
+/// Worked rows over one set of one way, whose image line has the program `lw x5, 64(x0); addi x17, x0, 93; ecall`: line
+/// 1 is fetched, and then line 0 again. With both it exits, and with the first alone it starves in its second
+/// instruction.
+pub fn worked_fed_runs()
+    ensures exits { let run = fed_run 1 9 (machine_at_start 0 0 128 0 [] output_limit)
+        (over_image_line (replicate 64 7 ∷ program_line ∷ [])) in
+        (run.ending ≡ Ends (Exited 0)) × (run.instructions ≡ 3) × (run.feed.left ≡ []) }
+    ensures starves { let run = fed_run 1 9 (machine_at_start 0 0 128 0 [] output_limit)
+        (over_image_line (replicate 64 7 ∷ [])) in (run.ending ≡ Starves) × (run.instructions ≡ 1) }
+{}
