@@ -67,7 +67,7 @@ pub slot_in_ranges : (levels : ℕ) (log : LogLists) (starts : List ℕ) (leaves
 slot_in_ranges levels log starts leaves i start leaf all are small s l =
     let d = seen_of levels log.moves (0, 0) in
     subst (IsSeen levels) (seen_at levels log starts leaves i start leaf d are small s l)
-      (AllWithin-from_all (IsSeen levels) (seen_in levels log) all i d (omega arith) (rw (seen_length levels log starts leaves are) small))
+    (AllWithin-from_all (IsSeen levels) (seen_in levels log) all i d (omega arith) (rw (seen_length levels log starts leaves are) small))
 
 -- one more
 pub one_more : (levels : ℕ) (log : LogLists) (starts : List ℕ) (leaves : List Leaf) (i start : ℕ) (leaf : Leaf)

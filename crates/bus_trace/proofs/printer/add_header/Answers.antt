@@ -20,15 +20,15 @@ joined p old first second a b =
     ∙ append_assoc (old ++ begun) (spaced p.rates) (first_on p)
     ∙ append_assoc old begun (spaced p.rates ++ first_on p)
     ∙ ap (λ t. old ++ (codes "ascend trace 1\nlevels " ++ t))
-      (append_assoc (decimal p.levels) (codes "\nrates") (spaced p.rates ++ first_on p))
+    (append_assoc (decimal p.levels) (codes "\nrates") (spaced p.rates ++ first_on p))
     ∙ ap (λ t. old ++ t) (header_is p)
 
 pub returns : goal.returns
 returns c =
     let p = public_of c.args.header.now in
     let mid : string_bytes c.add_numbers.new.text ≡ string_bytes c.write.new.self ++ spaced p.rates =
-      c.in_ok-add_numbers.ensures in
+    c.in_ok-add_numbers.ensures in
     onok c.write-2.result (string_bytes c.write-2.new.self) (string_bytes c.add_numbers.new.text ++ first_on p)
-      (string_bytes c.args.text.now ++ text_of (header_lines p)) c.write-2.ensures.bytes
-      (joined p (string_bytes c.args.text.now) (string_bytes c.write.new.self) (string_bytes c.add_numbers.new.text)
-        c.in_ok-write.ensures.bytes mid)
+    (string_bytes c.args.text.now ++ text_of (header_lines p)) c.write-2.ensures.bytes
+    (joined p (string_bytes c.args.text.now) (string_bytes c.write.new.self) (string_bytes c.add_numbers.new.text)
+    c.in_ok-write.ensures.bytes mid)

@@ -14,11 +14,11 @@ returns c =
     let header = text_of (header_lines p) in
     let accesses = map access_line (seen_in p.levels log) in
     let a : string_bytes c.add_header.new.text ≡ header =
-      c.in_ok-add_header.ensures ∙ ap (λ old. old ++ header) c.new-text.ensures.bytes in
+    c.in_ok-add_header.ensures ∙ ap (λ old. old ++ header) c.new-text.ensures.bytes in
     let b : string_bytes c.add_accesses.new.text ≡ header ++ text_of accesses =
-      c.in_ok-add_accesses.ensures
-      ∙ ap (λ old. old ++ text_of (map access_line c.deref.result.now)) a
-      ∙ ap (λ seen. header ++ text_of (map access_line seen)) (c.deref.ensures.value ∙ c.in_ok-seen.ensures) in
+    c.in_ok-add_accesses.ensures
+    ∙ ap (λ old. old ++ text_of (map access_line c.deref.result.now)) a
+    ∙ ap (λ seen. header ++ text_of (map access_line seen)) (c.deref.ensures.value ∙ c.in_ok-seen.ensures) in
     let e : string_bytes c.write.new.self ≡ string_bytes c.add_accesses.new.text ++ (codes "end " ++ (decimal c.args.end ++ 10 ∷ [])) = c.in_ok-write.ensures.bytes in
     let last : codes "end " ++ (decimal c.args.end ++ 10 ∷ []) ≡ end_line c.args.end ++ 10 ∷ [] = simp (append_assoc, append-nil) in
     e ∙ ap (λ old. old ++ (codes "end " ++ (decimal c.args.end ++ 10 ∷ []))) b
