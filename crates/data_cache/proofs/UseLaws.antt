@@ -1,4 +1,4 @@
--- The requests that a use makes, an empty cache, and worked rows.
+-- The requests that a use makes, an empty cache, and rows in numbers.
 use Rattle.std.proofs.Common.{◌≡◌, ℕ, zero, suc, ◌*◌, ◌<◌, ◌≤◌, List, [], ◌∷◌, ◌++◌, length, map, replicate, refl, sym, ap, subst, arith}
 use Rattle.std.specs.Prelude.{slice_index_or}
 use Rattle.request_plan.specs.Plan.{Plan, Done, Ask, bind}

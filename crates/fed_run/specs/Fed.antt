@@ -136,7 +136,7 @@ flat_answers ways (suc n) sets machine memory =
     answers_of ways memory sets uses
     ++ answers_on (flat_answers ways n (sets_along ways sets uses)) step step.done.ended
 
--- ---- what the worked rows are computed on
+-- ---- what the rows are computed on
 -- the line of `lw x5, 64(x0); addi x17, x0, 93; ecall`
 abbrev pub program_line : List ℕ
 program_line = 0x83 ∷ 0x22 ∷ 0 ∷ 4 ∷ 0x93 ∷ 0x08 ∷ 0xd0 ∷ 0x05 ∷ 0x73 ∷ 0 ∷ 0 ∷ 0 ∷ replicate 52 0
