@@ -1,2 +1,12 @@
 pub mod Words
+pub mod Forms
+pub mod Scanning
+pub mod Lines
+pub mod LineViews
+pub mod Operands
+pub mod OperandViews
+pub mod Registers
+pub mod Values
+pub mod Passes
+pub mod PassViews
 pub mod Disassembly
