@@ -35,9 +35,9 @@ access_is seen =
     let leaf = decimal seen.leaf.0 in
     let moves = decimal seen.moves in
     ap (λ t. codes "access " ++ t)
-      (sym (append_assoc start (32 ∷ (leaf ++ (32 ∷ (moves ++ [])))) (10 ∷ [])
-      ∙ ap (λ t. start ++ 32 ∷ t) (append_assoc leaf (32 ∷ (moves ++ [])) (10 ∷ [])
-      ∙ ap (λ t. leaf ++ 32 ∷ t) (append_assoc moves [] (10 ∷ [])))))
+    (sym (append_assoc start (32 ∷ (leaf ++ (32 ∷ (moves ++ [])))) (10 ∷ [])
+    ∙ ap (λ t. start ++ 32 ∷ t) (append_assoc leaf (32 ∷ (moves ++ [])) (10 ∷ [])
+    ∙ ap (λ t. leaf ++ 32 ∷ t) (append_assoc moves [] (10 ∷ [])))))
 
 -- the lines of a header
 abbrev pub leak_on : Public → List ℕ
@@ -63,10 +63,10 @@ header_is h =
     let r : List ℕ = codes "rates" ++ ((rates ++ 10 ∷ []) ++ f) in
     let l_is : l ≡ codes "leak " ++ (leak ++ 10 ∷ []) = ap (λ t. codes "leak " ++ t) (number_ends leak []) in
     let e_is : e ≡ codes "epoch " ++ (epoch ++ leak_on h) =
-      ap (λ t. codes "epoch " ++ t) (number_ends epoch l ∙ ap (λ t. epoch ++ 10 ∷ t) l_is) in
+    ap (λ t. codes "epoch " ++ t) (number_ends epoch l ∙ ap (λ t. epoch ++ 10 ∷ t) l_is) in
     let f_is : f ≡ codes "first " ++ (first ++ epoch_on h) =
-      ap (λ t. codes "first " ++ t) (number_ends first e ∙ ap (λ t. first ++ 10 ∷ t) e_is) in
+    ap (λ t. codes "first " ++ t) (number_ends first e ∙ ap (λ t. first ++ 10 ∷ t) e_is) in
     let r_is : r ≡ codes "rates" ++ (rates ++ first_on h) =
-      ap (λ t. codes "rates" ++ t) (append_assoc rates (10 ∷ []) f ∙ ap (λ t. rates ++ 10 ∷ t) f_is) in
+    ap (λ t. codes "rates" ++ t) (append_assoc rates (10 ∷ []) f ∙ ap (λ t. rates ++ 10 ∷ t) f_is) in
     sym (ap (λ t. codes "ascend trace 1\nlevels " ++ t)
-      (number_ends (decimal h.levels) r ∙ ap (λ t. decimal h.levels ++ 10 ∷ t) r_is))
+    (number_ends (decimal h.levels) r ∙ ap (λ t. decimal h.levels ++ 10 ∷ t) r_is))

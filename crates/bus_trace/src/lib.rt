@@ -12,7 +12,9 @@ mod trace;
 
 pub use asc_base::NoMemory;
 pub use fault::TraceKind;
-pub use laws::{trace_rows, traces_have_forms, traces_have_one_text};
+pub use laws::{trace_rows, traces_have_one_text};
 pub use printer::print;
 pub use trace::{Header, Seen};
 
+#[cfg(test)]
+mod tests;

@@ -1,4 +1,5 @@
-use Rattle.std.proofs.Common.{rules, arith, sym, refl, ap, ◌∙◌, ◌≡◌, ◌+◌, ℕ, length, map, get_or, take, List, [], ◌∷◌, ◌++◌, append-nil, append_assoc}
+use Rattle.std.proofs.Common.{sym, ap, ◌∙◌, ◌≡◌, map, get_or, take, [], ◌∷◌}
+use Rattle.std.proofs.Common.{◌++◌, append-nil, append_assoc}
 use Rattle.std.specs.Prelude.{string_bytes, codes}
 use Rattle.std.specs.Fmt.{decimal}
 use Rattle.std.proofs.lemmas.List.{map_more}
@@ -20,10 +21,10 @@ loop-seen-preserved c =
     let x = get_or accesses k nothing in
     let text = string_bytes c.loop-seen.text in
     let e : string_bytes c.write.new.self ≡ text ++ (codes "access " ++ (decimal x.start ++ (32 ∷ (decimal x.leaf.0
-        ++ (32 ∷ (decimal x.moves ++ 10 ∷ [])))))) = c.in_ok-write.ensures.bytes in
+    ++ (32 ∷ (decimal x.moves ++ 10 ∷ [])))))) = c.in_ok-write.ensures.bytes in
     let before = map access_line (take k accesses) in
     e ∙ ap (λ one. text ++ one) (access_is x ∙ sym (text_of_one (access_line x)))
     ∙ ap (λ old. old ++ text_of (access_line x ∷ [])) c.loop-seen.invariant
     ∙ append_assoc (string_bytes c.args.text.now) (text_of before) (text_of (access_line x ∷ []))
     ∙ ap (λ all. string_bytes c.args.text.now ++ all) (sym (text_of_join before (access_line x ∷ []))
-      ∙ ap text_of (sym (map_more access_line accesses k nothing c.loop-seen-test.true)))
+    ∙ ap text_of (sym (map_more access_line accesses k nothing c.loop-seen-test.true)))

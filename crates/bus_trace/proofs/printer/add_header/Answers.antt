@@ -1,9 +1,10 @@
-use Rattle.std.proofs.Common.{rules, arith, sym, refl, ap, ◌∙◌, ◌≡◌, ◌+◌, ℕ, length, map, get_or, take, List, [], ◌∷◌, ◌++◌, append-nil, append_assoc}
+use Rattle.std.proofs.Common.{ap, ◌∙◌, ◌≡◌, ℕ, List}
+use Rattle.std.proofs.Common.{◌++◌, append_assoc}
 use Rattle.std.specs.Prelude.{string_bytes, OnOk, codes, Result, Ok, Err}
 use Rattle.std.specs.Fmt.{decimal}
 use Rattle.bus_trace.specs.Trace.{header_lines, public_of, spaced, text_of}
 use Rattle.bus_schedule.specs.Timetable.{Public}
-use Rattle.bus_trace.proofs.Lines.{text_of_none, text_of_join, text_of_one, text_of_cons, header_is, first_on}
+use Rattle.bus_trace.proofs.Lines.{header_is, first_on}
 use Rattle.bus_trace.proofs.printer.add_header.Goals as goal
 
 onok : {E : Type 0} (r : Result (Unit {0}) E) (x y z : List ℕ) → OnOk r (x ≡ y) → y ≡ z → OnOk r (x ≡ z)
@@ -20,15 +21,15 @@ joined p old first second a b =
     ∙ append_assoc (old ++ begun) (spaced p.rates) (first_on p)
     ∙ append_assoc old begun (spaced p.rates ++ first_on p)
     ∙ ap (λ t. old ++ (codes "ascend trace 1\nlevels " ++ t))
-      (append_assoc (decimal p.levels) (codes "\nrates") (spaced p.rates ++ first_on p))
+    (append_assoc (decimal p.levels) (codes "\nrates") (spaced p.rates ++ first_on p))
     ∙ ap (λ t. old ++ t) (header_is p)
 
 pub returns : goal.returns
 returns c =
     let p = public_of c.args.header.now in
     let mid : string_bytes c.add_numbers.new.text ≡ string_bytes c.write.new.self ++ spaced p.rates =
-      c.in_ok-add_numbers.ensures in
+    c.in_ok-add_numbers.ensures in
     onok c.write-2.result (string_bytes c.write-2.new.self) (string_bytes c.add_numbers.new.text ++ first_on p)
-      (string_bytes c.args.text.now ++ text_of (header_lines p)) c.write-2.ensures.bytes
-      (joined p (string_bytes c.args.text.now) (string_bytes c.write.new.self) (string_bytes c.add_numbers.new.text)
-        c.in_ok-write.ensures.bytes mid)
+    (string_bytes c.args.text.now ++ text_of (header_lines p)) c.write-2.ensures.bytes
+    (joined p (string_bytes c.args.text.now) (string_bytes c.write.new.self) (string_bytes c.add_numbers.new.text)
+    c.in_ok-write.ensures.bytes mid)
