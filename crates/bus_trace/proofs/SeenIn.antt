@@ -1,5 +1,6 @@
 -- What is seen of a log, place by place.
-use Rattle.std.proofs.Common.{◌≡◌, ℕ, zero, suc, ◌<◌, ◌≤◌, ◌^◌, List, [], ◌∷◌, ◌+◌, ◌++◌, length, map, take, get_or, min, All, refl, subst, sym, ◌∙◌, ap, arith}
+use Rattle.std.proofs.Common.{◌≡◌, ℕ, zero, suc, ◌<◌, List, [], ◌∷◌, ◌+◌, ◌++◌, length, map, take, get_or}
+use Rattle.std.proofs.Common.{min, All, refl, subst, sym, ◌∙◌, ap, arith}
 use Rattle.std.specs.Prelude.{zip}
 use Rattle.std.proofs.lemmas.List.Elements.{AllWithin-from_all}
 use Rattle.std.proofs.lemmas.Slice.Zip.{length-zip}
@@ -46,7 +47,8 @@ seen_length levels log starts leaves are =
     ∙ ap (min (length starts)) (length-map leaves (λ (leaf : Leaf). leaf.0))
 
 -- what is seen at a place
-pub seen_at : (levels : ℕ) (log : LogLists) (starts : List ℕ) (leaves : List Leaf) (i start : ℕ) (leaf : Leaf) (d : Seen)
+pub seen_at : (levels : ℕ) (log : LogLists) (starts : List ℕ) (leaves : List Leaf) (i start : ℕ) (leaf : Leaf)
+    (d : Seen)
     → AreOf log starts leaves → i < min (length starts) (length leaves)
     → start ≡ get_or starts i start → leaf ≡ get_or leaves i leaf
     → get_or (seen_in levels log) i d ≡ seen_of levels log.moves (start, leaf.0)
@@ -56,7 +58,8 @@ seen_at levels log starts leaves i start leaf d are small s l =
     ap (λ seen. get_or seen i d) (seen_is levels log starts leaves are)
     ∙ zipped_at f starts (numbers leaves) i start leaf.0 d (omega arith) also
     ∙ ap (λ x. f (x, get_or (numbers leaves) i leaf.0)) (sym s)
-    ∙ ap (λ x. f (start, x)) (get_or-map (λ (x : Leaf). x.0) leaves i leaf leaf.0 (omega arith) ∙ ap (λ (x : Leaf). x.0) (sym l))
+    ∙ ap (λ x. f (start, x)) (get_or-map (λ (x : Leaf). x.0) leaves i leaf leaf.0 (omega arith) ∙ ap (λ
+    (x : Leaf). x.0) (sym l))
 
 -- each slot's numbers are in their ranges
 pub slot_in_ranges : (levels : ℕ) (log : LogLists) (starts : List ℕ) (leaves : List Leaf) (i start : ℕ) (leaf : Leaf)
@@ -67,7 +70,8 @@ pub slot_in_ranges : (levels : ℕ) (log : LogLists) (starts : List ℕ) (leaves
 slot_in_ranges levels log starts leaves i start leaf all are small s l =
     let d = seen_of levels log.moves (0, 0) in
     subst (IsSeen levels) (seen_at levels log starts leaves i start leaf d are small s l)
-    (AllWithin-from_all (IsSeen levels) (seen_in levels log) all i d (omega arith) (rw (seen_length levels log starts leaves are) small))
+    (AllWithin-from_all (IsSeen levels) (seen_in levels log) all i d (omega arith) (rw
+    (seen_length levels log starts leaves are) small))
 
 -- one more
 pub one_more : (levels : ℕ) (log : LogLists) (starts : List ℕ) (leaves : List Leaf) (i start : ℕ) (leaf : Leaf)

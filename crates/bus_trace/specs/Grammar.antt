@@ -36,7 +36,8 @@ pub record AreShort (seen : Seen) : Type 0 where
   pub leaf : IsShort seen.leaf.0
   pub moves : IsShort seen.moves
 
--- All numbers of a trace have at most ten digits, and it has a rate. So its lines have their forms, whatever the ranges.
+-- All numbers of a trace have at most ten digits, and it has a rate. So its lines have their forms, whatever the
+-- ranges.
 pub record IsForm (t : TraceLists) : Type 0 where
   pub levels : IsShort t.header.levels
   pub some : t.header.rates ≢ []

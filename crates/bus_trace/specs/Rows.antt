@@ -1,5 +1,5 @@
 -- Traces on which the definitions are computed.
-use Rattle.std.specs.Prelude.{ℕ, false, List, [], ◌∷◌, None}
+use Rattle.std.specs.Prelude.{ℕ, false, [], ◌∷◌, None}
 use Rattle.asc_base.specs.declared.block.Point.TheVariants.{Dummy}
 use Rattle.bus_watch.specs.declared.log.Event.TheVariants.{Access, Drawn}
 use Rattle.bus_watch.specs.declared.log.Move.{Move}

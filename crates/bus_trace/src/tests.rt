@@ -1,12 +1,11 @@
-//! Texts of traces that were written by hand.
+//! The text of a trace that was written by hand.
 
-ghost use Rattle.std.specs.Prelude.{◌≡◌, ◌≤◌, [], IfOk, length};
+ghost use Rattle.std.specs.Prelude.{◌≡◌, ◌≤◌, IfOk, length};
 ghost use Rattle.bus_watch.specs.Recorder.{lists_of};
-ghost use Rattle.bus_schedule.specs.Rows.{idle_log};
 ghost use Rattle.bus_schedule.specs.Shown.{starts_of, leaves_of};
 ghost use Rattle.bus_trace.specs.Grammar.{IsTrace};
 ghost use Rattle.bus_trace.specs.OfLog.{trace_of};
-ghost use Rattle.bus_trace.specs.Rows.{default_public, small_public, slot_log, read_at};
+ghost use Rattle.bus_trace.specs.Rows.{small_public, slot_log, read_at};
 ghost use Rattle.bus_trace.specs.Trace.{public_of};
 
 use crate::{Header, print};
@@ -15,25 +14,6 @@ use bus_watch::{Event, Log, Move};
 use std::alloc::{AllocError, Global};
 use std::process::Abort;
 use std::test::Fail;
-
-/// The header of the default settings.
-fn default_header() -> Header
-    ensures public { public_of result ≡ default_public }
-    ensures count { result.rates.count ≡ 4 }
-{
-    Header {
-        levels: 13,
-        rates: Rates {
-            list: [
-                256, 1_024, 4_096, 16_384, 0, 0, 0, 0, 0, 0, 0, 0, 0, 0, 0, 0,
-            ],
-            count: 4,
-        },
-        first: 3,
-        epoch: 65_536,
-        leak: 16,
-    }
-}
 
 /// A header of slots of 176 cycles.
 fn small_header() -> Header
@@ -108,25 +88,6 @@ fn printed(
     assert_eq!(rt; into.first().copied(), Some(b'>'));
     assert_eq!(rt; into.as_slice().get(1..), Some(text.as_bytes()));
     Ok(())
-}
-
-/// The log of no slot.
-fn no_slot(alloc: Global) -> Log
-    ensures { lists_of result ≡ idle_log [] }
-{
-    Log {
-        moves: Vec::new(alloc),
-        events: Vec::new(alloc),
-        altered: Vec::new(alloc),
-    }
-}
-
-#[test]
-fn no_access(rt: HostRuntime) -> Result<(), Fail> {
-    let log = no_slot(rt.alloc());
-    let text =
-        "ascend trace 1\nlevels 13\nrates 256 1024 4096 16384\nfirst 3\nepoch 65536\nleak 16\nend 12\n";
-    printed(&rt, rt.alloc(), &default_header(), &log, 12, text)
 }
 
 #[test]

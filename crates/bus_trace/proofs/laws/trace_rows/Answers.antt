@@ -1,10 +1,11 @@
-use Rattle.std.proofs.Common.{◌≡◌, ℕ, ◌+◌, ◌^◌, ◌<◌, ◌≤◌, List, [], ◌∷◌, ◌++◌, get_or, drop, refl, ap, ◌∙◌, sym, arith, rules, append-nil, lit<}
+use Rattle.std.proofs.Common.{◌≡◌, List, [], ◌∷◌, ◌++◌, get_or, drop, refl, ap, ◌∙◌, sym}
+use Rattle.std.proofs.Common.{arith, rules, append-nil, lit<}
 use Rattle.std.specs.Prelude.{codes}
 use Rattle.std.specs.Fmt.{decimal, digits}
 use Rattle.std.proofs.lemmas.Fmt.{decimal_injective}
 use Rattle.bus_trace.specs.Trace.{TraceLists, Line, lines_of, text_of}
 use Rattle.bus_trace.specs.Grammar.{IsTrace, IsForm}
-use Rattle.bus_trace.specs.Reader.{Begins, FaultAfter, form, range, cut, extra}
+use Rattle.bus_trace.specs.Reader.{form, range, cut, extra}
 use Rattle.bus_trace.specs.Rows.{default_public, idle_trace}
 use Rattle.bus_trace.proofs.laws.trace_rows.Goals as goal
 

@@ -1,4 +1,5 @@
-use Rattle.std.proofs.Common.{rules, arith, sym, refl, ap, ◌∙◌, ◌≡◌, ◌+◌, ℕ, length, map, get_or, take, List, [], ◌∷◌, ◌++◌, append-nil, append_assoc}
+use Rattle.std.proofs.Common.{sym, ap, ◌∙◌, ◌≡◌, map, get_or, take, [], ◌∷◌}
+use Rattle.std.proofs.Common.{◌++◌, append-nil, append_assoc}
 use Rattle.std.specs.Prelude.{string_bytes, codes}
 use Rattle.std.specs.Fmt.{decimal}
 use Rattle.std.proofs.lemmas.List.{map_more}

@@ -1,9 +1,10 @@
-use Rattle.std.proofs.Common.{rules, arith, sym, refl, ap, ◌∙◌, ◌≡◌, ◌+◌, ℕ, length, map, get_or, take, List, [], ◌∷◌, ◌++◌, append-nil, append_assoc}
+use Rattle.std.proofs.Common.{ap, ◌∙◌, ◌≡◌, ℕ, List}
+use Rattle.std.proofs.Common.{◌++◌, append_assoc}
 use Rattle.std.specs.Prelude.{string_bytes, OnOk, codes, Result, Ok, Err}
 use Rattle.std.specs.Fmt.{decimal}
 use Rattle.bus_trace.specs.Trace.{header_lines, public_of, spaced, text_of}
 use Rattle.bus_schedule.specs.Timetable.{Public}
-use Rattle.bus_trace.proofs.Lines.{text_of_none, text_of_join, text_of_one, text_of_cons, header_is, first_on}
+use Rattle.bus_trace.proofs.Lines.{header_is, first_on}
 use Rattle.bus_trace.proofs.printer.add_header.Goals as goal
 
 onok : {E : Type 0} (r : Result (Unit {0}) E) (x y z : List ℕ) → OnOk r (x ≡ y) → y ≡ z → OnOk r (x ≡ z)

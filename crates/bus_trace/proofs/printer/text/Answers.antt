@@ -1,10 +1,11 @@
-use Rattle.std.proofs.Common.{rules, arith, sym, refl, ap, ◌∙◌, ◌≡◌, ◌+◌, ℕ, length, map, get_or, take, List, [], ◌∷◌, ◌++◌, append-nil, append_assoc}
-use Rattle.std.specs.Prelude.{string_bytes, OnOk, codes}
+use Rattle.std.proofs.Common.{sym, ap, ◌∙◌, ◌≡◌, map, [], ◌∷◌}
+use Rattle.std.proofs.Common.{◌++◌, append-nil, append_assoc}
+use Rattle.std.specs.Prelude.{string_bytes, codes}
 use Rattle.std.specs.Fmt.{decimal}
 use Rattle.bus_watch.specs.Recorder.{lists_of}
-use Rattle.bus_trace.specs.Trace.{header_lines, access_line, end_line, public_of, text_of, trace_text}
-use Rattle.bus_trace.specs.OfLog.{seen_in, trace_of}
-use Rattle.bus_trace.proofs.Lines.{text_of_none, text_of_join, text_of_one, text_of_cons}
+use Rattle.bus_trace.specs.Trace.{header_lines, access_line, end_line, public_of, text_of}
+use Rattle.bus_trace.specs.OfLog.{seen_in}
+use Rattle.bus_trace.proofs.Lines.{text_of_join, text_of_one}
 use Rattle.bus_trace.proofs.printer.text.Goals as goal
 
 pub returns : goal.returns
@@ -19,8 +20,10 @@ returns c =
     c.in_ok-add_accesses.ensures
     ∙ ap (λ old. old ++ text_of (map access_line c.deref.result.now)) a
     ∙ ap (λ seen. header ++ text_of (map access_line seen)) (c.deref.ensures.value ∙ c.in_ok-seen.ensures) in
-    let e : string_bytes c.write.new.self ≡ string_bytes c.add_accesses.new.text ++ (codes "end " ++ (decimal c.args.end ++ 10 ∷ [])) = c.in_ok-write.ensures.bytes in
-    let last : codes "end " ++ (decimal c.args.end ++ 10 ∷ []) ≡ end_line c.args.end ++ 10 ∷ [] = simp (append_assoc, append-nil) in
+    let e : string_bytes c.write.new.self ≡ string_bytes c.add_accesses.new.text ++ (codes "end " ++
+    (decimal c.args.end ++ 10 ∷ [])) = c.in_ok-write.ensures.bytes in
+    let last : codes "end " ++ (decimal c.args.end ++ 10 ∷ []) ≡ end_line c.args.end ++ 10 ∷ [] = simp
+    (append_assoc, append-nil) in
     e ∙ ap (λ old. old ++ (codes "end " ++ (decimal c.args.end ++ 10 ∷ []))) b
     ∙ ap (λ one. (header ++ text_of accesses) ++ one) (last ∙ sym (text_of_one (end_line c.args.end)))
     ∙ append_assoc header (text_of accesses) (text_of (end_line c.args.end ∷ []))

@@ -1,4 +1,4 @@
-use Rattle.std.proofs.Common.{◌≤◌, take}
+use Rattle.std.proofs.Common.{take}
 use Rattle.std.specs.List.Sorted.{IsNonDecreasingBy}
 use Rattle.bus_watch.specs.declared.log.Move.{Move}
 use Rattle.bus_trace.proofs.seen.are_ordered.Given as goal

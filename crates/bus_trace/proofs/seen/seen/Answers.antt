@@ -1,11 +1,8 @@
-use Rattle.std.proofs.Common.{rules, arith, subst, sym, refl, ap, ◌∙◌, ◌≡◌, ◌≤◌, ◌<◌, ◌+◌, ℕ, length, map, get_or, take, List, [], ◌∷◌, ◌++◌, min}
+use Rattle.std.proofs.Common.{arith, sym, ap, ◌∙◌, ◌<◌, length}
+use Rattle.std.proofs.Common.{take, [], ◌∷◌, ◌++◌, min}
 use Rattle.std.proofs.lemmas.List.{take_all}
-use Rattle.asc_base.specs.declared.block.Leaf.{Leaf}
-use Rattle.bus_watch.specs.declared.log.Move.{Move}
-use Rattle.bus_watch.specs.Log.{LogLists}
 use Rattle.bus_schedule.specs.Shown.{starts_of, leaves_of}
 use Rattle.bus_watch.specs.Recorder.{lists_of}
-use Rattle.bus_trace.specs.Grammar.{IsSeen}
 use Rattle.bus_trace.specs.OfLog.{seen_in, seen_of}
 use Rattle.bus_trace.proofs.SeenIn.{AreOf, slot_in_ranges, one_more, seen_length}
 use Rattle.bus_trace.proofs.seen.seen.Goals as goal
@@ -22,7 +19,8 @@ slot-slot-requires-clause-ranges c =
     let small : c.loop-place.place < min (length starts) (length leaves) =
     omega (arith, c.loop-place-test.true, c.min-place-end.ensures, c.len.ensures, c.len-2.ensures) in
     rw c.deref-in-loop-place.ensures.value (slot_in_ranges c.args.levels log starts leaves c.loop-place.place
-    c.index.result.now c.index-in-loop-place.result.now c.requires.ranges are small c.index.ensures c.index-in-loop-place.ensures)
+    c.index.result.now c.index-in-loop-place.result.now c.requires.ranges are small c.index.ensures
+    c.index-in-loop-place.ensures)
 
 pub loop-place-preserved : goal.loop-place-preserved
 loop-place-preserved c =
@@ -38,7 +36,8 @@ loop-place-preserved c =
     c.in_ok-push.ensures.items
     ∙ ap (λ seen. seen ++ c.slot-slot.result ∷ []) c.loop-place.invariant
     ∙ ap (λ one. take c.loop-place.place (seen_in c.args.levels log) ++ one ∷ [])
-    (c.slot-slot.ensures ∙ ap (λ moves. seen_of c.args.levels moves (c.index.result.now, c.index-in-loop-place.result.now.0)) c.deref-in-loop-place.ensures.value)
+    (c.slot-slot.ensures ∙ ap (λ moves. seen_of c.args.levels moves
+    (c.index.result.now, c.index-in-loop-place.result.now.0)) c.deref-in-loop-place.ensures.value)
     ∙ sym (one_more c.args.levels log starts leaves c.loop-place.place
     c.index.result.now c.index-in-loop-place.result.now are small c.index.ensures c.index-in-loop-place.ensures)
 
