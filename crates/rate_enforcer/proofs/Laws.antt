@@ -33,7 +33,7 @@ use Rattle.unified_tree.specs.Stops.{IfRead, IfWritten}
 use Rattle.unified_tree.specs.Tree.{TreeState, IsSameTree}
 use Rattle.unified_tree.specs.declared.stop.TreeStop.{TreeStop}
 use Rattle.unified_tree.specs.declared.stop.TreeStop.TheVariants as tree
-use Rattle.rate_enforcer.specs.State.{Rests, IsFor, IsOpen, Opens, Stopped}
+use Rattle.rate_enforcer.specs.State.{Rests, IsFor, IsOpen, Opens, Stopped, IsUp}
 use Rattle.rate_enforcer.specs.Stops.{stop_after, RanTo, RanStop}
 use Rattle.rate_enforcer.specs.declared.clock.Clock.{Clock}
 use Rattle.rate_enforcer.specs.declared.port.OpenSlot.{OpenSlot}
@@ -518,3 +518,97 @@ serves old asked time next last olat past late reached early = (omega arith, ome
 pub started : (old asked time last olat : ℕ) → old ≤ asked → last < max old (min asked time) + olat
     → last < time + olat → last < min asked time + olat
 started old asked time last olat past late in_time = omega arith
+
+-- a slot whose tree was changed at hand alone
+pub hand_changed : {notes levels : ℕ} {clock : Clock} {slot : OpenSlot} {tree : TreeState} {m : MemoryState}
+    {t : TapState} (tree' : TreeState) → IsSameTree tree tree' → tree'.seed ≡ tree.seed → tree'.path ≡ tree.path
+    → Opens notes clock slot tree levels m t → Opens notes clock slot tree' levels m t
+hand_changed tree' kept seed path o = record {
+  going = o.going;
+  is_open = record {
+    is_config = o.is_open.is_config;
+    early = o.is_open.early;
+    starts = o.is_open.starts;
+    path = path ∙ o.is_open.path;
+  };
+  leaf_in = o.leaf_in;
+  done = o.done;
+  stands = o.stands;
+  dummies = o.dummies;
+  left = o.left;
+  enough = o.enough;
+  room = o.room;
+  is_for = record {
+    shape = kept.shape ∙ o.is_for.shape;
+    stash = kept.stash ∙ o.is_for.stash;
+    levels_are = o.is_for.levels_are;
+    seed = omega (arith, seed, o.is_for.seed);
+  };
+}
+
+pub hand_grown : {notes levels : ℕ} {clock : Clock} {tree : TreeState} {m : MemoryState} {t : TapState}
+    (tree' : TreeState) → IsSameTree tree tree' → tree'.seed ≡ tree.seed → tree'.path ≡ tree.path
+    → length tree'.hand ≤ clock.config.stash → Rests notes clock tree levels m t
+    → Rests notes clock tree' levels m t
+hand_grown tree' kept seed path few r = record {
+  going = r.going;
+  done = r.done;
+  stands = r.stands;
+  in_time = r.in_time;
+  dummies = r.dummies;
+  left = r.left;
+  enough = r.enough;
+  room = r.room;
+  is_for = record {
+    shape = kept.shape ∙ r.is_for.shape;
+    stash = kept.stash ∙ r.is_for.stash;
+    levels_are = r.is_for.levels_are;
+    seed = omega (arith, seed, r.is_for.seed);
+  };
+  path = path ∙ r.path;
+  few = few;
+}
+
+-- the pace where a slot was given up
+pub given_up : {notes levels : ℕ} {clock : Clock} {tree : TreeState} {m : MemoryState} {t : TapState}
+    (slot : OpenSlot) (end : ℕ) → Opens notes clock slot tree levels m t
+    → end ≡ reads_end clock.config.shape.levels slot.start → KeepsPace clock.config end t.log
+given_up {notes} {levels} {clock} slot end o end_is =
+    let l = clock.config.shape.levels in
+    reads_pace (l + 1) end o.stands (omega arith) (omega (arith, end_is, o.is_open.starts))
+    (omega (arith, end_is, o.is_open.starts)) (omega (arith, end_is, o.is_open.starts))
+
+-- between two slots the pace is kept up to each time from the last end on
+pub pace_between : {notes levels : ℕ} {clock : Clock} {tree : TreeState} {m : MemoryState} {t : TapState} (end : ℕ)
+    → Rests notes clock tree levels m t → clock.last ≤ end → end ≤ clock.next → KeepsPace clock.config end t.log
+pace_between end r past before = stands_pace end r.stands past before
+
+pub rests_apart : {notes levels : ℕ} {clock : Clock} {tree : TreeState} {m : MemoryState} {t : TapState}
+    → Rests notes clock tree levels m t → clock.last + 64 ≤ clock.next
+rests_apart r = (stands_apart r.stands).0
+
+-- no slot is left
+pub no_slot : {notes levels : ℕ} {clock : Clock} {tree : TreeState} {m : MemoryState} {t : TapState}
+    (clock' : Clock) → Rests notes clock tree levels m t
+    → clock' ≡ record clock { stop = Some (TimeUp clock.next) }
+    → Stopped clock.config clock' (TimeUp clock.next) t.log
+no_slot {notes} {levels} {clock} {tree} {m} {t} clock' r is =
+    subst (λ (x : Clock). Stopped clock.config x (TimeUp clock.next) t.log) (sym is) (record {
+      kept = refl;
+      same = refl;
+      ends = (refl, stands_next r.stands);
+      pace = stands_pace clock.last r.stands (omega arith) (omega (arith, (stands_apart r.stands).0));
+    })
+
+pub is_up : {notes levels : ℕ} {clock : Clock} {tree : TreeState} {m : MemoryState} {t : TapState}
+    (clock' : Clock) (old asked : ℕ) → Rests notes clock tree levels m t
+    → clock'.next ≡ clock.next → clock'.last ≡ clock.last → clock.config.time ≤ clock.next → old ≤ asked
+    → clock.last < max old (min asked clock.config.time) + olat_of clock.config.shape.levels
+    → min asked clock.config.time ≤ clock.next → IsUp clock.config clock.next asked clock' t.log
+is_up {notes} {levels} {clock} {tree} {m} {t} clock' old asked r next last late past short reached = record {
+  next = sym next;
+  late = late;
+  first = sym (stands_from (min asked clock.config.time) r.stands reached
+      (started old asked clock.config.time clock.last (olat_of clock.config.shape.levels) past short r.in_time));
+  pace = λ end after before. stands_pace end r.stands (omega (arith, after, last)) before;
+}

@@ -1,5 +1,5 @@
 -- What a stop says: which one it becomes, how the bus's run ended, and when the slot ended.
-use Rattle.std.specs.Prelude.{◌≡◌, ◌≤◌, ◌+◌, ◌*◌, ◌⊎◌, ℕ, List}
+use Rattle.std.specs.Prelude.{◌≡◌, ◌≤◌, ◌+◌, ◌*◌, ◌⊎◌, ℕ, List, Option, None, Some, Result, Ok, Err}
 use Rattle.asc_base.specs.TreeShape.{move_cycles}
 use Rattle.asc_base.specs.declared.stop.Evidence.TheVariants as evidence
 use Rattle.asc_base.specs.declared.stop.Stop.{Stop}
@@ -64,3 +64,13 @@ pub record RanStop {M W : Type 0} (memory_of : M → MemoryState) (tap_of : W �
   pub end : RunEnd
   pub is_end : IsEndOf stop end
   pub ran : RanTo memory_of tap_of end old new
+
+-- the stop that was kept before, or else this one
+abbrev pub first_stop : Option Stop → Stop → Stop
+first_stop None stop = stop
+first_stop (Some before) stop = before
+
+-- an answer is what a verdict says
+abbrev pub Judges : Result (Unit {0}) Stop → Option Stop → Type 0
+Judges (Ok _) verdict = verdict ≡ None
+Judges (Err stop) verdict = verdict ≡ Some stop

@@ -1,12 +1,10 @@
 ghost use Rattle.std.specs.Prelude.{◌≡◌, ◌<◌, ◌≤◌, ◌+◌, ◌-◌, ◌*◌, ◌^◌, ◌++◌, ◌∷◌, [], ℕ, None, Some, Err, max, min, length};
-ghost use Rattle.std.specs.Prelude.{OnOk, OnErr, IfOk, IfErr, IsErrOf};
+ghost use Rattle.std.specs.Prelude.{OnOk, OnErr, IfOk, IfErr, OnSome, IfNone};
 ghost use Rattle.asc_base.specs.Settings.{IsConfig};
 ghost use Rattle.asc_base.specs.TreeShape.{olat_of};
 ghost use Rattle.asc_base.specs.declared.stop.Stop.{Stop as StopValue};
 ghost use Rattle.asc_base.specs.declared.stop.Stop.TheVariants.{TimeUp};
 ghost use Rattle.asc_outside.specs.Memory.{MemoryState};
-ghost use Rattle.bus_schedule.specs.Timetable.{public_of, first_from};
-ghost use Rattle.bus_schedule.specs.Scheduled.{log_code};
 ghost use Rattle.bus_watch.specs.Log.{TapState};
 ghost use Rattle.bus_watch.specs.Path.{reads_end};
 ghost use Rattle.bus_watch.specs.Ready.{IsReady};
@@ -16,11 +14,11 @@ ghost use Rattle.oram_contents.specs.Verdict.{append_verdict};
 ghost use Rattle.oram_stash.specs.Entries.{held, without};
 ghost use Rattle.unified_tree.specs.Tree.{IsSameTree};
 ghost use Rattle.rate_enforcer.specs.State.{Rests, IsOpen, Opens, Stopped, IsUp};
-ghost use Rattle.rate_enforcer.specs.Stops.{RanTo, RanStop};
+ghost use Rattle.rate_enforcer.specs.Stops.{RanTo, RanStop, Judges, first_stop};
 
 use crate::clock::Clock;
-use crate::stop::stop_of;
-use asc_base::{Address, Config, Entry, Evidence, Leaf, NoMemory, Point, Stop};
+use crate::stop::{earlier, stop_of};
+use asc_base::{Address, Config, Entry, Evidence, Leaf, MOVE_CYCLES, NoMemory, Point, Stop};
 use asc_outside::UntrustedMemory;
 use bus_watch::{Bus, Event, Watch};
 use epoch_learner::Learner;
@@ -113,6 +111,7 @@ impl<L: LeafFn> Port<L> {
         ensures kept { IsSameTree self.old.tree self.new.tree }
         ensures config { self.new.clock.config ≡ self.old.clock.config }
         ensures next { self.new.clock.next ≡ self.old.clock.next }
+        ensures last { OnOk result (self.new.clock.last ≡ self.old.clock.last) }
         ensures dummies { self.new.clock.dummies ≡ self.old.clock.dummies }
         ensures opens { (notes : ℕ) → Rests notes self.old.clock self.old.tree (L.levels self.old.leaves)
             (M.state bus.old.memory.now) (W.state bus.old.tap.now)
@@ -296,9 +295,6 @@ impl<L: LeafFn> Port<L> {
             → IfErr result (λ stop. RanStop M.state W.state stop bus.old bus.new) }
         ensures up { self.old.clock.stop ≡ None → IfErr result (λ stop. (at : ℕ) → stop ≡ TimeUp at
             → IsUp self.old.clock.config at asked self.new.clock (W.state bus.new.tap.now).log) }
-        ensures in_time { IfOk result (λ slot. slot.start ≡ first_from
-            (public_of self.old.clock.config) (log_code (public_of self.old.clock.config) (W.state bus.new.tap.now).log)
-            (min asked self.old.clock.config.time)) }
         ensures sticky { (stop : StopValue) → self.old.clock.stop ≡ Some stop
             → (result ≡ Err stop) × (self.new ≡ self.old) × (bus.new ≡ bus.old) }
         ensures stopped { self.old.clock.stop ≡ None
@@ -368,6 +364,116 @@ impl<L: LeafFn> Port<L> {
             Err(stop) => return Err(stop),
         }
         Ok(time.max(self.clock.last))
+    }
+
+    /// Takes the entry of an address out of those at hand in the slot that is open, None where there is none.
+    pub fn take(&mut self, slot: &OpenSlot, address: Address) -> Option<Entry>
+        requires is_open { IsOpen self.old.clock slot.now self.old.tree }
+        ensures taken { result ≡ held self.old.tree.hand address }
+        ensures hand { self.new.tree.hand ≡ without self.old.tree.hand address }
+        ensures spare { OnSome result (self.old.tree.spare + 1 ≤ self.new.tree.spare) }
+        ensures none { IfNone result (self.new ≡ self.old) }
+        ensures clock { self.new.clock ≡ self.old.clock }
+        ensures leaves { self.new.leaves ≡ self.old.leaves }
+        ensures kept { IsSameTree self.old.tree self.new.tree }
+        ensures seed { self.new.tree.seed ≡ self.old.tree.seed }
+        ensures opens { (notes : ℕ) (memory : MemoryState) (tap : TapState)
+            → Opens notes self.old.clock slot.now self.old.tree (L.levels self.old.leaves) memory tap
+            → Opens notes self.new.clock slot.now self.new.tree (L.levels self.new.leaves) memory tap }
+    {
+        self.tree.take(address)
+    }
+
+    /// Puts an entry behind those at hand in the slot that is open. None of its address is at hand.
+    pub fn put(&mut self, slot: &OpenSlot, entry: Entry)
+        requires is_open { IsOpen self.old.clock slot.now self.old.tree }
+        requires absent { held self.old.tree.hand entry.address ≡ None }
+        requires spare { 0 < self.old.tree.spare }
+        requires few { length self.old.tree.hand < 2 ^ 20 }
+        requires address { entry.address.0 < self.old.tree.shape.total }
+        requires leaf { entry.leaf.0 < 2 ^ self.old.tree.shape.levels }
+        ensures hand { self.new.tree.hand ≡ self.old.tree.hand ++ entry ∷ [] }
+        ensures spare { self.old.tree.spare ≤ self.new.tree.spare + 1 }
+        ensures clock { self.new.clock ≡ self.old.clock }
+        ensures leaves { self.new.leaves ≡ self.old.leaves }
+        ensures kept { IsSameTree self.old.tree self.new.tree }
+        ensures seed { self.new.tree.seed ≡ self.old.tree.seed }
+        ensures opens { (notes : ℕ) (memory : MemoryState) (tap : TapState)
+            → Opens notes self.old.clock slot.now self.old.tree (L.levels self.old.leaves) memory tap
+            → Opens notes self.new.clock slot.now self.new.tree (L.levels self.new.leaves) memory tap }
+    {
+        match self.tree.put(entry) {
+            Ok(()) => {}
+            Err(Doubled) => unreachable!(),
+        }
+    }
+
+    /// Gives the open slot up after its reads, and answers that time, in cycles. The port has then stopped with this
+    /// stop, or with the one that it had before.
+    pub fn abort(&mut self, slot: OpenSlot, stop: Stop) -> u64
+        requires is_open { IsOpen self.old.clock slot self.old.tree }
+        ensures end { result ≡ reads_end self.old.clock.config.shape.levels slot.start }
+        ensures clock { self.new.clock
+            ≡ record self.old.clock { last = result; stop = Some (first_stop self.old.clock.stop stop) } }
+        ensures leaves { self.new.leaves ≡ self.old.leaves }
+        ensures tree { self.new.tree ≡ self.old.tree }
+        ensures pace { (notes : ℕ) (memory : MemoryState) (tap : TapState)
+            → Opens notes self.old.clock slot self.old.tree (L.levels self.old.leaves) memory tap
+            → KeepsPace self.old.clock.config result tap.log }
+    {
+        let OpenSlot { start, leaf: _ } = slot;
+        let end = start + MOVE_CYCLES * (u64::from(self.clock.config.shape.levels) + 1);
+        let kept = earlier(self.clock.stop, stop);
+        self.clock.last = end;
+        self.clock.stop = Some(kept);
+        end
+    }
+
+    /// Puts an entry behind those at hand between two slots.
+    ///
+    /// `Doubled` where one of its address is at hand; `StashFull` where more are at hand then than may stay. Then the
+    /// port has stopped, and its last end is still that of the last slot. After a stop it answers the same one.
+    pub fn append(&mut self, entry: Entry) -> Result<(), Stop>
+        requires spare { 0 < self.old.tree.spare }
+        requires few { length self.old.tree.hand < 2 ^ 20 }
+        requires address { entry.address.0 < self.old.tree.shape.total }
+        requires leaf { entry.leaf.0 < 2 ^ self.old.tree.shape.levels }
+        requires stash { self.old.tree.stash ≡ self.old.clock.config.stash }
+        ensures verdict { self.old.clock.stop ≡ None
+            → Judges result (append_verdict self.old.tree.stash entry.address self.old.tree.hand) }
+        ensures hand { OnOk result (self.new.tree.hand ≡ self.old.tree.hand ++ entry ∷ []) }
+        ensures clock { OnOk result (self.new.clock ≡ self.old.clock) }
+        ensures stopped { IfErr result (λ stop. self.new.clock ≡ record self.old.clock { stop = Some stop }) }
+        ensures leaves { self.new.leaves ≡ self.old.leaves }
+        ensures kept { IsSameTree self.old.tree self.new.tree }
+        ensures seed { self.new.tree.seed ≡ self.old.tree.seed }
+        ensures spare { self.old.tree.spare ≤ self.new.tree.spare + 1 }
+        ensures rests { (notes : ℕ) (memory : MemoryState) (tap : TapState)
+            → Rests notes self.old.clock self.old.tree (L.levels self.old.leaves) memory tap
+            → OnOk result (Rests notes self.new.clock self.new.tree (L.levels self.new.leaves) memory tap) }
+        ensures sticky { (stop : StopValue) → self.old.clock.stop ≡ Some stop
+            → (result ≡ Err stop) × (self.new ≡ self.old) }
+    {
+        if let Some(stop) = self.clock.stop {
+            return Err(stop);
+        }
+        match self.tree.put(entry) {
+            Ok(()) => {}
+            Err(Doubled) => {
+                let stop = Stop::Integrity(Evidence::Doubled {
+                    address: entry.address,
+                });
+                self.clock.stop = Some(stop);
+                return Err(stop);
+            }
+        }
+        let held = self.tree.held();
+        if held > self.clock.config.stash {
+            let stop = Stop::StashFull { held };
+            self.clock.stop = Some(stop);
+            return Err(stop);
+        }
+        Ok(())
     }
 
     /// The leaf of a point.

@@ -1,5 +1,5 @@
 ghost use Rattle.std.specs.Prelude.{◌≡◌};
-ghost use Rattle.rate_enforcer.specs.Stops.{stop_after};
+ghost use Rattle.rate_enforcer.specs.Stops.{stop_after, first_stop};
 
 use asc_base::{Evidence, Stop};
 use unified_tree::TreeStop;
@@ -15,5 +15,15 @@ pub(crate) fn stop_of(stop: TreeStop) -> Stop
         TreeStop::Full { held } => Stop::StashFull { held },
         TreeStop::Device => Stop::Device,
         TreeStop::NoMemory => Stop::NoMemory,
+    }
+}
+
+/// The stop that was kept before, or else this one.
+pub(crate) fn earlier(kept: Option<Stop>, stop: Stop) -> Stop
+    ensures { result ≡ first_stop kept stop }
+{
+    match kept {
+        Some(before) => before,
+        None => stop,
     }
 }
