@@ -1,3 +1,4 @@
 pub mod Clock
+pub mod Served
 pub mod State
 pub mod Stops

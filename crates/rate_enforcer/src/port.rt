@@ -1,18 +1,23 @@
-ghost use Rattle.std.specs.Prelude.{◌≡◌, ◌<◌, ◌≤◌, ◌+◌, ◌-◌, ◌*◌, ◌^◌, ◌++◌, ◌∷◌, [], ℕ, None, Some, Err, max, min, length};
+ghost use Rattle.std.specs.Prelude.{◌≡◌, ◌<◌, ◌≤◌, ◌+◌, ◌-◌, ◌*◌, ◌^◌, ◌++◌, ◌∷◌, [], ℕ, None, Some, Err, max, min, length, List};
 ghost use Rattle.std.specs.Prelude.{OnOk, OnErr, IfOk, IfErr, OnSome, IfNone};
 ghost use Rattle.asc_base.specs.Settings.{IsConfig};
 ghost use Rattle.asc_base.specs.TreeShape.{olat_of};
 ghost use Rattle.asc_base.specs.declared.stop.Stop.{Stop as StopValue};
-ghost use Rattle.asc_base.specs.declared.stop.Stop.TheVariants.{TimeUp};
+ghost use Rattle.asc_base.specs.declared.stop.Stop.TheVariants.{TimeUp, StashFull};
 ghost use Rattle.asc_outside.specs.Memory.{MemoryState};
 ghost use Rattle.bus_watch.specs.Log.{TapState};
 ghost use Rattle.bus_watch.specs.Path.{reads_end};
 ghost use Rattle.bus_watch.specs.Ready.{IsReady};
 ghost use Rattle.bus_watch.specs.RunEnd.{Whole};
 ghost use Rattle.epoch_learner.specs.Stands.{IsFirstFor, KeepsPace};
+ghost use Rattle.oram_contents.specs.Contents.{after_write};
+ghost use Rattle.oram_contents.specs.PathWritten.{rest_of};
+ghost use Rattle.oram_contents.specs.Slots.{IsRead, IsEnd, IsDummy, ArePasses};
 ghost use Rattle.oram_contents.specs.Verdict.{append_verdict};
 ghost use Rattle.oram_stash.specs.Entries.{held, without};
+ghost use Rattle.unified_tree.specs.Slot.{contents_of};
 ghost use Rattle.unified_tree.specs.Tree.{IsSameTree};
+ghost use Rattle.rate_enforcer.specs.Served.{keys_of, begin_events, IsServed};
 ghost use Rattle.rate_enforcer.specs.State.{Rests, IsOpen, Opens, Stopped, IsUp};
 ghost use Rattle.rate_enforcer.specs.Stops.{RanTo, RanStop, Judges, first_stop};
 
@@ -119,6 +124,13 @@ impl<L: LeafFn> Port<L> {
             (M.state bus.new.memory.now) (W.state bus.new.tap.now)) }
         ensures leaf { IfOk result (λ slot. slot.leaf.0 ≡ L.leaf_of self.old.leaves point) }
         ensures start { IfOk result (λ slot. slot.start ≡ self.old.clock.next) }
+        ensures seed { self.new.tree.seed ≡ self.old.tree.seed }
+        ensures mirror { (W.state bus.new.tap.now).mirror ≡ (W.state bus.old.tap.now).mirror }
+        ensures noted { OnOk result ((W.state bus.new.tap.now).log.events ≡ (W.state bus.old.tap.now).log.events
+            ++ begin_events self.old.clock.next asked point (L.leaf_of self.old.leaves point)) }
+        ensures read { (tags : List ℕ) → OnOk result (IsRead (keys_of self.old.tree tags (L.leaf_of self.old.leaves))
+            (W.state bus.old.tap.now).log (W.state bus.new.tap.now).log
+            (contents_of self.old.tree (W.state bus.old.tap.now)) self.old.clock.next point self.new.tree.hand) }
         ensures spare { OnOk result (2 ≤ self.new.tree.spare) }
         ensures few { OnOk result (length self.new.tree.hand
             ≤ self.old.clock.config.stash + 4 * (self.old.clock.config.shape.levels + 1)) }
@@ -175,6 +187,15 @@ impl<L: LeafFn> Port<L> {
             × (end ≡ slot.start + olat_of self.old.clock.config.shape.levels)) }
         ensures next { OnOk result (self.old.clock.next < self.new.clock.next) }
         ensures spare { self.old.tree.spare ≤ self.new.tree.spare }
+        ensures written { OnOk result (contents_of self.new.tree (W.state bus.new.tap.now)
+            ≡ after_write self.old.tree.key self.old.tree.shape.levels slot.leaf.0
+            (contents_of self.old.tree (W.state bus.old.tap.now))) }
+        ensures ended { OnOk result (IsEnd (W.state bus.old.tap.now).log (W.state bus.new.tap.now).log) }
+        ensures altered { (W.state bus.new.tap.now).log.altered ≡ (W.state bus.old.tap.now).log.altered }
+        ensures hand_err { OnErr result (self.new.tree.hand ≡ self.old.tree.hand) }
+        ensures full { IfErr result (λ stop. (held : ℕ) → stop ≡ StashFull held
+            → (held ≡ rest_of self.old.tree.shape.levels slot.leaf.0 self.old.tree.hand)
+            × (self.old.tree.stash < held) × (bus.new ≡ bus.old)) }
         ensures ran { OnOk result (RanTo M.state W.state Whole bus.old bus.new) }
         ensures ran_err { IfErr result (λ stop. RanStop M.state W.state stop bus.old bus.new) }
         ensures never { IfErr result (λ stop. (at : ℕ) → stop ≡ TimeUp at → ⊥) }
@@ -213,6 +234,10 @@ impl<L: LeafFn> Port<L> {
         ensures last { OnOk result (self.new.clock.last
             ≡ self.old.clock.next + olat_of self.old.clock.config.shape.levels) }
         ensures next { OnOk result (self.old.clock.next < self.new.clock.next) }
+        ensures passed { (tags : List ℕ) → OnOk result (IsDummy (keys_of self.old.tree tags (L.leaf_of self.old.leaves))
+            (W.state bus.old.tap.now).log (W.state bus.new.tap.now).log
+            (contents_of self.old.tree (W.state bus.old.tap.now)) (contents_of self.new.tree (W.state bus.new.tap.now))
+            self.old.clock.next self.old.clock.dummies) }
         ensures ran { OnOk result (RanTo M.state W.state Whole bus.old bus.new) }
         ensures ran_err { IfErr result (λ stop. RanStop M.state W.state stop bus.old bus.new) }
         ensures never { IfErr result (λ stop. (at : ℕ) → stop ≡ TimeUp at → ⊥) }
@@ -244,6 +269,12 @@ impl<L: LeafFn> Port<L> {
             (M.state bus.old.memory.now) (W.state bus.old.tap.now)
             → OnOk result (Rests notes self.new.clock self.new.tree (L.levels self.new.leaves)
             (M.state bus.new.memory.now) (W.state bus.new.tap.now)) }
+        ensures passed { (tags : List ℕ) → OnOk result (ArePasses (keys_of self.old.tree tags (L.leaf_of self.old.leaves))
+            (self.new.clock.dummies - self.old.clock.dummies)
+            (W.state bus.old.tap.now).log (W.state bus.new.tap.now).log
+            (contents_of self.old.tree (W.state bus.old.tap.now)) (contents_of self.new.tree (W.state bus.new.tap.now))
+            self.old.clock.dummies) }
+        ensures more { OnOk result (self.old.clock.dummies ≤ self.new.clock.dummies) }
         ensures reached { OnOk result (time ≤ self.new.clock.next) }
         ensures last { OnOk result (self.new.clock.last
             < max self.old.clock.last time + olat_of self.old.clock.config.shape.levels) }
@@ -287,6 +318,10 @@ impl<L: LeafFn> Port<L> {
         ensures leaf { IfOk result (λ slot. slot.leaf.0 ≡ L.leaf_of self.old.leaves point) }
         ensures asked { OnOk result (IsFirstFor (olat_of self.old.clock.config.shape.levels) self.new.clock.last
             self.new.clock.next (Some asked)) }
+        ensures read { (tags : List ℕ) → OnOk result (IsServed (keys_of self.old.tree tags (L.leaf_of self.old.leaves))
+            (W.state bus.old.tap.now).log (W.state bus.new.tap.now).log
+            (contents_of self.old.tree (W.state bus.old.tap.now)) (contents_of self.new.tree (W.state bus.new.tap.now))
+            self.old.clock.dummies self.new.clock asked point) }
         ensures spare { OnOk result (2 ≤ self.new.tree.spare) }
         ensures few { OnOk result (length self.new.tree.hand
             ≤ self.old.clock.config.stash + 4 * (self.old.clock.config.shape.levels + 1)) }
@@ -344,6 +379,11 @@ impl<L: LeafFn> Port<L> {
             → OnOk result (Rests notes self.new.clock self.new.tree (L.levels self.new.leaves)
             (M.state bus.new.memory.now) (W.state bus.new.tap.now)) }
         ensures end { IfOk result (λ end. end ≡ max time self.new.clock.last) }
+        ensures passed { (tags : List ℕ) → OnOk result (ArePasses (keys_of self.old.tree tags (L.leaf_of self.old.leaves))
+            (self.new.clock.dummies - self.old.clock.dummies)
+            (W.state bus.old.tap.now).log (W.state bus.new.tap.now).log
+            (contents_of self.old.tree (W.state bus.old.tap.now)) (contents_of self.new.tree (W.state bus.new.tap.now))
+            self.old.clock.dummies) }
         ensures reached { OnOk result (time ≤ self.new.clock.next) }
         ensures pace { IfOk result (λ end. KeepsPace self.old.clock.config end (W.state bus.new.tap.now).log) }
         ensures ran { OnOk result (RanTo M.state W.state Whole bus.old bus.new) }

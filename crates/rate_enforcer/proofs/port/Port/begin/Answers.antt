@@ -3,12 +3,13 @@ use Rattle.asc_base.specs.declared.stop.Stop.{Stop}
 use Rattle.bus_watch.specs.RunEnd.{Whole}
 use Rattle.bus_watch.specs.Path.{reads}
 use Rattle.bus_watch.specs.declared.log.Event.TheVariants.{Access, Drawn}
-use Rattle.bus_watch.proofs.MadeLaws.{made_then, ran_none, ran_then}
+use Rattle.bus_watch.proofs.MadeLaws.{made_then, silent_events, ran_none, ran_then}
 use Rattle.unified_tree.specs.Tree.{TreeState, IsSameTree}
 use Rattle.rate_enforcer.specs.State.{Stopped}
 use Rattle.rate_enforcer.specs.Stops.{RanStop, stop_after}
 use Rattle.rate_enforcer.specs.declared.clock.Clock.{Clock}
 use Rattle.rate_enforcer.proofs.Laws.{begun, ready_begun, opened, no_room, read_stops, read_stopped}
+use Rattle.rate_enforcer.proofs.Contents.{two_events, slot_read}
 use Rattle.rate_enforcer.proofs.port.Port.begin.Goals as goal
 
 pub returns-in-Err-clause-ran_err : goal.returns-in-Err-clause-ran_err
@@ -85,3 +86,22 @@ returns-in-Err-read_path-clause-stopped g c =
     (read_stopped m t c.note-2.new.self c.read_path.new.bus c.leaf-leaf.result.0 c.saw.new.self c.in-Err-read_path.stop c.room.new.self c.read_path.new.self
     c.stop_at-in-Err-read_path.new.self.clock b (c.room.ensures.same.shape ∙ c.requires.rests.is_for.shape)
     c.in-Err-read_path.ensures.ran c.in-Err-read_path.ensures.ended is)
+
+pub returns-in-Ok-read_path-clause-noted : goal.returns-in-Ok-read_path-clause-noted
+returns-in-Ok-read_path-clause-noted g c =
+    let t = g.W.Watch.state in
+    two_events (t c.args.bus.now.tap.now) (t c.note.new.self.tap.now) (t c.note-2.new.self.tap.now)
+    (t c.read_path.new.bus.tap.now) c.args.self.now.clock.next c.args.asked c.args.point c.leaf-leaf.result _
+    c.leaf-leaf.ensures.value c.note.ensures.log c.note-2.ensures.log
+    (silent_events c.in-Ok-read_path.ensures.ran.made)
+
+pub returns-in-Ok-read_path-clause-read : goal.returns-in-Ok-read_path-clause-read
+returns-in-Ok-read_path-clause-read g c tags =
+    let t = g.W.Watch.state in
+    slot_read tags (g.L.LeafFn.leaf_of c.args.self.now.leaves) c.args.self.now.tree c.room.new.self
+    c.read_path.new.self c.args.self.now.clock.next c.args.asked c.args.point c.leaf-leaf.result
+    (t c.args.bus.now.tap.now) (t c.note.new.self.tap.now) (t c.note-2.new.self.tap.now)
+    (t c.read_path.new.bus.tap.now) c.room.ensures.same c.read_path.ensures.kept c.room.ensures.hand
+    c.room.ensures.seed c.leaf-leaf.ensures.value c.note.ensures.log c.note-2.ensures.log
+    (c.note-2.ensures.mirror ∙ c.note.ensures.mirror) (silent_events c.in-Ok-read_path.ensures.ran.made)
+    c.in-Ok-read_path.ensures.read c.read_path.ensures.of_shape

@@ -1,5 +1,5 @@
 use Rattle.std.proofs.Common.{◌≡◌, ◌≤◌, ◌∙◌, ◌+◌, ◌*◌, ◌++◌, ◌∷◌, [], ℕ, suc, Option, Some, None, Err, length, refl, ap, sym}
-use Rattle.std.proofs.Common.{subst, inl, arith}
+use Rattle.std.proofs.Common.{subst, inl, arith, List, ◌⊎◌, ◌<◌}
 use Rattle.std.specs.Prelude.{⊤}
 use Rattle.unified_tree.specs.Stops.{IfWritten}
 use Rattle.unified_tree.specs.declared.stop.TreeStop.{TreeStop}
@@ -8,7 +8,7 @@ use Rattle.asc_base.specs.declared.stop.Stop.{Stop}
 use Rattle.asc_base.specs.TreeShape.{olat_of}
 use Rattle.bus_watch.specs.RunEnd.{Whole}
 use Rattle.bus_watch.specs.Path.{writes, reads_end}
-use Rattle.bus_watch.proofs.MadeLaws.{ran_none, ran_then}
+use Rattle.bus_watch.proofs.MadeLaws.{ran_none, ran_then, silent_events}
 use Rattle.epoch_learner.specs.Learner.{choice_by_sums}
 use Rattle.epoch_learner.proofs.StandLaws.{stands_apart}
 use Rattle.rate_enforcer.specs.Clock.{chosen_events}
@@ -16,6 +16,13 @@ use Rattle.rate_enforcer.specs.State.{Stopped}
 use Rattle.rate_enforcer.specs.Stops.{RanStop, stop_after}
 use Rattle.rate_enforcer.specs.declared.clock.Clock.{Clock}
 use Rattle.rate_enforcer.proofs.Laws.{ready_open, at_end, rested, write_stops, write_stopped}
+use Rattle.asc_base.specs.declared.stop.Stop.TheVariants.{StashFull}
+use Rattle.bus_watch.specs.declared.bus.BusStop.{BusStop}
+use Rattle.bus_watch.specs.declared.log.Event.{Event}
+use Rattle.bus_watch.specs.declared.log.Event.TheVariants.{Chosen}
+use Rattle.oram_contents.specs.Contents.{Contents}
+use Rattle.unified_tree.proofs.Slots.{write_is}
+use Rattle.rate_enforcer.specs.Served.{keys_of}
 use Rattle.rate_enforcer.proofs.port.Port.close.Goals as goal
 
 one_choice : (choice : Option ℕ) → length (chosen_events choice) ≤ 1
@@ -93,3 +100,39 @@ returns-in-Err-clause-stopped g c =
     c.write_path.new.self c.stop_at.new.self.clock c.requires.opens c.in-Err.ensures.ran (ended_of (c.write_path.new.self.ended ≡ c.args.self.now.tree.ended)
     (c.write_path.new.self.ended ≡ reads_end c.args.self.now.tree.shape.levels c.args.slot.start)
     (c.write_path.new.self.seed ≡ c.args.self.now.tree.seed) c.in-Err.stop c.in-Err.ensures.refused) is)
+
+pub returns-in-Ok-clause-written : goal.returns-in-Ok-clause-written
+returns-in-Ok-clause-written g c =
+    let t = g.W.Watch.state in
+    let tree = c.args.self.now.tree in
+    ap (λ b. let d : Contents = record { hand = c.write_path.new.self.hand; mirror = b; seed = c.write_path.new.self.seed } in d)
+    c.end_slot.ensures.mirror
+    ∙ write_is (keys_of tree [] (λ _. 0)) (t c.args.bus.now.tap.now) (t c.write_path.new.bus.tap.now) tree
+    c.write_path.new.self c.args.slot.leaf.0 refl refl c.in-Ok.ensures.hand c.in-Ok.ensures.mirror c.in-Ok.ensures.seed
+
+pub returns-in-Ok-clause-ended : goal.returns-in-Ok-clause-ended
+returns-in-Ok-clause-ended g c =
+    let t = g.W.Watch.state in
+    let e = c.end_slot.ensures.ended in
+    let silent = silent_events c.in-Ok.ensures.ran.made in
+    record {
+      altered = e.altered ∙ c.write_path.ensures.altered;
+      events = subst (λ (x : List Event). ((t c.end_slot.new.bus.tap.now).log.events ≡ x)
+          ⊎ ((index : ℕ) × ((t c.end_slot.new.bus.tap.now).log.events ≡ x ++ Chosen index ∷ []))) silent e.events;
+    }
+
+full_of : (stop : TreeStop) (held rest stash : ℕ) (A B Same : Type 0) (Q R : BusStop → Type 0)
+    → stop_after stop ≡ StashFull held → IfWritten (Err stop) A (λ n. (n ≡ rest) × (stash < n)) Q
+    → IfWritten (Err stop) B (λ _. Same) R → (held ≡ rest) × (stash < held) × Same
+full_of (tree.BadSlot bucket slot) held rest stash A B Same Q R is full ran = absurd full
+full_of (tree.OffPath bucket slot) held rest stash A B Same Q R is full ran = absurd full
+full_of (tree.Doubled address) held rest stash A B Same Q R is full ran = absurd full
+full_of (tree.Full n) held rest stash A B Same Q R is full ran =
+    let same : n ≡ held = cc in (sym same ∙ full.0, omega (arith, full.1, same), ran)
+full_of tree.Device held rest stash A B Same Q R is full ran = cc
+full_of tree.NoMemory held rest stash A B Same Q R is full ran = cc
+
+pub returns-in-Err-clause-full : goal.returns-in-Err-clause-full
+returns-in-Err-clause-full g c held is =
+    full_of c.in-Err.stop held _ _ _ _ _ _ _ (sym c.stop_of-stop.ensures ∙ is) c.in-Err.ensures.full
+    c.in-Err.ensures.ran

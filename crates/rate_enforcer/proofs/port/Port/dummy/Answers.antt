@@ -1,5 +1,6 @@
 use Rattle.std.proofs.Common.{◌≡◌, ◌≤◌, ◌∙◌, ◌+◌, ◌*◌, ℕ, refl, ap, sym, arith}
 use Rattle.rate_enforcer.proofs.Laws.{opens_less, counted, ran_on, stops_on}
+use Rattle.rate_enforcer.proofs.Contents.{dummy_of}
 use Rattle.rate_enforcer.proofs.port.Port.dummy.Goals as goal
 
 pub close-requires : goal.close-requires
@@ -26,3 +27,12 @@ returns-clause-rests g c notes r =
 pub returns-clause-ran : goal.returns-clause-ran
 returns-clause-ran g c =
     ran_on g.M.UntrustedMemory.state g.W.Watch.state c.in-Ok.ensures.ran c.in-Ok-close.ensures.ran
+
+pub returns-clause-passed : goal.returns-clause-passed
+returns-clause-passed g c tags =
+    let t = g.W.Watch.state in
+    dummy_of c.args.self.now.tree c.begin.new.self.tree c.close.new.self.tree tags
+    (g.L.LeafFn.leaf_of c.args.self.now.leaves) c.args.self.now.clock.next c.args.self.now.clock.dummies
+    c.in-Ok.slot.leaf.0 (t c.args.bus.now.tap.now) (t c.begin.new.bus.tap.now) (t c.close.new.bus.tap.now)
+    c.begin.ensures.kept c.in-Ok.ensures.leaf c.begin.ensures.seed c.begin.ensures.mirror (c.in-Ok.ensures.read tags)
+    c.in-Ok.ensures.noted c.in-Ok-close.ensures.written c.in-Ok-close.ensures.ended

@@ -1,4 +1,4 @@
-use Rattle.std.proofs.Common.{◌≡◌, ◌<◌, ◌≤◌, ◌∙◌, ◌+◌, ◌*◌, ℕ, min, max, Some, None, refl, ap, sym, subst, arith, rules}
+use Rattle.std.proofs.Common.{◌≡◌, ◌<◌, ◌≤◌, ◌∙◌, ◌+◌, ◌*◌, ◌-◌, ◌++◌, ℕ, min, max, Some, None, refl, ap, sym, subst, arith, rules}
 use Rattle.asc_base.specs.TreeShape.{olat_of}
 use Rattle.asc_base.specs.declared.settings.Config.{Config}
 use Rattle.asc_base.specs.declared.stop.Stop.TheVariants.{TimeUp}
@@ -6,6 +6,11 @@ use Rattle.rate_enforcer.specs.declared.clock.Clock.{Clock}
 use Rattle.epoch_learner.specs.Stands.{IsFirstFor}
 use Rattle.rate_enforcer.specs.State.{Stopped, IsUp}
 use Rattle.rate_enforcer.proofs.Laws.{ran_on, stops_on, serves, no_slot, is_up}
+use Rattle.oram_contents.specs.Contents.{Contents}
+use Rattle.oram_contents.specs.Entries.{Keys}
+use Rattle.oram_contents.specs.Slots.{ArePasses, IsRead}
+use Rattle.unified_tree.specs.Slot.{contents_of}
+use Rattle.rate_enforcer.specs.Served.{keys_of, begin_events}
 use Rattle.rate_enforcer.proofs.port.Port.open.Goals as goal
 
 pub begin-requires-clause-first : goal.begin-requires-clause-first
@@ -75,3 +80,39 @@ returns-clause-asked g c =
         c.in-Ok.ensures.last) (subst (λ n. n ≤ now.next) is c.in-Ok.ensures.reached)
         (omega (arith, c.if-self.false, time)) in
     (omega (arith, first.0, c.begin.ensures.next), omega (arith, first.1, c.in-Ok-begin.ensures.last))
+
+pub returns-clause-read : goal.returns-clause-read
+returns-clause-read g c tags =
+    let t = g.W.Watch.state in
+    let old = c.args.self.now.tree in
+    let now = c.pass_until.new.self.tree in
+    let kept = c.pass_until.ensures.kept in
+    let leaf = g.L.LeafFn.leaf_of in
+    let d0 = c.args.self.now.clock.dummies in
+    let keys : Keys = keys_of old tags (leaf c.args.self.now.leaves) in
+    let same : keys_of now tags (leaf c.pass_until.new.self.leaves) ≡ keys =
+        (λ i. record { shape = kept.shape i; pads = kept.key i; tags = tags; leaf_of = leaf (c.pass_until.ensures.leaves i) }) in
+    let t1 = t c.pass_until.new.bus.tap.now in
+    let t2 = t c.begin.new.bus.tap.now in
+    record {
+      mid = t1.log;
+      between = contents_of now t1;
+      more = omega (arith, c.in-Ok.ensures.more, c.begin.ensures.dummies);
+      passed = subst (λ n. ArePasses keys (n - d0) (t c.args.bus.now.tap.now).log t1.log
+          (contents_of old (t c.args.bus.now.tap.now)) (contents_of now t1) d0) (sym c.begin.ensures.dummies)
+          (c.in-Ok.ensures.passed tags);
+      read = subst (λ n. IsRead keys t1.log t2.log (contents_of now t1) n c.args.point c.begin.new.self.tree.hand)
+          (sym c.begin.ensures.next)
+          (subst (λ (k : Keys). IsRead k t1.log t2.log (contents_of now t1) c.pass_until.new.self.clock.next c.args.point
+          c.begin.new.self.tree.hand) same (c.in-Ok-begin.ensures.read tags));
+      noted = c.in-Ok-begin.ensures.noted
+          ∙ ap (λ n. t1.log.events ++ begin_events n (Some c.args.asked) c.args.point
+          (leaf c.pass_until.new.self.leaves c.args.point)) (sym c.begin.ensures.next)
+          ∙ ap (λ x. t1.log.events ++ begin_events c.begin.new.self.clock.next (Some c.args.asked) c.args.point
+          (leaf x c.args.point)) c.pass_until.ensures.leaves;
+      after_is =
+          ap (λ b. let d : Contents = record { hand = c.begin.new.self.tree.hand; mirror = b; seed = c.begin.new.self.tree.seed } in d)
+          c.begin.ensures.mirror
+          ∙ ap (λ b. let d : Contents = record { hand = c.begin.new.self.tree.hand; mirror = t1.mirror; seed = b } in d)
+          c.begin.ensures.seed;
+    }

@@ -1,7 +1,11 @@
-use Rattle.std.proofs.Common.{◌≡◌, ◌<◌, ◌≤◌, ◌∙◌, ◌+◌, ◌*◌, [], ℕ, max, refl, ap, sym, subst, arith}
+use Rattle.std.proofs.Common.{◌≡◌, ◌<◌, ◌≤◌, ◌∙◌, ◌+◌, ◌*◌, ◌-◌, ◌^◌, [], ℕ, max, refl, ap, sym, subst, arith}
 use Rattle.asc_base.specs.TreeShape.{olat_of}
 use Rattle.asc_base.specs.declared.settings.Config.{Config}
 use Rattle.bus_watch.proofs.MadeLaws.{ran_none}
+use Rattle.oram_contents.specs.Slots.{ArePasses, IsDummy}
+use Rattle.unified_tree.specs.Slot.{contents_of}
+use Rattle.rate_enforcer.specs.Served.{keys_of}
+use Rattle.rate_enforcer.proofs.Contents.{dummies_more}
 use Rattle.rate_enforcer.specs.State.{Stopped}
 use Rattle.rate_enforcer.proofs.Laws.{ran_on, stops_on}
 use Rattle.rate_enforcer.proofs.port.Port.pass_until.Goals as goal
@@ -13,6 +17,12 @@ loop-self-init g c = record {
   config = refl;
   rests = λ notes r. r;
   last = omega arith;
+  more = omega arith;
+  passed = λ tags. subst (λ k. ArePasses (keys_of c.args.self.now.tree tags (g.L.LeafFn.leaf_of c.args.self.now.leaves))
+      k (g.W.Watch.state c.args.bus.now.tap.now).log (g.W.Watch.state c.args.bus.now.tap.now).log
+      (contents_of c.args.self.now.tree (g.W.Watch.state c.args.bus.now.tap.now))
+      (contents_of c.args.self.now.tree (g.W.Watch.state c.args.bus.now.tap.now)) c.args.self.now.clock.dummies)
+      (let none : 0 ≡ c.args.self.now.clock.dummies - c.args.self.now.clock.dummies = omega arith in none) (refl, refl);
   ran = record { moves = []; events = []; ran = ran_none g.M.UntrustedMemory.state g.W.Watch.state c.args.bus.now };
 }
 
@@ -29,7 +39,21 @@ loop-self-preserved g c =
     let i = c.loop-self.invariant in
     let d = c.dummy.ensures in
     let o = c.in-Ok.ensures in
+    let t = g.W.Watch.state in
+    let r = i.rests 0 c.requires.rests in
+    let seeds : c.loop-self.self.tree.seed < 2 ^ 63 = omega (arith, r.is_for.seed, c.loop-self-test.true,
+        c.requires.in_time, c.requires.rests.stands.step.follows.is_of.is_config.time.1) in
     record {
+      more = omega (arith, i.more, o.dummies);
+      passed = λ tags. dummies_more c.args.self.now.tree c.loop-self.self.tree c.dummy.new.self.tree tags
+          (g.L.LeafFn.leaf_of c.args.self.now.leaves) c.loop-self.self.clock.next c.args.self.now.clock.dummies
+          c.loop-self.self.clock.dummies c.dummy.new.self.clock.dummies (t c.args.bus.now.tap.now)
+          (t c.loop-self.bus.tap.now) (t c.dummy.new.bus.tap.now) i.kept i.more o.dummies seeds (i.passed tags)
+          (subst (λ x. IsDummy (keys_of c.loop-self.self.tree tags (g.L.LeafFn.leaf_of x))
+          (t c.loop-self.bus.tap.now).log (t c.dummy.new.bus.tap.now).log
+          (contents_of c.loop-self.self.tree (t c.loop-self.bus.tap.now))
+          (contents_of c.dummy.new.self.tree (t c.dummy.new.bus.tap.now)) c.loop-self.self.clock.next
+          c.loop-self.self.clock.dummies) i.leaves (o.passed tags));
       leaves = d.leaves ∙ i.leaves;
       kept = record {
         shape = d.kept.shape ∙ i.kept.shape;
