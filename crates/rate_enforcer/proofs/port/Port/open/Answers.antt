@@ -1,0 +1,118 @@
+use Rattle.std.proofs.Common.{◌≡◌, ◌<◌, ◌≤◌, ◌∙◌, ◌+◌, ◌*◌, ◌-◌, ◌++◌, ℕ, min, max, Some, None, refl, ap, sym, subst, arith, rules}
+use Rattle.asc_base.specs.TreeShape.{olat_of}
+use Rattle.asc_base.specs.declared.settings.Config.{Config}
+use Rattle.asc_base.specs.declared.stop.Stop.TheVariants.{TimeUp}
+use Rattle.rate_enforcer.specs.declared.clock.Clock.{Clock}
+use Rattle.epoch_learner.specs.Stands.{IsFirstFor}
+use Rattle.rate_enforcer.specs.State.{Stopped, IsUp}
+use Rattle.rate_enforcer.proofs.Laws.{ran_on, stops_on, serves, no_slot, is_up}
+use Rattle.oram_contents.specs.Contents.{Contents}
+use Rattle.oram_contents.specs.Entries.{Keys}
+use Rattle.oram_contents.specs.Slots.{ArePasses, IsRead}
+use Rattle.unified_tree.specs.Slot.{contents_of}
+use Rattle.rate_enforcer.specs.Served.{keys_of, begin_events}
+use Rattle.rate_enforcer.proofs.port.Port.open.Goals as goal
+
+pub begin-requires-clause-first : goal.begin-requires-clause-first
+begin-requires-clause-first g c =
+    let clock = c.args.self.now.clock in
+    let now = c.pass_until.new.self.clock in
+    let is : c.min-from.result ≡ min c.args.asked clock.config.time = grind arith in
+    let config = c.pass_until.ensures.config in
+    let none : clock.stop ≡ None = search rules in
+    subst (λ (x : Config). IsFirstFor (olat_of x.shape.levels) now.last now.next (Some c.args.asked)) (sym config)
+    (serves clock.last c.args.asked clock.config.time now.next now.last (olat_of clock.config.shape.levels)
+    (c.requires.asked none) (subst (λ n. now.last < max clock.last n + olat_of clock.config.shape.levels) is
+    c.in-Ok.ensures.last) (subst (λ n. n ≤ now.next) is c.in-Ok.ensures.reached)
+    (omega (arith, c.if-self.false, ap (λ (x : Config). x.time) config)))
+
+pub returns-clause-opens : goal.returns-clause-opens
+returns-clause-opens g c notes r = c.in-Ok-begin.ensures.opens notes (c.in-Ok.ensures.rests notes r)
+
+pub returns-clause-ran : goal.returns-clause-ran
+returns-clause-ran g c =
+    ran_on g.M.UntrustedMemory.state g.W.Watch.state c.in-Ok.ensures.ran c.in-Ok-begin.ensures.ran
+
+pub returns-then-self-clause-up : goal.returns-then-self-clause-up
+returns-then-self-clause-up g c = λ none at is.
+    let clock = c.args.self.now.clock in
+    let now = c.pass_until.new.self.clock in
+    let log = (g.W.Watch.state c.pass_until.new.bus.tap.now).log in
+    let min_is : c.min-from.result ≡ min c.args.asked clock.config.time = grind arith in
+    let config = c.pass_until.ensures.config in
+    let clock' : Clock = record now { stop = Some (TimeUp now.next) } in
+    let time = ap (λ (x : Config). x.time) config in
+    let short = subst (λ (x : Config). now.last < max clock.last (min c.args.asked x.time) + olat_of x.shape.levels)
+        (sym config) (subst (λ n. now.last < max clock.last n + olat_of clock.config.shape.levels) min_is
+        c.in-Ok.ensures.last) in
+    let reached = subst (λ (x : Config). min c.args.asked x.time ≤ now.next) (sym config)
+        (subst (λ n. n ≤ now.next) min_is c.in-Ok.ensures.reached) in
+    let up = is_up clock' clock.last c.args.asked (c.in-Ok.ensures.rests 0 (c.requires.rests none)) refl refl
+        (omega (arith, c.if-self.true)) (c.requires.asked none) short reached in
+    let at_is : now.next ≡ at = cc in
+    subst (λ n. IsUp clock.config n c.args.asked clock' log) at_is
+    (subst (λ (x : Config). IsUp x now.next c.args.asked clock' log) config up)
+
+pub returns-then-self-clause-stopped : goal.returns-then-self-clause-stopped
+returns-then-self-clause-stopped g c = λ none.
+    let now = c.pass_until.new.self.clock in
+    let clock' : Clock = record now { stop = Some (TimeUp now.next) } in
+    subst (λ (x : Config). Stopped x clock' (TimeUp now.next) (g.W.Watch.state c.pass_until.new.bus.tap.now).log)
+    c.pass_until.ensures.config
+    (no_slot clock' (c.in-Ok.ensures.rests 0 (c.requires.rests none)) refl)
+
+pub returns-in-Err-begin-clause-ran_err : goal.returns-in-Err-begin-clause-ran_err
+returns-in-Err-begin-clause-ran_err g c = λ none.
+    stops_on g.M.UntrustedMemory.state g.W.Watch.state c.in-Ok.ensures.ran c.in-Err-begin.ensures.ran_err
+
+pub returns-in-Err-begin-clause-up : goal.returns-in-Err-begin-clause-up
+returns-in-Err-begin-clause-up g c = λ none at is. absurd (c.in-Err-begin.ensures.never at is)
+
+pub returns-clause-asked : goal.returns-clause-asked
+returns-clause-asked g c =
+    let clock = c.args.self.now.clock in
+    let now = c.pass_until.new.self.clock in
+    let is : c.min-from.result ≡ min c.args.asked clock.config.time = grind arith in
+    let none : clock.stop ≡ None = search rules in
+    let time = ap (λ (x : Config). x.time) c.pass_until.ensures.config in
+    let first = serves clock.last c.args.asked clock.config.time now.next now.last (olat_of clock.config.shape.levels)
+        (c.requires.asked none) (subst (λ n. now.last < max clock.last n + olat_of clock.config.shape.levels) is
+        c.in-Ok.ensures.last) (subst (λ n. n ≤ now.next) is c.in-Ok.ensures.reached)
+        (omega (arith, c.if-self.false, time)) in
+    (omega (arith, first.0, c.begin.ensures.next), omega (arith, first.1, c.in-Ok-begin.ensures.last))
+
+pub returns-clause-read : goal.returns-clause-read
+returns-clause-read g c tags =
+    let t = g.W.Watch.state in
+    let old = c.args.self.now.tree in
+    let now = c.pass_until.new.self.tree in
+    let kept = c.pass_until.ensures.kept in
+    let leaf = g.L.LeafFn.leaf_of in
+    let d0 = c.args.self.now.clock.dummies in
+    let keys : Keys = keys_of old tags (leaf c.args.self.now.leaves) in
+    let same : keys_of now tags (leaf c.pass_until.new.self.leaves) ≡ keys =
+        (λ i. record { shape = kept.shape i; pads = kept.key i; tags = tags; leaf_of = leaf (c.pass_until.ensures.leaves i) }) in
+    let t1 = t c.pass_until.new.bus.tap.now in
+    let t2 = t c.begin.new.bus.tap.now in
+    record {
+      mid = t1.log;
+      between = contents_of now t1;
+      more = omega (arith, c.in-Ok.ensures.more, c.begin.ensures.dummies);
+      passed = subst (λ n. ArePasses keys (n - d0) (t c.args.bus.now.tap.now).log t1.log
+          (contents_of old (t c.args.bus.now.tap.now)) (contents_of now t1) d0) (sym c.begin.ensures.dummies)
+          (c.in-Ok.ensures.passed tags);
+      read = subst (λ n. IsRead keys t1.log t2.log (contents_of now t1) n c.args.point c.begin.new.self.tree.hand)
+          (sym c.begin.ensures.next)
+          (subst (λ (k : Keys). IsRead k t1.log t2.log (contents_of now t1) c.pass_until.new.self.clock.next c.args.point
+          c.begin.new.self.tree.hand) same (c.in-Ok-begin.ensures.read tags));
+      noted = c.in-Ok-begin.ensures.noted
+          ∙ ap (λ n. t1.log.events ++ begin_events n (Some c.args.asked) c.args.point
+          (leaf c.pass_until.new.self.leaves c.args.point)) (sym c.begin.ensures.next)
+          ∙ ap (λ x. t1.log.events ++ begin_events c.begin.new.self.clock.next (Some c.args.asked) c.args.point
+          (leaf x c.args.point)) c.pass_until.ensures.leaves;
+      after_is =
+          ap (λ b. let d : Contents = record { hand = c.begin.new.self.tree.hand; mirror = b; seed = c.begin.new.self.tree.seed } in d)
+          c.begin.ensures.mirror
+          ∙ ap (λ b. let d : Contents = record { hand = c.begin.new.self.tree.hand; mirror = t1.mirror; seed = b } in d)
+          c.begin.ensures.seed;
+    }

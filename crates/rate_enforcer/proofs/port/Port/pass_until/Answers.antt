@@ -1,0 +1,76 @@
+use Rattle.std.proofs.Common.{◌≡◌, ◌<◌, ◌≤◌, ◌∙◌, ◌+◌, ◌*◌, ◌-◌, ◌^◌, [], ℕ, max, refl, ap, sym, subst, arith}
+use Rattle.asc_base.specs.TreeShape.{olat_of}
+use Rattle.asc_base.specs.declared.settings.Config.{Config}
+use Rattle.bus_watch.proofs.MadeLaws.{ran_none}
+use Rattle.oram_contents.specs.Slots.{ArePasses, IsDummy}
+use Rattle.unified_tree.specs.Slot.{contents_of}
+use Rattle.rate_enforcer.specs.Served.{keys_of}
+use Rattle.rate_enforcer.proofs.Contents.{dummies_more}
+use Rattle.rate_enforcer.specs.State.{Stopped}
+use Rattle.rate_enforcer.proofs.Laws.{ran_on, stops_on}
+use Rattle.rate_enforcer.proofs.port.Port.pass_until.Goals as goal
+
+pub loop-self-init : goal.loop-self-init
+loop-self-init g c = record {
+  leaves = refl;
+  kept = record { shape = refl; stash = refl; key = refl };
+  config = refl;
+  rests = λ notes r. r;
+  last = omega arith;
+  more = omega arith;
+  passed = λ tags. subst (λ k. ArePasses (keys_of c.args.self.now.tree tags (g.L.LeafFn.leaf_of c.args.self.now.leaves))
+      k (g.W.Watch.state c.args.bus.now.tap.now).log (g.W.Watch.state c.args.bus.now.tap.now).log
+      (contents_of c.args.self.now.tree (g.W.Watch.state c.args.bus.now.tap.now))
+      (contents_of c.args.self.now.tree (g.W.Watch.state c.args.bus.now.tap.now)) c.args.self.now.clock.dummies)
+      (let none : 0 ≡ c.args.self.now.clock.dummies - c.args.self.now.clock.dummies = omega arith in none) (refl, refl);
+  ran = record { moves = []; events = []; ran = ran_none g.M.UntrustedMemory.state g.W.Watch.state c.args.bus.now };
+}
+
+pub dummy-requires : goal.dummy-requires
+dummy-requires g c =
+    let i = c.loop-self.invariant in
+    record {
+      rests = i.rests 0 c.requires.rests;
+      early = omega (arith, c.loop-self-test.true, c.requires.in_time, ap (λ (x : Config). x.time) i.config);
+    }
+
+pub loop-self-preserved : goal.loop-self-preserved
+loop-self-preserved g c =
+    let i = c.loop-self.invariant in
+    let d = c.dummy.ensures in
+    let o = c.in-Ok.ensures in
+    let t = g.W.Watch.state in
+    let r = i.rests 0 c.requires.rests in
+    let seeds : c.loop-self.self.tree.seed < 2 ^ 63 = omega (arith, r.is_for.seed, c.loop-self-test.true,
+        c.requires.in_time, c.requires.rests.stands.step.follows.is_of.is_config.time.1) in
+    record {
+      more = omega (arith, i.more, o.dummies);
+      passed = λ tags. dummies_more c.args.self.now.tree c.loop-self.self.tree c.dummy.new.self.tree tags
+          (g.L.LeafFn.leaf_of c.args.self.now.leaves) c.loop-self.self.clock.next c.args.self.now.clock.dummies
+          c.loop-self.self.clock.dummies c.dummy.new.self.clock.dummies (t c.args.bus.now.tap.now)
+          (t c.loop-self.bus.tap.now) (t c.dummy.new.bus.tap.now) i.kept i.more o.dummies seeds (i.passed tags)
+          (subst (λ x. IsDummy (keys_of c.loop-self.self.tree tags (g.L.LeafFn.leaf_of x))
+          (t c.loop-self.bus.tap.now).log (t c.dummy.new.bus.tap.now).log
+          (contents_of c.loop-self.self.tree (t c.loop-self.bus.tap.now))
+          (contents_of c.dummy.new.self.tree (t c.dummy.new.bus.tap.now)) c.loop-self.self.clock.next
+          c.loop-self.self.clock.dummies) i.leaves (o.passed tags));
+      leaves = d.leaves ∙ i.leaves;
+      kept = record {
+        shape = d.kept.shape ∙ i.kept.shape;
+        stash = d.kept.stash ∙ i.kept.stash;
+        key = d.kept.key ∙ i.kept.key;
+      };
+      config = d.config ∙ i.config;
+      rests = λ notes r. o.rests notes (i.rests notes r);
+      last = omega (arith, o.last, c.loop-self-test.true, ap (λ (x : Config). x.shape.levels) i.config);
+      ran = ran_on g.M.UntrustedMemory.state g.W.Watch.state i.ran o.ran;
+    }
+
+pub returns-in-Err-clause-ran_err : goal.returns-in-Err-clause-ran_err
+returns-in-Err-clause-ran_err g c =
+    stops_on g.M.UntrustedMemory.state g.W.Watch.state c.loop-self.invariant.ran c.in-Err.ensures.ran_err
+
+pub returns-in-Err-clause-stopped : goal.returns-in-Err-clause-stopped
+returns-in-Err-clause-stopped g c =
+    subst (λ (x : Config). Stopped x c.dummy.new.self.clock c.in-Err.stop
+    (g.W.Watch.state c.dummy.new.bus.tap.now).log) c.loop-self.invariant.config c.in-Err.ensures.stopped

@@ -1,0 +1,4 @@
+pub mod Clock
+pub mod Served
+pub mod State
+pub mod Stops

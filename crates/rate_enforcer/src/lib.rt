@@ -1,0 +1,9 @@
+//! Slots at enforced times over a tree: each starts when the timetable says, whether it was asked for or not.
+#![tactic(auto)]
+
+mod clock;
+mod port;
+mod stop;
+
+pub use clock::Clock;
+pub use port::{OpenSlot, Port};
