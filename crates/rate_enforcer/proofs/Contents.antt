@@ -44,12 +44,12 @@ slot_read tags leaf_of old mid new start asked point leaf t t1 t2 t3 same1 same2
           ∙ sym (append-nil t.log.altered);
     } in
     let read = read_is keys t.log t2 t3 mid new start asked point (sym same1.shape) (sym same1.key) drawn silent
-        (subst (λ x. WasRead mid.key mid.shape start x (Ok tt) t2 t3 mid.hand new.hand) is was)
-        (subst (λ (s : Shape). AreOfShape s new.hand) same2.shape of_shape) in
+    (subst (λ x. WasRead mid.key mid.shape start x (Ok tt) t2 t3 mid.hand new.hand) is was)
+    (subst (λ (s : Shape). AreOfShape s new.hand) same2.shape of_shape) in
     let before : contents_of mid t2 ≡ contents_of old t =
-        ap (λ x. let d : Contents = record { hand = x; mirror = t2.mirror; seed = mid.seed } in d) hand
-        ∙ ap (λ x. let d : Contents = record { hand = old.hand; mirror = x; seed = mid.seed } in d) mirror
-        ∙ ap (λ x. let d : Contents = record { hand = old.hand; mirror = t.mirror; seed = x } in d) seed in
+    ap (λ x. let d : Contents = record { hand = x; mirror = t2.mirror; seed = mid.seed } in d) hand
+    ∙ ap (λ x. let d : Contents = record { hand = old.hand; mirror = x; seed = mid.seed } in d) mirror
+    ∙ ap (λ x. let d : Contents = record { hand = old.hand; mirror = t.mirror; seed = x } in d) seed in
     subst (λ (d : Contents). IsRead keys t.log t3.log d start point new.hand) before read
 
 -- a dummy's two halves
@@ -92,10 +92,10 @@ pub dummies_more : (old mid new : TreeState) (tags : List ℕ) (leaf_of : Point 
 dummies_more old mid new tags leaf_of start d0 d d' t t2 t3 kept less is seeds before one =
     let keys = keys_of old tags leaf_of in
     let same : keys_of mid tags leaf_of ≡ keys =
-        λ i. record { shape = kept.shape i; pads = kept.key i; tags = tags; leaf_of = leaf_of } in
+    λ i. record { shape = kept.shape i; pads = kept.key i; tags = tags; leaf_of = leaf_of } in
     let number : d' - d0 ≡ suc (d - d0) = omega arith in
     let at : d ≡ d0 + (d - d0) = omega arith in
     let one2 = subst (λ n. IsDummy keys t2.log t3.log (contents_of mid t2) (contents_of new t3) start n) at
-        (subst (λ k. IsDummy k t2.log t3.log (contents_of mid t2) (contents_of new t3) start d) same one) in
+    (subst (λ k. IsDummy k t2.log t3.log (contents_of mid t2) (contents_of new t3) start d) same one) in
     subst (λ k. ArePasses keys k t.log t3.log (contents_of old t) (contents_of new t3) d0) (sym number)
     (t2.log, contents_of mid t2, start, before, seeds, one2)

@@ -249,9 +249,11 @@ module _ {M W : Type 0} (memory_of : M → MemoryState) (tap_of : W → TapState
   read_pace {b} {c} {notes} {clock} leaf levels end g levels_are read end_is =
       let l = clock.config.shape.levels in
       let made = subst (λ n. Ran memory_of tap_of Whole (reads n clock.next leaf) [] b c) levels_are read in
-      let at : end ≡ reads_end l clock.next = end_is ∙ ap (λ n. reads_end n clock.next) levels_are in
-      (at, reads_pace (l + 1) end (inside_ran g.stands none_silent made.made) (omega arith) (omega (arith, at))
-      (omega (arith, at)) (omega (arith, at)))
+      let at : end ≡ reads_end l clock.next = end_is ∙ ap (λ n. reads_end n clock.next) levels_are in (
+        at,
+        reads_pace (l + 1) end (inside_ran g.stands none_silent made.made) (omega arith) (omega (arith, at))
+            (omega (arith, at)) (omega (arith, at)),
+      )
 
   -- the pace up to the cycle after a read
   cut_pace : {b c : Bus M W} {notes : ℕ} {clock : Clock} {asked : Option ℕ} {cut : RunEnd} (leaf : ℕ)
@@ -263,11 +265,12 @@ module _ {M W : Type 0} (memory_of : M → MemoryState) (tap_of : W → TapState
       let l = clock.config.shape.levels in
       let levels_are : before.shape.levels ≡ l = ap (λ (s : Shape). s.levels) shape_is in
       let ran = subst (λ n. Ran memory_of tap_of cut (along n false clock.next leaf (x.level + 1)) [] b c) levels_are
-          x.ran in
-      let within : x.level ≤ l = omega (arith, x.within, levels_are) in
-      ((x.level, within, x.ended),
-      reads_pace (x.level + 1) after.ended (inside_ran g.stands none_silent ran.made) (omega (arith, within))
-      (omega (arith, x.ended)) (omega (arith, x.ended)) (omega (arith, x.ended)))
+      x.ran in
+      let within : x.level ≤ l = omega (arith, x.within, levels_are) in (
+        (x.level, within, x.ended),
+        reads_pace (x.level + 1) after.ended (inside_ran g.stands none_silent ran.made) (omega (arith, within))
+            (omega (arith, x.ended)) (omega (arith, x.ended)) (omega (arith, x.ended)),
+      )
 
   pub read_stopped : (b c : Bus M W) {notes : ℕ} {clock : Clock} {asked : Option ℕ} (leaf : ℕ) (learner : Learner)
       (stop : TreeStop) (tree tree' : TreeState) (clock' : Clock)
@@ -284,6 +287,7 @@ module _ {M W : Type 0} (memory_of : M → MemoryState) (tap_of : W → TapState
     where
       levels_are : before.shape.levels ≡ clock.config.shape.levels
       levels_are = ap (λ (s : Shape). s.levels) shape_is
+
       by : (stop : TreeStop)
           → IfRead (Err stop) (Ran memory_of tap_of Whole (reads before.shape.levels clock.next leaf) [] b c)
           (λ s. CutRead memory_of tap_of (end_at s) clock.next leaf before after b c)
@@ -321,12 +325,13 @@ module _ {M W : Type 0} (memory_of : M → MemoryState) (tap_of : W → TapState
       let l = clock.config.shape.levels in
       let levels_are : before.shape.levels ≡ l = ap (λ (s : Shape). s.levels) o.is_for.shape in
       let ran = subst (λ n. Ran memory_of tap_of cut (along n true (writes_start n clock.next) slot.leaf.0
-          (x.level + 1)) [] b c) levels_are x.ran in
+      (x.level + 1)) [] b c) levels_are x.ran in
       let ended = subst (λ n. after.ended ≡ writes_start n clock.next + 40 * x.level + 1) levels_are x.ended in
-      let within : x.level ≤ l = omega (arith, x.within, levels_are) in
-      ((x.level, within, ended),
-      writes_pace (x.level + 1) after.ended (inside_ran o.stands none_silent ran.made) (omega (arith, within))
-      (omega (arith, ended)) (omega (arith, ended)) (omega (arith, ended, within)))
+      let within : x.level ≤ l = omega (arith, x.within, levels_are) in (
+        (x.level, within, ended),
+        writes_pace (x.level + 1) after.ended (inside_ran o.stands none_silent ran.made) (omega (arith, within))
+            (omega (arith, ended)) (omega (arith, ended)) (omega (arith, ended, within)),
+      )
 
   pub write_stopped : (b c : Bus M W) {notes levels : ℕ} {clock : Clock} (slot : OpenSlot) (stop : TreeStop)
       (tree tree' : TreeState) (clock' : Clock)
@@ -353,8 +358,8 @@ module _ {M W : Type 0} (memory_of : M → MemoryState) (tap_of : W → TapState
       by (tree.Full held) write ended =
           let l = clock.config.shape.levels in
           let at : after.ended ≡ reads_end l clock.next = ended
-              ∙ ap (λ n. reads_end n slot.start) (ap (λ (s : Shape). s.levels) o.is_for.shape)
-              ∙ ap (λ n. reads_end l n) o.is_open.starts in
+          ∙ ap (λ n. reads_end n slot.start) (ap (λ (s : Shape). s.levels) o.is_for.shape)
+          ∙ ap (λ n. reads_end l n) o.is_open.starts in
           record {
             kept = refl;
             same = refl;
@@ -365,11 +370,11 @@ module _ {M W : Type 0} (memory_of : M → MemoryState) (tap_of : W → TapState
           }
       by tree.Device write ended =
           let p = cut_write_pace slot before after o (subst (λ n. CutWrite memory_of tap_of MoveFailed n slot.leaf.0
-              before after b c) o.is_open.starts write) in
+          before after b c) o.is_open.starts write) in
           record { kept = refl; same = refl; ends = inr p.0; pace = p.1 }
       by tree.NoMemory write ended =
           let p = cut_write_pace slot before after o (subst (λ n. CutWrite memory_of tap_of RanOut n slot.leaf.0
-              before after b c) o.is_open.starts write) in
+          before after b c) o.is_open.starts write) in
           record { kept = refl; same = refl; ends = inr (inr p.0); pace = p.1 }
 
 -- the bus is ready for the writes
@@ -390,9 +395,9 @@ pub at_end : {notes levels : ℕ} {clock : Clock} {m m' : MemoryState} {t t' : T
     (slot_moves clock.config.shape.levels clock.next slot.leaf.0) clock.learner t'.log
 at_end {notes} {levels} {clock} {m} {m'} {t} {t'} slot tree o made =
     let first = subst (λ (s : Shape). Made Whole (writes s.levels slot.start slot.leaf.0) [] m m' t t') o.is_for.shape
-        made in
+    made in
     let written = subst (λ n. Made Whole (writes clock.config.shape.levels n slot.leaf.0) [] m m' t t')
-        o.is_open.starts first in
+    o.is_open.starts first in
     inside_ran o.stands none_silent written
 
 pub rested : {notes levels : ℕ} {clock : Clock} {m m' m'' : MemoryState} {t t' t'' : TapState} (slot : OpenSlot)
@@ -411,9 +416,13 @@ rested {notes} {levels} {clock} {m} {m'} {m''} {t} {t'} {t''} slot tree tree' cl
     let levels_are : tree.shape.levels ≡ l = ap (λ (s : Shape). s.levels) o.is_for.shape in
     let apart = (stands_apart stands).0 in
     let room = ready_after clock.config.shape.buckets (2 * (l + 1) * o.left + (l + 1)) (6 * o.left + (notes + 1))
-        (2 * (l + 1) * o.left) (6 * o.left + (notes + 1)) o.room made
-        (omega (arith, length-along tree.shape.levels true (writes_start tree.shape.levels slot.start) slot.leaf.0
-        (tree.shape.levels + 1), levels_are)) (omega arith) in
+    (2 * (l + 1) * o.left) (6 * o.left + (notes + 1)) o.room made
+    (omega (
+      arith,
+      length-along tree.shape.levels true (writes_start tree.shape.levels slot.start) slot.leaf.0
+          (tree.shape.levels + 1),
+      levels_are,
+    )) (omega arith) in
     subst (λ (x : Clock). Rests notes x tree' levels m'' t'') (sym is) (record {
       going = o.going;
       done = suc o.done;
@@ -480,8 +489,14 @@ counted dummies less r = record {
 -- before the first slot
 pub fresh : (notes left levels : ℕ) (config : Config) (clock : Clock) (tree : TreeState) (m : MemoryState)
     (t : TapState) → IsConfig config
-    → clock ≡ record { config = config; learner = learner_at_start config; next = (learner_at_start config).rate;
-        last = 0; dummies = 0; stop = None }
+    → clock ≡ record {
+      config = config;
+      learner = learner_at_start config;
+      next = (learner_at_start config).rate;
+      last = 0;
+      dummies = 0;
+      stop = None;
+    }
     → t.log.events ≡ [] → t.log.moves ≡ [] → config.time ≤ 64 + left * olat_of config.shape.levels
     → IsReady config.shape.buckets (2 * (config.shape.levels + 1) * left) (6 * left + notes) m t
     → tree.shape ≡ config.shape → tree.stash ≡ config.stash → tree.hand ≡ [] → tree.seed ≡ 1 → tree.path ≡ None

@@ -49,7 +49,11 @@ fn note_choice<M: UntrustedMemory, W: Watch>(bus: &mut Bus<'_, M, W>, choice: Op
 
 impl Clock {
     /// Ends the slot whose moves are all made, with the choice at its end if one falls.
-    pub(crate) fn end_slot<M: UntrustedMemory, W: Watch>(&mut self, bus: &mut Bus<'_, M, W>, end: u64)
+    pub(crate) fn end_slot<M: UntrustedMemory, W: Watch>(
+        &mut self,
+        bus: &mut Bus<'_, M, W>,
+        end: u64,
+    )
         requires at_end { IsAtEnd self.old end (W.state bus.old.tap.now).log }
         requires room { 0 < (W.state bus.old.tap.now).spare_events }
         ensures ran { Ran M.state W.state Whole [] (chosen_events (choice_by_sums self.old.learner end))

@@ -258,7 +258,11 @@ impl<L: LeafFn> Port<L> {
     }
 
     /// Does all slots that start before a time.
-    fn pass_until<M: UntrustedMemory, W: Watch>(&mut self, bus: &mut Bus<'_, M, W>, time: u64) -> Result<(), Stop>
+    fn pass_until<M: UntrustedMemory, W: Watch>(
+        &mut self,
+        bus: &mut Bus<'_, M, W>,
+        time: u64,
+    ) -> Result<(), Stop>
         requires rests { Rests 0 self.old.clock self.old.tree (L.levels self.old.leaves)
             (M.state bus.old.memory.now) (W.state bus.old.tap.now) }
         requires in_time { time ≤ self.old.clock.config.time }

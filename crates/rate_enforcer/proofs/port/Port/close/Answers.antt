@@ -66,7 +66,7 @@ pub returns-in-Ok-clause-next : goal.returns-in-Ok-clause-next
 returns-in-Ok-clause-next g c =
     let o = c.requires.opens in
     let apart = (stands_apart (c.end_slot.ensures.stands o.done c.args.slot.leaf.0
-        (at_end c.args.slot c.args.self.now.tree o c.in-Ok.ensures.ran.made))).0 in
+    (at_end c.args.slot c.args.self.now.tree o c.in-Ok.ensures.ran.made))).0 in
     omega (arith, apart, c.olat.ensures, o.is_open.starts)
 
 pub returns-in-Ok-clause-ran : goal.returns-in-Ok-clause-ran
@@ -93,7 +93,7 @@ returns-in-Err-clause-stopped g c =
     let clock = c.args.self.now.clock in
     let make = λ (n : ℕ) (s : Stop). let k : Clock = record clock { last = n; stop = Some s } in k in
     let is = c.stop_at.ensures.clock ∙ ap (λ n. make n c.stop_of-stop.result) c.ended-last.ensures
-        ∙ ap (λ s. make c.write_path.new.self.ended s) c.stop_of-stop.ensures in
+    ∙ ap (λ s. make c.write_path.new.self.ended s) c.stop_of-stop.ensures in
     subst (λ (x : Stop). Stopped clock.config c.stop_at.new.self.clock x (t c.write_path.new.bus.tap.now).log)
     (sym c.stop_of-stop.ensures)
     (write_stopped m t c.args.bus.now c.write_path.new.bus c.args.slot c.in-Err.stop c.args.self.now.tree

@@ -20,8 +20,14 @@ pub returns-clause-rests : goal.returns-clause-rests
 returns-clause-rests g c notes r =
     let o = opens_less notes (omega arith) (c.in-Ok.ensures.opens notes r) in
     let fewer : c.close.new.self.clock.dummies + 1 ≤ c.close.new.self.clock.next =
-        omega (arith, c.close.ensures.dummies, c.begin.ensures.dummies, r.dummies, c.in-Ok-close.ensures.next,
-        c.begin.ensures.next) in
+    omega (
+      arith,
+      c.close.ensures.dummies,
+      c.begin.ensures.dummies,
+      r.dummies,
+      c.in-Ok-close.ensures.next,
+      c.begin.ensures.next,
+    ) in
     counted (c.close.new.self.clock.dummies + 1) fewer (c.in-Ok-close.ensures.rests notes o)
 
 pub returns-clause-ran : goal.returns-clause-ran

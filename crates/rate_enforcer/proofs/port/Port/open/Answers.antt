@@ -43,12 +43,12 @@ returns-then-self-clause-up g c = λ none at is.
     let clock' : Clock = record now { stop = Some (TimeUp now.next) } in
     let time = ap (λ (x : Config). x.time) config in
     let short = subst (λ (x : Config). now.last < max clock.last (min c.args.asked x.time) + olat_of x.shape.levels)
-        (sym config) (subst (λ n. now.last < max clock.last n + olat_of clock.config.shape.levels) min_is
-        c.in-Ok.ensures.last) in
+    (sym config) (subst (λ n. now.last < max clock.last n + olat_of clock.config.shape.levels) min_is
+    c.in-Ok.ensures.last) in
     let reached = subst (λ (x : Config). min c.args.asked x.time ≤ now.next) (sym config)
-        (subst (λ n. n ≤ now.next) min_is c.in-Ok.ensures.reached) in
+    (subst (λ n. n ≤ now.next) min_is c.in-Ok.ensures.reached) in
     let up = is_up clock' clock.last c.args.asked (c.in-Ok.ensures.rests 0 (c.requires.rests none)) refl refl
-        (omega (arith, c.if-self.true)) (c.requires.asked none) short reached in
+    (omega (arith, c.if-self.true)) (c.requires.asked none) short reached in
     let at_is : now.next ≡ at = cc in
     subst (λ n. IsUp clock.config n c.args.asked clock' log) at_is
     (subst (λ (x : Config). IsUp x now.next c.args.asked clock' log) config up)
@@ -76,9 +76,9 @@ returns-clause-asked g c =
     let none : clock.stop ≡ None = search rules in
     let time = ap (λ (x : Config). x.time) c.pass_until.ensures.config in
     let first = serves clock.last c.args.asked clock.config.time now.next now.last (olat_of clock.config.shape.levels)
-        (c.requires.asked none) (subst (λ n. now.last < max clock.last n + olat_of clock.config.shape.levels) is
-        c.in-Ok.ensures.last) (subst (λ n. n ≤ now.next) is c.in-Ok.ensures.reached)
-        (omega (arith, c.if-self.false, time)) in
+    (c.requires.asked none) (subst (λ n. now.last < max clock.last n + olat_of clock.config.shape.levels) is
+    c.in-Ok.ensures.last) (subst (λ n. n ≤ now.next) is c.in-Ok.ensures.reached)
+    (omega (arith, c.if-self.false, time)) in
     (omega (arith, first.0, c.begin.ensures.next), omega (arith, first.1, c.in-Ok-begin.ensures.last))
 
 pub returns-clause-read : goal.returns-clause-read
@@ -91,7 +91,7 @@ returns-clause-read g c tags =
     let d0 = c.args.self.now.clock.dummies in
     let keys : Keys = keys_of old tags (leaf c.args.self.now.leaves) in
     let same : keys_of now tags (leaf c.pass_until.new.self.leaves) ≡ keys =
-        (λ i. record { shape = kept.shape i; pads = kept.key i; tags = tags; leaf_of = leaf (c.pass_until.ensures.leaves i) }) in
+    (λ i. record { shape = kept.shape i; pads = kept.key i; tags = tags; leaf_of = leaf (c.pass_until.ensures.leaves i) }) in
     let t1 = t c.pass_until.new.bus.tap.now in
     let t2 = t c.begin.new.bus.tap.now in
     record {

@@ -41,8 +41,13 @@ loop-self-preserved g c =
     let o = c.in-Ok.ensures in
     let t = g.W.Watch.state in
     let r = i.rests 0 c.requires.rests in
-    let seeds : c.loop-self.self.tree.seed < 2 ^ 63 = omega (arith, r.is_for.seed, c.loop-self-test.true,
-        c.requires.in_time, c.requires.rests.stands.step.follows.is_of.is_config.time.1) in
+    let seeds : c.loop-self.self.tree.seed < 2 ^ 63 = omega (
+      arith,
+      r.is_for.seed,
+      c.loop-self-test.true,
+      c.requires.in_time,
+      c.requires.rests.stands.step.follows.is_of.is_config.time.1,
+    ) in
     record {
       more = omega (arith, i.more, o.dummies);
       passed = λ tags. dummies_more c.args.self.now.tree c.loop-self.self.tree c.dummy.new.self.tree tags
