@@ -419,7 +419,8 @@ module _ (sets k lines : ℕ) where
       (ways - 1) s)))
       (uses_at ways n (marks l) mem (option_map mark last) false (record { line = n; dirty = true } ∷ take
       (ways - 1) (marks l)))
-  puts ways n mem value l None e some at lt size long f out = put_first ways n mem value l l some at lt size long f out refl
+  puts ways n mem value l None e some at lt size long f out = put_first ways n mem value l l some at lt
+      size long f out refl
   puts ways n mem value l (Some last) e some at lt size long f out =
       settles (WOut ways n mem value) ways mem l last (last.dirty)
       (λ s. Done (record { line = n; dirty = true; value = value } ∷ take (ways - 1) s))

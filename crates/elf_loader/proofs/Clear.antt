@@ -21,10 +21,12 @@ readable_table file readable =
     table file (readable 0 0 Short (omega arith)) (readable 0 0 Table (omega arith))
 
 -- in a readable file each segment's part is whole
-pub readable_sound : (file : List ℕ) (index : ℕ) → IsReadable file → index < header_count file → ¬ IsBadSegment file (header_at file index)
+pub readable_sound : (file : List ℕ) (index : ℕ) → IsReadable file → index < header_count file
+    → ¬ IsBadSegment file (header_at file index)
 readable_sound file index readable below bad = readable 0 0 (Segment index) (omega arith) (below, bad)
 
-pub readable_within : (file : List ℕ) (index : ℕ) → IsReadable file → index < header_count file → IsLoad (header_at file index) →
+pub readable_within : (file : List ℕ) (index : ℕ) → IsReadable file → index < header_count file
+    → IsLoad (header_at file index) →
     (header_at file index).offset + (header_at file index).file_size ≤ length file
 readable_within file index readable below load =
     elim (cases_lt (length file) ((header_at file index).offset + (header_at file index).file_size)) [
@@ -143,7 +145,8 @@ clear_overlap base size file none =
     clear_next base size file (Outside 0) (Overlap 0) refl outside (λ index found. none.inside index found.0 found.1)
 
 pub first_overlap : (base size : ℕ) (file : List ℕ) (index : ℕ) → NoneSoFar base size file → index < header_count file →
-    OverlapsLower file index → ((k : ℕ) → k < index → ¬ OverlapsLower file k) → IsFirstFault base size file (Overlap index)
+    OverlapsLower file index → ((k : ℕ) → k < index → ¬ OverlapsLower file k)
+        → IsFirstFault base size file (Overlap index)
 first_overlap base size file index none below found least =
     first_of base size file (Overlap index) (clear_overlap base size file none)
     (λ k lower other. least k lower other.1) (below, found)
@@ -151,15 +154,19 @@ first_overlap base size file index none below found least =
 clear_entry : (base size : ℕ) (file : List ℕ) → NoneSoFar base size file →
     ((k : ℕ) → k < header_count file → ¬ OverlapsLower file k) → IsClearBefore base size file Entry
 clear_entry base size file none apart =
-    clear_next base size file (Overlap 0) Entry refl (clear_overlap base size file none) (λ index found. apart index found.0 found.1)
+    clear_next base size file (Overlap 0) Entry refl (clear_overlap base size file none)
+        (λ index found. apart index found.0 found.1)
 
 pub first_entry : (base size : ℕ) (file : List ℕ) → NoneSoFar base size file →
-    ((k : ℕ) → k < header_count file → ¬ OverlapsLower file k) → HasOtherEntry base size file → IsFirstFault base size file Entry
+    ((k : ℕ) → k < header_count file → ¬ OverlapsLower file k) → HasOtherEntry base size file
+        → IsFirstFault base size file Entry
 first_entry base size file none apart found =
-    first_of base size file Entry (clear_entry base size file none apart) (λ k lower. absurd (omega (arith, lower))) found
+    first_of base size file Entry (clear_entry base size file none apart)
+        (λ k lower. absurd (omega (arith, lower))) found
 
 pub judged : (base size : ℕ) (file : List ℕ) → NoneSoFar base size file →
-    ((k : ℕ) → k < header_count file → ¬ OverlapsLower file k) → ¬ HasOtherEntry base size file → IsFaultless base size file
+    ((k : ℕ) → k < header_count file → ¬ OverlapsLower file k) → ¬ HasOtherEntry base size file
+        → IsFaultless base size file
 judged base size file none apart right fault = by_fault fault
   where
     clear : IsClearBefore base size file NoMemory

@@ -13,11 +13,13 @@ meets_common a m b n met =
 pub common_meets : (a m b n x : ℕ) → a ≤ x → x < a + m → b ≤ x → x < b + n → meets a m b n ≡ true
 common_meets a m b n x from_a to_a from_b to_b = lt-ltb (max a b) (min (a + m) (b + n)) (omega arith)
 
-covered : (kind v n start x : ℕ) → (kind == 1 && nat_lt (max v start) (min (v + n) (start + 64))) ≡ true → x ≡ max v start →
+covered : (kind v n start x : ℕ) → (kind == 1 && nat_lt (max v start) (min (v + n) (start + 64))) ≡ true
+    → x ≡ max v start →
     (kind == 1 && nat_le v x && nat_lt x (v + n)) ≡ true
 covered kind v n start x touched at = grind (arith, nat_tests)
 
-inside_line : (kind v n start x : ℕ) → (kind == 1 && nat_lt (max v start) (min (v + n) (start + 64))) ≡ true → x ≡ max v start →
+inside_line : (kind v n start x : ℕ) → (kind == 1 && nat_lt (max v start) (min (v + n) (start + 64))) ≡ true
+    → x ≡ max v start →
     x < start + 64
 inside_line kind v n start x touched at = grind (arith, nat_tests)
 

@@ -65,7 +65,8 @@ sound_at base size file index header faultless below same bad =
 pub inside_at : (base size n : ℕ) (file : List ℕ) (index : ℕ) (header : ProgramHeader) → IsFaultless base size file →
     index < header_count file → header ≡ header_at file index → n ≡ size → ¬ IsOutside base n header
 inside_at base size n file index header faultless below same long out =
-    faultless (Outside index) (below, subst (λ h. IsOutside base size h) same (subst (λ m. IsOutside base m header) long out))
+    faultless (Outside index) (below, subst (λ h. IsOutside base size h) same
+        (subst (λ m. IsOutside base m header) long out))
 
 taking : (k m : ℕ) → (k == 1 && nat_lt 0 m) ≡ true → (k ≡ 1) × (0 < m)
 taking k m takes = (grind (arith, nat_tests), grind (arith, nat_tests))
@@ -84,7 +85,8 @@ both_cover : (file : List ℕ) (one other : ProgramHeader) (x : ℕ) → ¬ IsBa
 both_cover file one other x sound whole first second =
     let a : one.kind ≡ 1 = load_of one.kind one.address one.file_size x first in
     let b : other.kind ≡ 1 = load_of other.kind other.address other.file_size x second in
-    let s = shared one.kind one.address one.file_size one.memory_size other.kind other.address other.file_size other.memory_size x
+    let s = shared one.kind one.address one.file_size one.memory_size other.kind other.address other.file_size
+        other.memory_size x
     (part_fits file one a sound) (part_fits file other b whole) first second in (
       a,
       b,
@@ -93,7 +95,8 @@ both_cover file one other x sound whole first second =
     )
 
 -- at most one segment covers an address
-apart : (base size : ℕ) (file : List ℕ) (k index x : ℕ) → IsFaultless base size file → k < index → index < header_count file →
+apart : (base size : ℕ) (file : List ℕ) (k index x : ℕ) → IsFaultless base size file → k < index
+    → index < header_count file →
     covers (header_at file k) x ≡ true → covers (header_at file index) x ≡ false
 apart base size file k index x faultless lower below first = by_test (covers (header_at file index) x) refl
   where
@@ -104,13 +107,15 @@ apart base size file k index x faultless lower below first = by_test (covers (he
         k,
         lower,
         both_cover file (header_at file index) (header_at file k) x
-            (λ bad. faultless (Segment index) (below, bad)) (λ bad. faultless (Segment k) (omega arith, bad)) second first,
+            (λ bad. faultless (Segment index) (below, bad))
+                (λ bad. faultless (Segment k) (omega arith, bad)) second first,
       ),
     ))
     by_test false second = refl
 
 pub laid_more : (base size : ℕ) (file : List ℕ) (index : ℕ) (old new : List ℕ) → IsFaultless base size file →
-    index < header_count file → IsLaidOutTo base size file index old → IsPlaced base file (header_at file index) old new →
+    index < header_count file → IsLaidOutTo base size file index old
+        → IsPlaced base file (header_at file index) old new →
     IsLaidOutTo base size file (index + 1) new
 laid_more base size file index old new faultless below laid placed = record {
   len = placed.len ∙ laid.len;
@@ -121,7 +126,8 @@ laid_more base size file index old new faultless below laid placed = record {
         ∙ laid.part k place lower within covered
     | inr not ↦
         let same : k ≡ index = omega arith in
-        subst (λ j. covers (header_at file j) (base + place) ≡ true → get_or new place 0 ≡ byte_at file (header_at file j) (base + place))
+        subst (λ j. covers (header_at file j) (base + place) ≡ true
+            → get_or new place 0 ≡ byte_at file (header_at file j) (base + place))
         (sym same) (placed.part place (omega (arith, laid.len))) covered
   ];
   blank = λ place within free.
@@ -139,7 +145,8 @@ pub data FoundIn (p : ProgramHeader → Bool) (file : List ℕ) (count : ℕ) (f
   Nowhere : ((k : ℕ) → k < count → p (header_at file k) ≡ false) → found ≡ None → FoundIn p file count found
 
 find_last : (p : ProgramHeader → Bool) (file : List ℕ) (n : ℕ) →
-    find p (first_headers file (n + 1)) ≡ option_or (find p (first_headers file n)) (cond (p (header_at file n)) (Some (header_at file n)) None)
+    find p (first_headers file (n + 1)) ≡ option_or (find p (first_headers file n))
+        (cond (p (header_at file n)) (Some (header_at file n)) None)
 find_last p file n =
     ap (find p) (map-range_with_len_more (header_at file) 0 n n (zero-add n))
     ∙ find-append p (first_headers file n) (header_at file n ∷ [])
@@ -148,10 +155,12 @@ pub find_headers : (p : ProgramHeader → Bool) (file : List ℕ) (n : ℕ) → 
 find_headers p file zero = Nowhere (λ k below. absurd (omega (arith, below))) refl
 find_headers p file (suc n) = more (find_headers p file n) (p (header_at file n)) refl
   where
-    last : find p (first_headers file (suc n)) ≡ option_or (find p (first_headers file n)) (cond (p (header_at file n)) (Some (header_at file n)) None)
+    last : find p (first_headers file (suc n)) ≡ option_or (find p (first_headers file n))
+        (cond (p (header_at file n)) (Some (header_at file n)) None)
     last = rw add-one at (find_last p file n)
 
-    more : FoundIn p file n (find p (first_headers file n)) → (b : Bool) → p (header_at file n) ≡ b → FoundIn p file (suc n) (find p (first_headers file (suc n)))
+    more : FoundIn p file n (find p (first_headers file n)) → (b : Bool) → p (header_at file n) ≡ b
+        → FoundIn p file (suc n) (find p (first_headers file (suc n)))
     more (At k below pass found) b is = At k (omega arith) pass (rw (last, found) refl)
     more (Nowhere none found) true is = At n (omega arith) is (rw (last, found, is) refl)
     more (Nowhere none found) false is =
@@ -161,15 +170,18 @@ find_headers p file (suc n) = more (find_headers p file n) (p (header_at file n)
         ]) (rw (last, found, is) refl)
 
 -- the byte of an address, once all parts are in their places
-laid_byte : (base size : ℕ) (file bytes : List ℕ) (place : ℕ) → IsLaidOutTo base size file (header_count file) bytes → place < size →
+laid_byte : (base size : ℕ) (file bytes : List ℕ) (place : ℕ) → IsLaidOutTo base size file (header_count file) bytes
+    → place < size →
     get_or bytes place 0 ≡ image_byte file (base + place)
 unfolding image_byte byte_of
 laid_byte base size file bytes place laid below =
     by_found (find_headers (λ h. covers h (base + place)) file (header_count file))
   where
-    by_found : FoundIn (λ h. covers h (base + place)) file (header_count file) (find (λ h. covers h (base + place)) (headers file)) →
+    by_found : FoundIn (λ h. covers h (base + place)) file (header_count file)
+        (find (λ h. covers h (base + place)) (headers file)) →
         get_or bytes place 0 ≡ byte_of file (base + place) (find (λ h. covers h (base + place)) (headers file))
-    by_found (At k within pass found) = laid.part k place within below pass ∙ sym (ap (byte_of file (base + place)) found)
+    by_found (At k within pass found) = laid.part k place within below pass
+        ∙ sym (ap (byte_of file (base + place)) found)
     by_found (Nowhere none found) = laid.blank place below none ∙ sym (ap (byte_of file (base + place)) found)
 
 pub laid_bytes : (base size : ℕ) (file bytes : List ℕ) → IsLaidOutTo base size file (header_count file) bytes →
@@ -187,12 +199,14 @@ laid_bytes base size file bytes laid =
 pub any_header : (p : ProgramHeader → Bool) (file : List ℕ) (count k : ℕ) → k < count → p (header_at file k) ≡ true →
     list_any p (first_headers file count) ≡ true
 any_header p file count k below pass =
-    let long : k < length (first_headers file count) = omega (arith, length-map-range_with_len (header_at file) 0 count) in
+    let long : k < length (first_headers file count) = omega
+        (arith, length-map-range_with_len (header_at file) 0 count) in
     let here : get_or (first_headers file count) k (header_at file k) ≡ header_at file k =
     get_or-map-range_with_len (header_at file) 0 count k k (header_at file k) below (zero-add k) in
     list_any_at p (first_headers file count) k (header_at file k) long (ap p here ∙ pass)
 
-pub no_header : (p : ProgramHeader → Bool) (file : List ℕ) (count : ℕ) → ((k : ℕ) → k < count → p (header_at file k) ≡ false) →
+pub no_header : (p : ProgramHeader → Bool) (file : List ℕ) (count : ℕ)
+    → ((k : ℕ) → k < count → p (header_at file k) ≡ false) →
     list_any p (first_headers file count) ≡ false
 no_header p file count none =
     list_any_none p (first_headers file count)
@@ -203,26 +217,32 @@ no_header p file count none =
 
 -- the greatest end with one header more
 end_if : (base : ℕ) (some : List ProgramHeader) (header : ProgramHeader) (b : Bool) →
-    fold max base (map end_of (some ++ cond b (header ∷ []) [])) ≡ max (fold max base (map end_of some)) (cond b (end_of header) base)
+    fold max base (map end_of (some ++ cond b (header ∷ []) []))
+        ≡ max (fold max base (map end_of some)) (cond b (end_of header) base)
 end_if base some header true =
-    ap (fold max base) (map-append end_of some (header ∷ [])) ∙ fold-append max base (map end_of some) (end_of header ∷ [])
+    ap (fold max base) (map-append end_of some (header ∷ []))
+        ∙ fold-append max base (map end_of some) (end_of header ∷ [])
 end_if base some header false =
     let from : base ≤ fold max base (map end_of some) = fold_above base (map end_of some) in
     ap (λ hs. fold max base (map end_of hs)) (append-nil some) ∙ omega arith
 
 pub end_more : (base : ℕ) (file : List ℕ) (index : ℕ) →
     greatest_end base (first_headers file (index + 1))
-    ≡ max (greatest_end base (first_headers file index)) (cond (takes_memory (header_at file index)) (end_of (header_at file index)) base)
+    ≡ max (greatest_end base (first_headers file index))
+        (cond (takes_memory (header_at file index)) (end_of (header_at file index)) base)
 end_more base file index =
-    ap (λ hs. fold max base (map end_of hs)) (filter_of_map_range_with_len_more takes_memory (header_at file) 0 index index (zero-add index))
-    ∙ end_if base (filter takes_memory (first_headers file index)) (header_at file index) (takes_memory (header_at file index))
+    ap (λ hs. fold max base (map end_of hs)) (filter_of_map_range_with_len_more takes_memory
+        (header_at file) 0 index index (zero-add index))
+    ∙ end_if base (filter takes_memory (first_headers file index)) (header_at file index)
+        (takes_memory (header_at file index))
 
 cond_to : (base size end : ℕ) (b : Bool) → (b ≡ true → end ≤ base + size) → cond b end base ≤ base + size
 cond_to base size end true inside = inside refl
 cond_to base size end false inside = omega arith
 
 -- the greatest end after one header more
-pub end_step : (base size : ℕ) (file : List ℕ) (index end next : ℕ) (header : ProgramHeader) → IsFaultless base size file →
+pub end_step : (base size : ℕ) (file : List ℕ) (index end next : ℕ) (header : ProgramHeader)
+    → IsFaultless base size file →
     index < header_count file → header ≡ header_at file index → next ≡ cond (takes_memory header) (end_of header) base →
     end ≡ greatest_end base (first_headers file index) → end ≤ base + size →
     (max end next ≡ greatest_end base (first_headers file (index + 1))) × (max end next ≤ base + size)
@@ -233,6 +253,7 @@ end_step base size file index end next header faultless below same is greatest t
     subst (λ n. n ≤ base + size) (sym is)
     (cond_to base size (end_of header) (takes_memory header)
     (ends_inside base size file index header faultless below same)) in (
-      ap (λ e. max e next) greatest ∙ ap (max (greatest_end base (first_headers file index))) own ∙ sym (end_more base file index),
+      ap (λ e. max e next) greatest ∙ ap (max (greatest_end base (first_headers file index))) own
+          ∙ sym (end_more base file index),
       omega arith,
     )

@@ -35,7 +35,8 @@ range_kept p n k below pass =
     let xs : List ℕ = range_with_len 0 n in
     let long : k < length xs = omega (arith, length-range_with_len 0 n) in
     let here : get_or xs k 0 ≡ k = get_or-range_with_len 0 n k 0 below ∙ zero-add k in
-    let rest : drop k xs ≡ k ∷ drop (k + 1) xs = rw add-one (drop-cons xs k 0 long ∙ ap (λ x. x ∷ drop (suc k) xs) here) in
+    let rest : drop k xs ≡ k ∷ drop (k + 1) xs = rw add-one (drop-cons xs k 0 long
+        ∙ ap (λ x. x ∷ drop (suc k) xs) here) in
     let split : xs ≡ take k xs ++ k ∷ drop (k + 1) xs =
     sym (take-append-drop k xs) ∙ ap (λ ys. take k xs ++ ys) rest in
     subst (λ ys. Contains (filter p ys) k) (sym split) (kept p (take k xs) (drop (k + 1) xs) k pass)
@@ -49,13 +50,15 @@ blank_outside base size file memory place below unmarked =
     get_or-map-range_with_len (image_byte file) base size place (base + place) 0 below refl
     ∙ by_found (find_headers (λ h. covers h (base + place)) file (header_count file))
   where
-    by_found : FoundIn (λ h. covers h (base + place)) file (header_count file) (find (λ h. covers h (base + place)) (headers file)) →
+    by_found : FoundIn (λ h. covers h (base + place)) file (header_count file)
+        (find (λ h. covers h (base + place)) (headers file)) →
         byte_of file (base + place) (find (λ h. covers h (base + place)) (headers file)) ≡ 0
     by_found (At k within covered found) =
         let pages : size % 4096 ≡ 0 = memory.size_pages in
         let line : place / 64 < size / 64 = omega arith in
         let touched : touches (header_at file k) (base + 64 * (place / 64)) ≡ true =
-        covers-touches (header_at file k) (base + 64 * (place / 64)) (base + place) (omega arith) (omega arith) covered in
+        covers-touches (header_at file k) (base + 64 * (place / 64)) (base + place) (omega arith)
+            (omega arith) covered in
         absurd (unmarked
         (range_kept (λ n. list_any (λ h. touches h (base + 64 * n)) (headers file)) (size / 64) (place / 64) line
         (any_header (λ h. touches h (base + 64 * (place / 64))) file (header_count file) k within touched)))
@@ -79,11 +82,13 @@ lines_below base size file =
     (All-from_get_or (λ line. line < size / 64) (range_with_len 0 (size / 64)) 0
     (λ k below.
     let long : k < size / 64 = omega (arith, length-range_with_len 0 (size / 64)) in
-    let here : get_or (range_with_len 0 (size / 64)) k 0 ≡ k = get_or-range_with_len 0 (size / 64) k 0 long ∙ zero-add k in
+    let here : get_or (range_with_len 0 (size / 64)) k 0
+        ≡ k = get_or-range_with_len 0 (size / 64) k 0 long ∙ zero-add k in
     omega arith))
 
 -- the first break is in the memory or at its end
-break_from : (base size : ℕ) (file : List ℕ) → base ≤ greatest_end base (headers file) → base ≤ first_break base size file
+break_from : (base size : ℕ) (file : List ℕ) → base ≤ greatest_end base (headers file)
+    → base ≤ first_break base size file
 unfolding first_break
 break_from base size file from = omega arith
 
@@ -94,7 +99,8 @@ break_to base size file = omega arith
 end_above : (base : ℕ) (file : List ℕ) → base ≤ greatest_end base (headers file)
 end_above base file = fold_above base (map end_of (filter takes_memory (headers file)))
 
-pub faultless_image : (base size : ℕ) (file : List ℕ) (image : Image) → IsMemory base size → IsFaultless base size file →
+pub faultless_image : (base size : ℕ) (file : List ℕ) (image : Image) → IsMemory base size
+    → IsFaultless base size file →
     image.bytes.items ≡ image_bytes base size file → image.marked.items ≡ marked_lines base size file →
     image.entry ≡ entry_of file → image.heap ≡ first_break base size file → IsImage base size image
 faultless_image base size file image memory faultless bytes marked entry heap = record {
@@ -117,6 +123,7 @@ faultless_image base size file image memory faultless bytes marked entry heap = 
     | inl below ↦ omega arith
     | inr late ↦ absurd (faultless Entry (inr (inr late)))
   ];
-  heap_from = let from : base ≤ first_break base size file = break_from base size file (end_above base file) in omega arith;
+  heap_from = let from : base ≤ first_break base size file = break_from base size file
+      (end_above base file) in omega arith;
   heap_to = let to : first_break base size file ≤ base + size = break_to base size file in omega arith;
 }

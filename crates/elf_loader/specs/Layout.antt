@@ -41,7 +41,8 @@ touches header address = is_load header && meets header.address header.file_size
 -- the numbers of the lines of 64 bytes, counted from `base`, that have a byte of a file part
 unfoldable pub marked_lines : ℕ → ℕ → List ℕ → List ℕ
 marked_lines base size file =
-    filter (λ line. list_any (λ header. touches header (base + 64 * line)) (headers file)) (range_with_len 0 (size / 64))
+    filter (λ line. list_any (λ header. touches header (base + 64 * line)) (headers file))
+        (range_with_len 0 (size / 64))
 
 -- whether a segment is a PT_LOAD that takes memory
 abbrev pub takes_memory : ProgramHeader → Bool
@@ -55,7 +56,8 @@ end_of header = header.address + header.memory_size
 abbrev pub greatest_end : ℕ → List ProgramHeader → ℕ
 greatest_end base some = fold max base (map end_of (filter takes_memory some))
 
--- where the heap begins: the least multiple of 16 not below any end of a segment that takes memory, but at most the memory's end
+-- where the heap begins: the least multiple of 16 not below any end of a segment that takes memory, but at most the
+-- memory's end
 unfoldable pub first_break : ℕ → ℕ → List ℕ → ℕ
 first_break base size file = min (next_multiple_of (greatest_end base (headers file)) 16) (base + size)
 

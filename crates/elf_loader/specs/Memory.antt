@@ -8,7 +8,8 @@ pub record IsImage (base size : ℕ) (image : Image) : Type 0 where
   pub bytes : vec_len image.bytes ≡ size
   pub marked_rise : IsStrictlyIncreasing image.marked.items
   pub marked_below : All (λ line. line < size / 64) image.marked.items
-  pub blank : (place : ℕ) → place < size → ¬ Contains image.marked.items (place / 64) → slice_index image.bytes.items place ≡ 0
+  pub blank : (place : ℕ) → place < size → ¬ Contains image.marked.items (place / 64)
+      → slice_index image.bytes.items place ≡ 0
   pub entry_aligned : image.entry % 4 ≡ 0
   pub entry_from : base ≤ image.entry
   pub entry_below : image.entry < base + size

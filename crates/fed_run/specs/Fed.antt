@@ -14,7 +14,8 @@ use Rattle.rv32_core.specs.declared.outcome.Ended.TheVariants.{No, Exit, Trap}
 use Rattle.rv32_core.specs.declared.outcome.TrapKind.TheVariants.{FetchFault}
 use Rattle.data_cache.specs.CacheLists.{Sets, needs, keeps, set_of, sets_after, line_in}
 
--- What stands behind a machine that is fed: its list of bytes, which of its lines are kept, and the lines that are left.
+-- What stands behind a machine that is fed: its list of bytes, which of its lines are kept, and the lines that are
+-- left.
 pub record Feed : Type 0 where
   pub memory : List ℕ
   pub sets : Sets

@@ -38,6 +38,7 @@ read_more radix text index number byte rest reading low here behind below =
     let more : digits_after radix number (byte ∷ rest) ≡ digits_after radix 0 text =
     ap (digits_after radix number) (sym here) ∙ reading.rest in
     record {
-      rest = rw behind (sym (if_true (nat_lt (digit_value byte) radix) (lt-ltb (digit_value byte) radix below) _ _) ∙ more);
+      rest = rw behind (sym (if_true (nat_lt (digit_value byte) radix) (lt-ltb (digit_value byte) radix below) _ _)
+          ∙ more);
       small = below_more number index radix (digit_value byte) reading.small low below;
     }

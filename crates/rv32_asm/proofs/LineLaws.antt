@@ -133,5 +133,6 @@ last_of_lines [] e = refl
 last_of_lines (byte ∷ bytes) e = last_more byte bytes (last_of_lines bytes) (byte == 10) e
 
 -- a slice's rest
-pub rest_from : (text : List ℕ) (count : ℕ) → take (length text - (count + 1)) (drop (count + 1) text) ≡ drop (suc count) text
+pub rest_from : (text : List ℕ) (count : ℕ) → take (length text - (count + 1)) (drop (count + 1) text)
+    ≡ drop (suc count) text
 rest_from text count = grind (arith, common_steps)

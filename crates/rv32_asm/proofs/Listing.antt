@@ -14,7 +14,8 @@ use Rattle.rv32_asm.specs.declared.fault.AsmKind.TheVariants as kind
 
 -- looked up in the map's entries, and in the list
 pub looked_up : {S : Type 0} (labels : IndexMap (Bor (List ℕ)) ℕ S) (name : List ℕ) (entries : List (Bor (List ℕ) × ℕ))
-    → get_by (λ key. bytes_eq name key.now) (with_entries labels entries) ≡ place_of name (labels_of (with_entries labels entries))
+    → get_by (λ key. bytes_eq name key.now) (with_entries labels entries)
+        ≡ place_of name (labels_of (with_entries labels entries))
 looked_up labels name [] = refl
 looked_up labels name (entry ∷ entries) =
     ap (cond (bytes_eq name entry.0.now) (Some entry.1)) (looked_up labels name entries)
@@ -30,7 +31,8 @@ none_of (Some place) fresh = absurd (cc)
 none_of None fresh = refl
 
 -- a label that is a name and isn't defined yet goes last
-pub defined : {S : Type 0} (labels new : IndexMap (Bor (List ℕ)) ℕ S) (label : Option (Bor (List ℕ))) (name : Bor (List ℕ))
+pub defined : {S : Type 0} (labels new : IndexMap (Bor (List ℕ)) ℕ S) (label : Option (Bor (List ℕ)))
+    (name : Bor (List ℕ))
     (place : ℕ) → label ≡ Some name → is_name name.now ≡ true → is_some (place_of name.now (labels_of labels)) ≡ false
     → new.entries ≡ insert_entry (λ one other. bytes_eq one.now other.now) labels.entries name place
     → labelled (text_view label) place (labels_of labels) ≡ Ok (labels_of new)
@@ -45,4 +47,5 @@ defined labels new label name place is named fresh entries =
 
     listed : labels_of new ≡ labels_of labels ++ (name.now, place) ∷ []
     listed =
-        rw (entries, insert_entry-new (λ one other. bytes_eq one.now other.now) labels name place absent, map-append) refl
+        rw (entries, insert_entry-new (λ one other. bytes_eq one.now other.now) labels name place absent,
+            map-append) refl

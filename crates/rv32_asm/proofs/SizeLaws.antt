@@ -59,7 +59,8 @@ two_words : (one two : ℕ) → length (to_le_bytes w32 one ++ to_le_bytes w32 t
 two_words one two = refl
 
 puts_length : (rd : ℕ) (word : Result ℕ AsmKind) (more : List ℕ)
-    → (word >>> λ w. Ok (to_le_bytes w32 (encoded (upper_of rd w)) ++ to_le_bytes w32 (encoded (lower_of rd w)))) ≡ Ok more
+    → (word >>> λ w. Ok (to_le_bytes w32 (encoded (upper_of rd w)) ++ to_le_bytes w32 (encoded (lower_of rd w))))
+        ≡ Ok more
     → length more ≡ 8
 puts_length rd (Ok w) more is =
     ap length (sym (ok_of _ more is)) ∙ two_words (encoded (upper_of rd w)) (encoded (lower_of rd w))
@@ -83,7 +84,8 @@ four_length place (Ok v) more is = words_length (word_of place v) more is
 four_length place (Err wrong) more is = absurd (cc)
 
 -- a statement has its size
-sized : (statement : Statement) (place : ℕ) (labels : Labels) (more : List ℕ) → bytes_of statement place labels ≡ Ok more
+sized : (statement : Statement) (place : ℕ) (labels : Labels) (more : List ℕ)
+    → bytes_of statement place labels ≡ Ok more
     → length more ≡ size statement place
 sized (Plain instr) place labels more is = instruction_length place (Some instr) more is
 sized (Numbered instr number) place labels more is = instruction_length place (numbered instr number) more is
@@ -119,12 +121,14 @@ counted : (at before : ℕ) (labels after_labels : Labels) (found : Option State
 counted at before labels after_labels found after more measures values =
     let same : length more ≡ size_of found (at + before) = found_sized found (at + before) labels more values in
     let counts : after.count ≡ before + size_of found (at + before) = grown_counts at _ after_labels after measures in
-    let within : at + (before + size_of found (at + before)) ≤ 4_294_901_760 = grown_within at _ after_labels after measures in
+    let within : at + (before + size_of found (at + before))
+        ≤ 4_294_901_760 = grown_within at _ after_labels after measures in
     record { count = counts ∙ ap (λ n. before + n) (sym same); within = omega (arith, counts, within) }
 
 line_steps : (at before : ℕ) (labels : Labels) (text : Bool) (named : Result Labels AsmKind)
     (found : Result (Option Statement) AsmKind) (after : Measure) (more : List ℕ)
-    → (if text then (named >>> λ ls. found >>> λ s. grown at (before + size_of s (at + before)) ls) else Err kind.Byte) ≡ Ok after
+    → (if text then (named >>> λ ls. found >>> λ s. grown at (before + size_of s (at + before)) ls) else Err kind.Byte)
+        ≡ Ok after
     → (found >>> λ s. bytes_of_found s (at + before) labels) ≡ Ok more → IsCounted at before after more
 line_steps at before labels true (Ok ls) (Ok s) after more measures values =
     counted at before labels ls s after more measures values
@@ -152,7 +156,8 @@ pub record IsStepped (at number : ℕ) (rest : List (List ℕ)) (new : List ℕ)
   pub within : at + length new ≤ 4_294_901_760
 
 module _ (at number : ℕ) (line : List ℕ) (rest : List (List ℕ)) (labels : Labels) (bytes : List ℕ) where
-  track_step : (defined ends : Labels) (count : ℕ) (m : Result Measure AsmKind) (v : Result (List ℕ) AsmKind) (new : List ℕ)
+  track_step : (defined ends : Labels) (count : ℕ) (m : Result Measure AsmKind)
+      (v : Result (List ℕ) AsmKind) (new : List ℕ)
       → ((after : Measure) (more : List ℕ) → m ≡ Ok after → v ≡ Ok more → IsCounted at (length bytes) after more)
       → (in_line number m >>> first_pass at (number + 1) rest) ≡ Ok (measure_of ends count)
       → behind_bytes bytes v ≡ Ok new → IsStepped at number rest new count
@@ -160,7 +165,8 @@ module _ (at number : ℕ) (line : List ℕ) (rest : List (List ℕ)) (labels : 
       let counted : IsCounted at (length bytes) after more = sizes after more refl refl in
       let same : bytes ++ more ≡ new = ok_of (bytes ++ more) new values in
       let long : after.count ≡ length new = counted.count ∙ sym (length-append bytes more) ∙ ap length same in
-      let P : ℕ → Type 0 = λ n. first_pass at (number + 1) rest (measure_of after.labels n) ≡ Ok (measure_of ends count) in
+      let P : ℕ → Type 0 = λ n. first_pass at (number + 1) rest (measure_of after.labels n)
+          ≡ Ok (measure_of ends count) in
       let Q : ℕ → Type 0 = λ n. at + n ≤ 4_294_901_760 in
       record {
         track = record { defined = after.labels; ends = ends; passes = subst P long passes };
@@ -217,12 +223,14 @@ pub gives_stop : (what : Problem) (number : ℕ) (meant : Result (List ℕ) AsmK
     → ((wrong : AsmKind) → meant ≡ Err wrong → whole ≡ Err (Bad number wrong))
     → GivesProgram {X = List ℕ} (λ x. x) (Err fault) whole
 gives_stop (problem.Kind wrong) number meant whole fault is gives stops =
-    let P : AsmFault → Type 0 = λ f. GivesProgram {X = List ℕ} (λ x. x) (Err f) whole in subst P (sym is) (stops wrong gives)
+    let P : AsmFault → Type 0 = λ f. GivesProgram {X = List ℕ} (λ x. x) (Err f) whole
+        in subst P (sym is) (stops wrong gives)
 gives_stop problem.NoMemory number meant whole fault is gives stops =
     let P : AsmFault → Type 0 = λ f. GivesProgram {X = List ℕ} (λ x. x) (Err f) whole in subst P (sym is) tt
 
 -- what is left behind a line
-pub left_less : (rest : Option (Bor (List ℕ))) (count : ℕ) → IfSome rest (λ r. length r.now < count) → left_of rest ≤ count
+pub left_less : (rest : Option (Bor (List ℕ))) (count : ℕ) → IfSome rest (λ r. length r.now < count)
+    → left_of rest ≤ count
 left_less (Some text) count shorter = omega (arith, shorter)
 left_less None count shorter = omega arith
 

@@ -39,7 +39,8 @@ place_outside stop Escaped (byte ∷ bytes) = suc (place_outside stop (quote_aft
 abbrev pub without_comment : List ℕ → List ℕ
 without_comment line = take (place_outside 35 Outside line) line
 
--- A line without its comment: the label, which is what stands before the first colon, and the rest. Blanks in front of both
+-- A line without its comment: the label, which is what stands before the first colon, and the rest. Blanks in front of
+-- both
 -- are dropped.
 pub record Parts : Type 0 where
   pub label : Option (List ℕ)

@@ -1,4 +1,5 @@
--- The relation from a text to a file's program bytes or its first fault: a first pass for places, labels and sizes, and a
+-- The relation from a text to a file's program bytes or its first fault: a first pass for places, labels and sizes, and
+-- a
 -- second one for values.
 use Rattle.std.specs.Prelude.{ℕ, ◌+◌, ◌-◌, ◌*◌, ◌%◌, ◌^◌, ◌==◌, nat_le, ℤ, pos, neg_ℤ, ◌-ℤ◌, unsigned_abs, Bool, ◌&&◌, not, if◌then◌else◌, List, [], ◌∷◌, ◌++◌, length, take, drop, replicate, Option, Some, None, option_map, ok_or, Result, Ok, Err, bytes_eq, false}
 use Rattle.std.specs.Option.{is_some}

@@ -33,7 +33,8 @@ two_bytes [] count = absurd (omega arith)
 two_bytes (a ∷ []) count = absurd (omega arith)
 two_bytes (a ∷ b ∷ c ∷ more) count = absurd (omega arith)
 
-four_bytes : (bytes : List ℕ) → length bytes ≡ 4 → from_le_bytes w32 (bytes ++ drop 4 no_bytes) ≡ from_le_bytes w32 bytes
+four_bytes : (bytes : List ℕ) → length bytes ≡ 4 → from_le_bytes w32 (bytes ++ drop 4 no_bytes)
+    ≡ from_le_bytes w32 bytes
 four_bytes (a ∷ b ∷ c ∷ d ∷ []) count = refl
 four_bytes [] count = absurd (omega arith)
 four_bytes (a ∷ []) count = absurd (omega arith)
@@ -50,7 +51,8 @@ padded Lw bytes count = four_bytes bytes count
 padded Lbu bytes count = one_byte bytes count
 padded Lhu bytes count = two_bytes bytes count
 
-pub loaded-is : (op : LoadOp) (width address : ℕ) (bytes : List ℕ) → width ≡ load_width op → IsAnswer (Load address (load_width op)) bytes
+pub loaded-is : (op : LoadOp) (width address : ℕ) (bytes : List ℕ) → width ≡ load_width op
+    → IsAnswer (Load address (load_width op)) bytes
     → from_le_bytes w32 (bytes ++ drop width no_bytes) ≡ from_le_bytes w32 bytes
 loaded-is op width address bytes is answer = rw is (padded op bytes answer.0)
 
@@ -61,7 +63,8 @@ one_below [] count low = absurd (omega arith)
 one_below (a ∷ b ∷ more) count low = absurd (omega arith)
 
 two_below : (bytes : List ℕ) → length bytes ≡ 2 → All (λ b. b < 256) bytes → from_le_bytes w32 bytes < 2 ^ 16
-two_below (a ∷ b ∷ []) count low = let first : a < 256 = low 0 0 (omega arith) in let second : b < 256 = low 1 0 (omega arith) in omega arith
+two_below (a ∷ b ∷ []) count low = let first : a < 256 = low 0 0 (omega arith) in let second : b
+    < 256 = low 1 0 (omega arith) in omega arith
 two_below [] count low = absurd (omega arith)
 two_below (a ∷ []) count low = absurd (omega arith)
 two_below (a ∷ b ∷ c ∷ more) count low = absurd (omega arith)

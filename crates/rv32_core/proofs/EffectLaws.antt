@@ -22,7 +22,8 @@ use Rattle.rv32_core.specs.declared.effect.Effect.TheVariants.{Passes, Jumps, Lo
 use Rattle.rv32_core.specs.declared.outcome.TrapKind.TheVariants.{FetchMisaligned, LoadMisaligned, StoreMisaligned, LoadFault, StoreFault, OutputLimit}
 
 -- a buffer that isn't empty begins at the memory's base or above it
-pub is_buffer-above : (core : CoreState) (address count : ℕ) → IsTrue (is_buffer core address count) → 0 < count → core.base ≤ address
+pub is_buffer-above : (core : CoreState) (address count : ℕ) → IsTrue (is_buffer core address count) → 0 < count
+    → core.base ≤ address
 is_buffer-above core address count fits some = grind (arith, nat_tests)
 
 -- and ends at the memory's end or below it
@@ -33,7 +34,8 @@ is_buffer-below core address count fits some = grind (arith, nat_tests)
 -- a buffer is a range
 pub is_buffer-range : (core : CoreState) (address count : ℕ) → IsTrue (is_buffer core address count)
     → address < 2 ^ 32 → core.base + core.size < 2 ^ 32 → IsRange core.base core.size address count
-is_buffer-range core address zero fits fine low = record { above = λ some. absurd (omega arith); below = λ some. absurd (omega arith); ends = omega arith }
+is_buffer-range core address zero fits fine low = record { above = λ some. absurd (omega arith);
+    below = λ some. absurd (omega arith); ends = omega arith }
 is_buffer-range core address (suc n) fits fine low =
     let end : address + suc n ≤ core.base + core.size = is_buffer-below core address (suc n) fits (omega arith) in
     record { above = is_buffer-above core address (suc n) fits; below = λ _. end; ends = omega arith }
@@ -44,7 +46,8 @@ is_buffer-front : (core : CoreState) (address count less : ℕ) → is_buffer co
 is_buffer-front core address count less fits front = grind (arith, nat_tests)
 
 -- bytes that are inside begin at the memory's base or above it
-pub is_inside-above : (core : CoreState) (address count : ℕ) → IsTrue (is_inside core address count) → core.base ≤ address
+pub is_inside-above : (core : CoreState) (address count : ℕ) → IsTrue (is_inside core address count)
+    → core.base ≤ address
 is_inside-above core address count fits = grind (arith, nat_tests)
 
 -- and end at the memory's end or below it
@@ -85,7 +88,8 @@ store-in_line machine op address value fine = record {
 }
 
 -- what holds of both effects that a test chooses from
-fine-if : (machine : Machine) (test : Bool) (x y : Effect) → (test ≡ true → IsEffect machine x) → (test ≡ false → IsEffect machine y)
+fine-if : (machine : Machine) (test : Bool) (x y : Effect) → (test ≡ true → IsEffect machine x)
+    → (test ≡ false → IsEffect machine y)
     → IsEffect machine (if test then x else y)
 fine-if machine true x y f g = f refl
 fine-if machine false x y f g = g refl
@@ -99,7 +103,8 @@ read_of-fine machine =
     let chosen : Effect = if is_buffer core address count then read else Answers bad_buffer in
     fine-if machine (register core 10 == 0) chosen (Answers bad_file)
     (λ _. fine-if machine (is_buffer core address count) read (Answers bad_buffer)
-    (λ fits. (is_buffer-front core address count (min count (bytes_left machine.files)) fits (omega arith), omega arith)) (λ _. tt))
+    (λ fits. (is_buffer-front core address count (min count (bytes_left machine.files)) fits (omega arith),
+        omega arith)) (λ _. tt))
     (λ _. tt)
 
 write_of-fine : (machine : Machine) → IsEffect machine (write_of machine)
@@ -113,13 +118,15 @@ write_of-fine machine =
     fine-if machine ((register core 10 == 1) || (register core 10 == 2)) chosen (Answers bad_file)
     (λ _. fine-if machine (is_buffer core address count) write (Answers bad_buffer)
     (λ fits. fine-if machine room (Writes address count) (Traps OutputLimit)
-    (λ fit. (is_buffer-front core address count count fits (omega arith), grind (arith, nat_tests))) (λ _ e. absurd (cc))) (λ _. tt))
+    (λ fit. (is_buffer-front core address count count fits (omega arith), grind (arith, nat_tests)))
+        (λ _ e. absurd (cc))) (λ _. tt))
     (λ _. tt)
 
 break_of-fine : (machine : Machine) → IsEffect machine (break_of machine.core)
 break_of-fine machine =
     let core = machine.core in
-    fine-if machine (takes_break core (register core 10)) (Breaks (register core 10)) (Answers core.break_now) (λ _. tt) (λ _. tt)
+    fine-if machine (takes_break core (register core 10)) (Breaks (register core 10)) (Answers core.break_now)
+        (λ _. tt) (λ _. tt)
 
 call_of-fine : (machine : Machine) → IsEffect machine (call_of machine)
 call_of-fine machine =
@@ -130,19 +137,24 @@ call_of-fine machine =
     fine-if machine (register core 17 == 63) (read_of machine) write (λ _. read_of-fine machine)
     (λ _. fine-if machine (register core 17 == 64) (write_of machine) exit (λ _. write_of-fine machine)
     (λ _. fine-if machine (register core 17 == 93) (Exits (register core 10 % 256)) break (λ _. tt)
-    (λ _. fine-if machine (register core 17 == 214) (break_of core) (Answers no_call) (λ _. break_of-fine machine) (λ _. tt))))
+    (λ _. fine-if machine (register core 17 == 214) (break_of core) (Answers no_call)
+        (λ _. break_of-fine machine) (λ _. tt))))
 
 jump_to-fine : (machine : Machine) (index target : ℕ) → index < 32 → IsEffect machine (jump_to index target)
 jump_to-fine machine index target low =
-    fine-if machine (target % 4 == 0) (Jumps index target) (Traps FetchMisaligned) (λ aligned. (low, grind (arith, nat_tests))) (λ _ e. absurd (cc))
+    fine-if machine (target % 4 == 0) (Jumps index target) (Traps FetchMisaligned)
+        (λ aligned. (low, grind (arith, nat_tests))) (λ _ e. absurd (cc))
 
-branch_of-fine : (machine : Machine) (op : BranchOp) (rs1 rs2 : ℕ) (offset : ℤ) → IsEffect machine (branch_of machine.core op rs1 rs2 offset)
+branch_of-fine : (machine : Machine) (op : BranchOp) (rs1 rs2 : ℕ) (offset : ℤ)
+    → IsEffect machine (branch_of machine.core op rs1 rs2 offset)
 branch_of-fine machine op rs1 rs2 offset =
     let core = machine.core in
-    fine-if machine (branch_meaning op (register core rs1) (register core rs2)) (jump_to 0 (target_of core.pc offset)) Passes
+    fine-if machine (branch_meaning op (register core rs1) (register core rs2))
+        (jump_to 0 (target_of core.pc offset)) Passes
     (λ _. jump_to-fine machine 0 (target_of core.pc offset) (omega arith)) (λ _. tt)
 
-load_from-fine : (machine : Machine) (op : LoadOp) (index address : ℕ) → index < 32 → IsEffect machine (load_from machine.core op index address)
+load_from-fine : (machine : Machine) (op : LoadOp) (index address : ℕ) → index < 32
+    → IsEffect machine (load_from machine.core op index address)
 load_from-fine machine op index address low =
     let inside : Bool = is_inside machine.core address (load_width op) in
     let load : Effect = if inside then Loads op index address else Traps LoadFault in
@@ -150,7 +162,8 @@ load_from-fine machine op index address low =
     (λ aligned. fine-if machine inside (Loads op index address) (Traps LoadFault)
     (λ fits. (low, grind (arith, nat_tests), grind (arith, nat_tests))) (λ _ e. absurd (cc))) (λ _ e. absurd (cc))
 
-store_at-fine : (machine : Machine) (op : StoreOp) (address value : ℕ) → IsEffect machine (store_at machine.core op address value)
+store_at-fine : (machine : Machine) (op : StoreOp) (address value : ℕ)
+    → IsEffect machine (store_at machine.core op address value)
 store_at-fine machine op address value =
     let inside : Bool = is_inside machine.core address (store_width op) in
     let store : Effect = if inside then Stores op address value else Traps StoreFault in
@@ -197,7 +210,8 @@ register-fine machine (Auipc rd imm) low = low
 register-fine machine (Jal rd offset) low = jump_to-fine machine rd (target_of machine.core.pc offset) low
 register-fine machine (Jalr rd rs1 imm) low = jump_to-fine machine rd (jump_target (register machine.core rs1) imm) low
 register-fine machine (Branch op rs1 rs2 offset) low = branch_of-fine machine op rs1 rs2 offset
-register-fine machine (Load op rd rs1 imm) low = load_from-fine machine op rd (address_of (register machine.core rs1) imm) low
+register-fine machine (Load op rd rs1 imm) low = load_from-fine machine op rd
+    (address_of (register machine.core rs1) imm) low
 register-fine machine (Store op rs1 rs2 imm) low =
     store_at-fine machine op (address_of (register machine.core rs1) imm) (register machine.core rs2)
 register-fine machine (OpImm op rd rs1 imm) low = low

@@ -28,13 +28,15 @@ run_items-none cost machine memory = refl
 
 pub run_items-suc : (n cost : ℕ) (machine : Machine) (memory : List ℕ)
     → run_items (suc n) cost machine memory
-    ≡ items_after cost (step_lines machine memory) ++ items_from (run_items n) (flat_step machine memory) ((flat_step machine memory).done.ended)
+    ≡ items_after cost (step_lines machine memory) ++ items_from (run_items n) (flat_step machine memory)
+        ((flat_step machine memory).done.ended)
 unfolding run_items
 run_items-suc n cost machine memory = refl
 
 pub run_items-next : (n cost : ℕ) (machine next : Machine) (memory after : List ℕ) (done : Done)
     → flat_step machine memory ≡ record { machine = next; memory = after; done = done } → done.ended ≡ No
-    → run_items (suc n) cost machine memory ≡ items_after cost (step_lines machine memory) ++ run_items n done.cost next after
+    → run_items (suc n) cost machine memory ≡ items_after cost (step_lines machine memory)
+        ++ run_items n done.cost next after
 run_items-next n cost machine next memory after done e goes =
     let step : FlatStep = record { machine = next; memory = after; done = done } in
     run_items-suc n cost machine memory
@@ -64,7 +66,8 @@ cost_after-none cost machine memory = refl
 
 cost_after-suc : (n cost : ℕ) (machine : Machine) (memory : List ℕ)
     → cost_after (suc n) cost machine memory
-    ≡ cost_after n ((flat_step machine memory).done.cost) ((flat_step machine memory).machine) ((flat_step machine memory).memory)
+    ≡ cost_after n ((flat_step machine memory).done.cost) ((flat_step machine memory).machine)
+        ((flat_step machine memory).memory)
 unfolding cost_after
 cost_after-suc n cost machine memory = refl
 
@@ -91,12 +94,15 @@ parts_from n more front step (Trap kind pc) later budget = absurd (cc)
 
 run_items-beyond : (n more cost : ℕ) (machine : Machine) (memory : List ℕ) → (flat_run n machine memory).ending ≡ Budget
     → run_items (n + more) cost machine memory
-    ≡ run_items n cost machine memory ++ items_beyond more (cost_after n cost machine memory) (flat_run n machine memory)
+    ≡ run_items n cost machine memory ++ items_beyond more (cost_after n cost machine memory)
+        (flat_run n machine memory)
 run_items-beyond zero more cost machine memory budget =
     ap (λ n. run_items n cost machine memory) (let e : 0 + more ≡ more = omega arith in e)
     ∙ ap (λ n. run_items more n machine memory) (sym (cost_after-none cost machine memory))
-    ∙ ap (λ (run : FlatRun). items_beyond more (cost_after 0 cost machine memory) run) (sym (flat_run-zero machine memory))
-    ∙ ap (λ l. l ++ items_beyond more (cost_after 0 cost machine memory) (flat_run 0 machine memory)) (sym (run_items-none cost machine memory))
+    ∙ ap (λ (run : FlatRun). items_beyond more (cost_after 0 cost machine memory) run)
+        (sym (flat_run-zero machine memory))
+    ∙ ap (λ l. l ++ items_beyond more (cost_after 0 cost machine memory) (flat_run 0 machine memory))
+        (sym (run_items-none cost machine memory))
 run_items-beyond (suc n) more cost machine memory budget =
     let step : FlatStep = flat_step machine memory in
     let front : List LineItem = items_after cost (step_lines machine memory) in
@@ -104,17 +110,23 @@ run_items-beyond (suc n) more cost machine memory budget =
     ap (λ (run : FlatRun). run.ending) (sym (flat_run-suc n machine memory)) ∙ budget in
     ap (λ k. run_items k cost machine memory) (let e : suc n + more ≡ suc (n + more) = omega arith in e)
     ∙ run_items-suc (n + more) cost machine memory
-    ∙ parts_from n more front step (step.done.ended) (run_items-beyond n more step.done.cost step.machine step.memory) whole
-    ∙ ap (λ (run : FlatRun). (front ++ items_from (run_items n) step (step.done.ended)) ++ items_beyond more (cost_after n step.done.cost step.machine step.memory) run)
+    ∙ parts_from n more front step (step.done.ended)
+        (run_items-beyond n more step.done.cost step.machine step.memory) whole
+    ∙ ap (λ (run : FlatRun). (front ++ items_from (run_items n) step (step.done.ended))
+        ++ items_beyond more (cost_after n step.done.cost step.machine step.memory) run)
     (sym (flat_run-suc n machine memory))
-    ∙ ap (λ k. (front ++ items_from (run_items n) step (step.done.ended)) ++ items_beyond more k (flat_run (suc n) machine memory))
+    ∙ ap (λ k. (front ++ items_from (run_items n) step (step.done.ended))
+        ++ items_beyond more k (flat_run (suc n) machine memory))
     (sym (cost_after-suc n cost machine memory))
-    ∙ ap (λ l. l ++ items_beyond more (cost_after (suc n) cost machine memory) (flat_run (suc n) machine memory)) (sym (run_items-suc n cost machine memory))
+    ∙ ap (λ l. l ++ items_beyond more (cost_after (suc n) cost machine memory) (flat_run (suc n) machine memory))
+        (sym (run_items-suc n cost machine memory))
 
-pub run_items-parts : (n more cost : ℕ) (machine : Machine) (memory : List ℕ) → (flat_run n machine memory).ending ≡ Budget
+pub run_items-parts : (n more cost : ℕ) (machine : Machine) (memory : List ℕ)
+    → (flat_run n machine memory).ending ≡ Budget
     → run_items (n + more) cost machine memory
     ≡ run_items n cost machine memory
-    ++ run_items more (cost_after n cost machine memory) ((flat_run n machine memory).machine) ((flat_run n machine memory).memory)
+    ++ run_items more (cost_after n cost machine memory) ((flat_run n machine memory).machine)
+        ((flat_run n machine memory).memory)
 run_items-parts n more cost machine memory budget = run_items-beyond n more cost machine memory budget
 
 -- ---- the image's items
@@ -132,7 +144,8 @@ pub image_items-uses : (cost : ℕ) (marked : List ℕ)
 image_items-uses cost [] = ap (map (λ (item : LineItem). item.use_of)) (image_items-none cost)
 image_items-uses cost (line ∷ marked) =
     ap (map (λ (item : LineItem). item.use_of)) (image_items-next cost line marked)
-    ∙ ap (λ l. (let first : LineUse = record { line = line; kind = WholeWrite } in first) ∷ l) (image_items-uses 1 marked)
+    ∙ ap (λ l. (let first : LineUse = record { line = line; kind = WholeWrite } in first) ∷ l)
+        (image_items-uses 1 marked)
 
 -- ---- lines rise, and lie in the memory
 -- the one use is of a lower line
@@ -143,7 +156,8 @@ Below first later = first.line < later.line
 abbrev pub InMemory : ℕ → LineUse → Type 0
 InMemory size one = one.line < size / 64
 
-lines_from-above : (kind : LineKind) (first : LineUse) (line n : ℕ) → first.line < line → All (Below first) (used kind (lines_from line n))
+lines_from-above : (kind : LineKind) (first : LineUse) (line n : ℕ) → first.line < line
+    → All (Below first) (used kind (lines_from line n))
 lines_from-above kind first line zero h =
     subst (λ l. All (Below first) (used kind l)) (sym (lines_from-none line)) (All-nil (Below first))
 lines_from-above kind first line (suc n) h =
@@ -162,7 +176,8 @@ lines_from-rising kind line (suc n) =
     (AllPairs-cons Below first (used kind (lines_from (line + 1) n))
     (lines_from-above kind first (line + 1) n (omega arith)) (lines_from-rising kind (line + 1) n))
 
-lines_of-rising : (core : CoreState) (kind : LineKind) (address count : ℕ) → AllPairs Below (used kind (lines_of core address count))
+lines_of-rising : (core : CoreState) (kind : LineKind) (address count : ℕ)
+    → AllPairs Below (used kind (lines_of core address count))
 lines_of-rising core kind address zero = pairs-none
 lines_of-rising core kind address (suc n) =
     subst (λ l. AllPairs Below (used kind l)) (sym (lines_of-some core address (suc n) (omega arith)))
@@ -184,7 +199,8 @@ data_lines-rising core (Traps kind) = pairs-none
 pub word_lines-rising : (machine : Machine) (word : ℕ) → AllPairs Below (word_lines machine word)
 word_lines-rising machine word = data_lines-rising machine.core (effect_of_word machine word)
 
-lines_from-inside : (size : ℕ) (kind : LineKind) (line n : ℕ) → line + n ≤ size / 64 → All (InMemory size) (used kind (lines_from line n))
+lines_from-inside : (size : ℕ) (kind : LineKind) (line n : ℕ) → line + n ≤ size / 64
+    → All (InMemory size) (used kind (lines_from line n))
 lines_from-inside size kind line zero h =
     subst (λ l. All (InMemory size) (used kind l)) (sym (lines_from-none line)) (All-nil (InMemory size))
 lines_from-inside size kind line (suc n) h =
@@ -192,14 +208,16 @@ lines_from-inside size kind line (suc n) h =
     (All-cons (InMemory size) (record { line = line; kind = kind }) (used kind (lines_from (line + 1) n)) (omega arith)
     (lines_from-inside size kind (line + 1) n (omega arith)))
 
-lines_of-inside : (core : CoreState) (kind : LineKind) (address count : ℕ) → core.size % 64 ≡ 0 → IsPlace core address count
+lines_of-inside : (core : CoreState) (kind : LineKind) (address count : ℕ) → core.size % 64 ≡ 0
+    → IsPlace core address count
     → All (InMemory core.size) (used kind (lines_of core address count))
 lines_of-inside core kind address zero lines place = All-nil (InMemory core.size)
 lines_of-inside core kind address (suc n) lines place =
     let low : core.base ≤ address = place.above (omega arith) in
     let high : address + suc n ≤ core.base + core.size = place.below (omega arith) in
     subst (λ l. All (InMemory core.size) (used kind l)) (sym (lines_of-some core address (suc n) (omega arith)))
-    (lines_from-inside core.size kind (line_of core address) (line_of core (address + suc n - 1) + 1 - line_of core address) (omega arith))
+    (lines_from-inside core.size kind (line_of core address) (line_of core (address + suc n - 1)
+        + 1 - line_of core address) (omega arith))
 
 data_lines-inside : (machine : Machine) (effect : Effect) → machine.core.size % 64 ≡ 0 → IsEffect machine effect
     → All (InMemory machine.core.size) (data_lines machine.core effect)
@@ -223,7 +241,8 @@ size-lines : (base size : ℕ) → IsMemory base size → size % 64 ≡ 0
 size-lines base size memory = let pages : size % 4096 ≡ 0 = memory.size_pages in omega arith
 
 -- the lines of a step, by whether its fetch is inside
-step_lines-if : (core : CoreState) (lower : List LineUse) (test : Bool) → core.size % 64 ≡ 0 → (test ≡ true → IsPlace core core.pc 4)
+step_lines-if : (core : CoreState) (lower : List LineUse) (test : Bool) → core.size % 64 ≡ 0
+    → (test ≡ true → IsPlace core core.pc 4)
     → All (InMemory core.size) lower → All (InMemory core.size) (if test then fetch_line core ∷ lower else [])
 step_lines-if core lower false lines h g = All-nil (InMemory core.size)
 step_lines-if core lower true lines h g =
@@ -245,7 +264,8 @@ items_after-inside : (size cost : ℕ) (lines : List LineUse) → All (InMemory 
     → All (λ (item : LineItem). item.use_of.line < size / 64) (items_after cost lines)
 items_after-inside size cost [] h = All-nil (λ (item : LineItem). item.use_of.line < size / 64)
 items_after-inside size cost (first ∷ others) h =
-    All-cons (λ (item : LineItem). item.use_of.line < size / 64) (record { cost = cost; use_of = first }) (items_after 0 others)
+    All-cons (λ (item : LineItem). item.use_of.line < size / 64) (record { cost = cost; use_of = first })
+        (items_after 0 others)
     (h 0 first (omega arith)) (items_after-inside size 0 others (λ k d below. h (suc k) d (omega arith)))
 
 -- a step leaves the memory where it is
@@ -278,22 +298,27 @@ effected-size machine memory cost (Exits status) = refl
 effected-size machine memory cost (Traps kind) = refl
 
 -- what holds of both steps that a test chooses from
-pub step-if : (P : FlatStep → Type 0) (test : Bool) (first other : FlatStep) → P first → P other → P (if test then first else other)
+pub step-if : (P : FlatStep → Type 0) (test : Bool) (first other : FlatStep) → P first → P other
+    → P (if test then first else other)
 step-if P true first other h g = h
 step-if P false first other h g = g
 
-pub flat_step-base : (machine : Machine) (memory : List ℕ) → (flat_step machine memory).machine.core.base ≡ machine.core.base
+pub flat_step-base : (machine : Machine) (memory : List ℕ)
+    → (flat_step machine memory).machine.core.base ≡ machine.core.base
 flat_step-base machine memory =
     let word : ℕ = from_le_bytes w32 (bytes_at machine memory machine.core.pc 4) in
     step-if (λ s. s.machine.core.base ≡ machine.core.base) (is_inside machine.core machine.core.pc 4)
-    (effected machine memory (cost_of_word machine word) (effect_of_word machine word)) (effected machine memory 0 (Traps FetchFault))
+    (effected machine memory (cost_of_word machine word) (effect_of_word machine word))
+        (effected machine memory 0 (Traps FetchFault))
     (effected-base machine memory (cost_of_word machine word) (effect_of_word machine word)) refl
 
-pub flat_step-size : (machine : Machine) (memory : List ℕ) → (flat_step machine memory).machine.core.size ≡ machine.core.size
+pub flat_step-size : (machine : Machine) (memory : List ℕ)
+    → (flat_step machine memory).machine.core.size ≡ machine.core.size
 flat_step-size machine memory =
     let word : ℕ = from_le_bytes w32 (bytes_at machine memory machine.core.pc 4) in
     step-if (λ s. s.machine.core.size ≡ machine.core.size) (is_inside machine.core machine.core.pc 4)
-    (effected machine memory (cost_of_word machine word) (effect_of_word machine word)) (effected machine memory 0 (Traps FetchFault))
+    (effected machine memory (cost_of_word machine word) (effect_of_word machine word))
+        (effected machine memory 0 (Traps FetchFault))
     (effected-size machine memory (cost_of_word machine word) (effect_of_word machine word)) refl
 
 items_from-inside : (size : ℕ) (rest : ℕ → Machine → List ℕ → List LineItem) (step : FlatStep) (ended : Ended)
@@ -303,14 +328,16 @@ items_from-inside size rest step No h = h
 items_from-inside size rest step (Exit status) h = All-nil (λ (item : LineItem). item.use_of.line < size / 64)
 items_from-inside size rest step (Trap kind pc) h = All-nil (λ (item : LineItem). item.use_of.line < size / 64)
 
-pub run_items-inside : (n cost base size : ℕ) (machine : Machine) (memory : List ℕ) → machine.core.base ≡ base → machine.core.size ≡ size
+pub run_items-inside : (n cost base size : ℕ) (machine : Machine) (memory : List ℕ) → machine.core.base ≡ base
+    → machine.core.size ≡ size
     → IsMemory base size → All (λ (item : LineItem). item.use_of.line < size / 64) (run_items n cost machine memory)
 run_items-inside zero cost base size machine memory at long fits =
     subst (All (λ (item : LineItem). item.use_of.line < size / 64)) (sym (run_items-none cost machine memory))
     (All-nil (λ (item : LineItem). item.use_of.line < size / 64))
 run_items-inside (suc n) cost base size machine memory at long fits =
     let step : FlatStep = flat_step machine memory in
-    let own : IsMemory machine.core.base machine.core.size = subst (λ b. IsMemory b machine.core.size) (sym at) (subst (IsMemory base) (sym long) fits) in
+    let own : IsMemory machine.core.base machine.core.size = subst
+        (λ b. IsMemory b machine.core.size) (sym at) (subst (IsMemory base) (sym long) fits) in
     let first : All (InMemory size) (step_lines machine memory) =
     subst (λ k. All (InMemory k) (step_lines machine memory)) long (step_lines-inside machine memory own) in
     subst (All (λ (item : LineItem). item.use_of.line < size / 64)) (sym (run_items-suc n cost machine memory))

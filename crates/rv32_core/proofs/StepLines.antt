@@ -30,8 +30,10 @@ pub record IsPlace (core : CoreState) (address count : ℕ) : Type 0 where
   pub below : 0 < count → address + count ≤ core.base + core.size
 
 -- bytes that are inside
-pub is_inside-place : (core : CoreState) (address count : ℕ) → is_inside core address count ≡ true → IsPlace core address count
-is_inside-place core address count inside = record { above = λ _. grind (arith, nat_tests); below = λ _. grind (arith, nat_tests) }
+pub is_inside-place : (core : CoreState) (address count : ℕ) → is_inside core address count ≡ true
+    → IsPlace core address count
+is_inside-place core address count inside = record { above = λ _. grind (arith, nat_tests);
+    below = λ _. grind (arith, nat_tests) }
 
 -- the bytes of a load, of a store, and of a buffer
 pub load-place : (machine : Machine) (op : LoadOp) (index address : ℕ) → IsEffect machine (Loads op index address)
@@ -48,13 +50,15 @@ store-place machine op address value fine = record {
   below = λ _. is_inside-below machine.core address (store_width op) fine.1;
 }
 
-pub is_buffer-place : (core : CoreState) (address count : ℕ) → IsTrue (is_buffer core address count) → IsPlace core address count
+pub is_buffer-place : (core : CoreState) (address count : ℕ) → IsTrue (is_buffer core address count)
+    → IsPlace core address count
 is_buffer-place core address count fits =
     record { above = is_buffer-above core address count fits; below = is_buffer-below core address count fits }
 
 -- ---- what an effect asks for
 -- a load's bytes lie in one line, and so do a store's
-load-line : (core : CoreState) (op : LoadOp) (address : ℕ) → core.base % 64 ≡ 0 → core.base ≤ address → address % load_width op ≡ 0
+load-line : (core : CoreState) (op : LoadOp) (address : ℕ) → core.base % 64 ≡ 0 → core.base ≤ address
+    → address % load_width op ≡ 0
     → lines_of core address (load_width op) ≡ line_of core address ∷ []
 load-line core Lb address lines low whole = lines_of-one core address 1 lines low (omega arith) (omega arith)
 load-line core Lh address lines low whole = lines_of-one core address 2 lines low (omega arith) (omega arith)
@@ -62,7 +66,8 @@ load-line core Lw address lines low whole = lines_of-one core address 4 lines lo
 load-line core Lbu address lines low whole = lines_of-one core address 1 lines low (omega arith) (omega arith)
 load-line core Lhu address lines low whole = lines_of-one core address 2 lines low (omega arith) (omega arith)
 
-store-line : (core : CoreState) (op : StoreOp) (address : ℕ) → core.base % 64 ≡ 0 → core.base ≤ address → address % store_width op ≡ 0
+store-line : (core : CoreState) (op : StoreOp) (address : ℕ) → core.base % 64 ≡ 0 → core.base ≤ address
+    → address % store_width op ≡ 0
     → lines_of core address (store_width op) ≡ line_of core address ∷ []
 store-line core Sb address lines low whole = lines_of-one core address 1 lines low (omega arith) (omega arith)
 store-line core Sh address lines low whole = lines_of-one core address 2 lines low (omega arith) (omega arith)
@@ -80,27 +85,34 @@ store_width-some Sb = omega arith
 store_width-some Sh = omega arith
 store_width-some Sw = omega arith
 
-pub effect_plan-lines : (machine : Machine) (cost : ℕ) (effect : Effect) → machine.core.base % 64 ≡ 0 → IsEffect machine effect
+pub effect_plan-lines : (machine : Machine) (cost : ℕ) (effect : Effect) → machine.core.base % 64 ≡ 0
+    → IsEffect machine effect
     → AsksLines machine.core (effect_plan machine cost effect) (data_lines machine.core effect)
 effect_plan-lines machine cost Passes lines h = refl
 effect_plan-lines machine cost (Sets index value) lines h = refl
 effect_plan-lines machine cost (Jumps index target) lines h = refl
 effect_plan-lines machine cost (Loads op index address) lines h =
     subst (λ l. AsksLines machine.core (effect_plan machine cost (Loads op index address)) (used Read l))
-    (sym (load-line machine.core op address lines ((load-place machine op index address h).above (load_width-some op)) (h.1))) (refl, λ _. refl)
+    (sym (load-line machine.core op address lines ((load-place machine op index address h).above (load_width-some op))
+        (h.1))) (refl, λ _. refl)
 effect_plan-lines machine cost (Stores op address value) lines h =
     subst (λ l. AsksLines machine.core (effect_plan machine cost (Stores op address value)) (used Write l))
-    (sym (store-line machine.core op address lines ((store-place machine op address value h).above (store_width-some op)) (h.0))) (refl, λ _. refl)
+    (sym (store-line machine.core op address lines
+        ((store-place machine op address value h).above (store_width-some op)) (h.0))) (refl, λ _. refl)
 effect_plan-lines machine cost (Answers value) lines h = refl
 effect_plan-lines machine cost (Breaks value) lines h = refl
 effect_plan-lines machine cost (Reads address count) lines h =
     let bytes : List ℕ = slice_of machine.files.input machine.files.position count in
-    AsksLines-last machine.core (λ _. machine) (stores_plan bytes (pieces address count)) (λ _. (after_read machine count, going_on cost))
-    (used Write (lines_of machine.core address count)) (stores_plan-lines machine.core address count bytes lines (is_buffer-above machine.core address count (h.0)))
+    AsksLines-last machine.core (λ _. machine) (stores_plan bytes (pieces address count))
+        (λ _. (after_read machine count, going_on cost))
+    (used Write (lines_of machine.core address count))
+        (stores_plan-lines machine.core address count bytes lines (is_buffer-above machine.core address count (h.0)))
 effect_plan-lines machine cost (Writes address count) lines h =
     AsksLines-last machine.core (λ _. machine) (loads_plan machine.files.output (pieces address count))
     (λ output. (after_write machine output count, going_on cost))
-    (used Read (lines_of machine.core address count)) (loads_plan-lines machine.core address count machine.files.output lines (is_buffer-above machine.core address count (h.0)))
+    (used Read (lines_of machine.core address count))
+        (loads_plan-lines machine.core address count machine.files.output lines
+        (is_buffer-above machine.core address count (h.0)))
 effect_plan-lines machine cost (Exits status) lines h = refl
 effect_plan-lines machine cost (Traps kind) lines h = refl
 
@@ -123,7 +135,8 @@ pub step_plan-outside : (machine : Machine) → is_inside machine.core machine.c
 step_plan-outside machine outside = rw outside refl
 
 -- the lines of a choice are those of what is chosen
-asked-if : {H B A : Type 0} (core : CoreState) (serve : H → Access → List ℕ × H) (test : Bool) (p q : Plan Access (List ℕ) B A) (held : H)
+asked-if : {H B A : Type 0} (core : CoreState) (serve : H → Access
+    → List ℕ × H) (test : Bool) (p q : Plan Access (List ℕ) B A) (held : H)
     (lines more : List LineUse) → asked_lines core serve p held ≡ lines → asked_lines core serve q held ≡ more
     → asked_lines core serve (if test then p else q) held ≡ (if test then lines else more)
 asked-if core serve true p q held lines more h g = h
@@ -138,12 +151,15 @@ step_plan-asked machine memory fits =
     (Ask (Load core.pc 4) machine (λ bytes. word_plan machine (from_le_bytes w32 bytes)))
     (effect_plan machine 0 (Traps FetchFault)) memory (fetch_line core ∷ word_lines machine word) []
     (ap (λ l. fetch_line core ∷ l)
-    (AsksLines-asked core (access_bytes core.base) (word_plan machine word) memory (word_lines machine word) (word_plan-lines machine word fits)))
+    (AsksLines-asked core (access_bytes core.base) (word_plan machine word) memory (word_lines machine word)
+        (word_plan-lines machine word fits)))
     refl
 
 -- ---- what a trap gives
-fault-lines : (machine : Machine) (memory : List ℕ) (cost : ℕ) (effect : Effect) (test : Bool) (pc : ℕ) → IsEffect machine effect
-    → (if test then effected machine memory cost effect else effected machine memory 0 (Traps FetchFault)).done.ended ≡ Trap FetchFault pc
+fault-lines : (machine : Machine) (memory : List ℕ) (cost : ℕ) (effect : Effect) (test : Bool) (pc : ℕ)
+    → IsEffect machine effect
+    → (if test then effected machine memory cost effect else effected machine memory 0 (Traps FetchFault)).done.ended
+        ≡ Trap FetchFault pc
     → (if test then fetch_line machine.core ∷ data_lines machine.core effect else []) ≡ []
 fault-lines machine memory cost effect false pc h e = refl
 fault-lines machine memory cost Passes true pc h e = absurd (cc)
@@ -159,7 +175,8 @@ fault-lines machine memory cost (Exits status) true pc h e = absurd (cc)
 fault-lines machine memory cost (Traps kind) true pc h e = absurd (h (let same : kind ≡ FetchFault = cc in same))
 
 trap-lines : (machine : Machine) (memory : List ℕ) (cost : ℕ) (effect : Effect) (test : Bool) (kind : TrapKind) (pc : ℕ)
-    → (if test then effected machine memory cost effect else effected machine memory 0 (Traps FetchFault)).done.ended ≡ Trap kind pc
+    → (if test then effected machine memory cost effect else effected machine memory 0 (Traps FetchFault)).done.ended
+        ≡ Trap kind pc
     → (kind ≡ FetchFault → ⊥)
     → (if test then fetch_line machine.core ∷ data_lines machine.core effect else []) ≡ fetch_line machine.core ∷ []
 trap-lines machine memory cost effect false kind pc e other = absurd (other (let same : kind ≡ FetchFault = cc in same))
@@ -177,7 +194,8 @@ trap-lines machine memory cost (Traps found) true kind pc e other = refl
 
 finished-lines : (machine : Machine) (memory : List ℕ) (cost : ℕ) (effect : Effect) (test : Bool)
     → ((kind : TrapKind) (pc : ℕ)
-    → (if test then effected machine memory cost effect else effected machine memory 0 (Traps FetchFault)).done.ended ≡ Trap kind pc → ⊥)
+    → (if test then effected machine memory cost effect else effected machine memory 0 (Traps FetchFault)).done.ended
+        ≡ Trap kind pc → ⊥)
     → (if test then fetch_line machine.core ∷ data_lines machine.core effect else [])
     ≡ fetch_line machine.core ∷ data_lines machine.core effect
 finished-lines machine memory cost effect true h = refl
@@ -187,7 +205,8 @@ pub step_lines-fault : (machine : Machine) (memory : List ℕ) (pc : ℕ)
     → (flat_step machine memory).done.ended ≡ Trap FetchFault pc → step_lines machine memory ≡ []
 step_lines-fault machine memory pc e =
     let word : ℕ = from_le_bytes w32 (bytes_at machine memory machine.core.pc 4) in
-    fault-lines machine memory (cost_of_word machine word) (effect_of_word machine word) (is_inside machine.core machine.core.pc 4) pc
+    fault-lines machine memory (cost_of_word machine word) (effect_of_word machine word)
+        (is_inside machine.core machine.core.pc 4) pc
     (effect_of_word-fine machine word) e
 
 pub step_lines-trap : (machine : Machine) (memory : List ℕ) (kind : TrapKind) (pc : ℕ)
@@ -195,7 +214,8 @@ pub step_lines-trap : (machine : Machine) (memory : List ℕ) (kind : TrapKind) 
     → step_lines machine memory ≡ fetch_line machine.core ∷ []
 step_lines-trap machine memory kind pc e other =
     let word : ℕ = from_le_bytes w32 (bytes_at machine memory machine.core.pc 4) in
-    trap-lines machine memory (cost_of_word machine word) (effect_of_word machine word) (is_inside machine.core machine.core.pc 4) kind pc e other
+    trap-lines machine memory (cost_of_word machine word) (effect_of_word machine word)
+        (is_inside machine.core machine.core.pc 4) kind pc e other
 
 pub step_lines-finished : (machine : Machine) (memory : List ℕ)
     → ((kind : TrapKind) (pc : ℕ) → (flat_step machine memory).done.ended ≡ Trap kind pc → ⊥)
@@ -203,4 +223,5 @@ pub step_lines-finished : (machine : Machine) (memory : List ℕ)
     ≡ fetch_line machine.core ∷ word_lines machine (from_le_bytes w32 (bytes_at machine memory machine.core.pc 4))
 step_lines-finished machine memory h =
     let word : ℕ = from_le_bytes w32 (bytes_at machine memory machine.core.pc 4) in
-    finished-lines machine memory (cost_of_word machine word) (effect_of_word machine word) (is_inside machine.core machine.core.pc 4) h
+    finished-lines machine memory (cost_of_word machine word) (effect_of_word machine word)
+        (is_inside machine.core machine.core.pc 4) h

@@ -91,7 +91,8 @@ FlatAccess-answers E old new (Load address count) bytes h = h.2
 FlatAccess-answers E old new (Store address stored) bytes h = h.1
 
 -- they are as many as are told
-pub FlatAccess-told : (state : FlatState) (memory : List ℕ) → Some state.bytes ≡ Some memory → length memory ≡ length state.bytes
+pub FlatAccess-told : (state : FlatState) (memory : List ℕ) → Some state.bytes ≡ Some memory
+    → length memory ≡ length state.bytes
 FlatAccess-told state memory e = let same : state.bytes ≡ memory = cc in ap length (sym same)
 
 -- what their list says of a load

@@ -37,7 +37,8 @@ flat_run zero machine memory = record { instructions = 0; machine = machine; mem
 flat_run (suc n) machine memory =
     let step = flat_step machine memory in run_from (flat_run n) step step.done.ended
 
--- A run that may go on: where its instructions finished with Budget, so many more from there; one that ended stays as it is.
+-- A run that may go on: where its instructions finished with Budget, so many more from there; one that ended stays as
+-- it is.
 abbrev pub gone_on_from : ℕ → FlatRun → FlatEnding → FlatRun
 gone_on_from more run Budget = finished_before run.instructions (flat_run more run.machine run.memory)
 gone_on_from more run (Exited status) = run

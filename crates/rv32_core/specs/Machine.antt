@@ -220,7 +220,8 @@ cost_of_decoded None effect = 0
 abbrev pub cost_of_word : Machine → ℕ → ℕ
 cost_of_word machine word = cost_of_decoded (decoded word) (effect_of_word machine word)
 
--- An effect names a register that there is, a target that is aligned, bytes that lie in the memory, and bytes that there are
+-- An effect names a register that there is, a target that is aligned, bytes that lie in the memory, and bytes that
+-- there are
 -- or room that there is; and none is a fault of its fetch.
 abbrev pub IsEffect : Machine → Effect → Type 0
 IsEffect machine Passes = Unit {0}

@@ -18,7 +18,8 @@ pub record RunEnd : Type 0 where
 abbrev pub end_of : FlatRun → RunEnd
 end_of run = record { instructions = run.instructions; machine = run.machine; ending = run.ending }
 
--- A plan of a run. Where a request is stopped, it leaves how many instructions are finished, and the machine after them.
+-- A plan of a run. Where a request is stopped, it leaves how many instructions are finished, and the machine after
+-- them.
 abbrev pub MachineRun : Type 0
 MachineRun = Plan Access (List ℕ) (ℕ × Machine) RunEnd
 

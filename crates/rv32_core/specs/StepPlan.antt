@@ -16,7 +16,8 @@ use Rattle.rv32_core.specs.declared.outcome.TrapKind.TheVariants.{FetchFault}
 abbrev pub machine_of : CoreState → FilesState → Machine
 machine_of core files = record { core = core; files = files }
 
--- a plan of a machine: what it asks, the machine that is left where it is stopped, and the machine and the answer at its end
+-- a plan of a machine: what it asks, the machine that is left where it is stopped, and the machine and the answer at
+-- its end
 abbrev pub MachinePlan : Type 0
 MachinePlan = Plan Access (List ℕ) Machine (Machine × Done)
 

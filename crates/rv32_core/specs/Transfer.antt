@@ -15,7 +15,8 @@ unfoldable pub pieces_within : ℕ → ℕ → ℕ → List (ℕ × ℕ)
 pieces_within zero address count = []
 pieces_within (suc most) address count =
     if count == 0 then []
-    else (let part = min count (64 - address % 64) in (address, part) ∷ pieces_within most (address + part) (count - part))
+    else (let part = min count (64 - address % 64) in (address, part) ∷ pieces_within most
+        (address + part) (count - part))
 
 -- All pieces of so many bytes from an address on: there are no more of them than bytes.
 abbrev pub pieces : ℕ → ℕ → List (ℕ × ℕ)
@@ -24,7 +25,8 @@ pieces address count = pieces_within count address count
 -- The bytes are stored piece by piece.
 abbrev pub stores_plan : List ℕ → List (ℕ × ℕ) → Plan Access (List ℕ) (Unit {0}) (Unit {0})
 stores_plan bytes [] = Outcome tt
-stores_plan bytes (piece ∷ rest) = Ask (Store (piece.0) (take (piece.1) bytes)) tt (λ _. stores_plan (drop (piece.1) bytes) rest)
+stores_plan bytes (piece ∷ rest) = Ask (Store (piece.0) (take (piece.1) bytes)) tt
+    (λ _. stores_plan (drop (piece.1) bytes) rest)
 
 -- The pieces are loaded and appended to what there is.
 abbrev pub loads_plan : List ℕ → List (ℕ × ℕ) → Plan Access (List ℕ) (Unit {0}) (List ℕ)

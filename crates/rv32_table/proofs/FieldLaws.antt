@@ -21,7 +21,8 @@ pub record AtFunct7 (word opcode funct3 funct7 : ℕ) : Type 0 where
 pub at_opcode : (word opcode : ℕ) → bit_and word 0x7f ≡ opcode → opcode_of word ≡ opcode
 at_opcode word opcode matches = sym (and-opcode word) ∙ matches
 
-pub at_funct3 : (word opcode funct3 : ℕ) → opcode < 128 → bit_and word 0x707f ≡ funct3 * 2 ^ 12 + opcode → AtFunct3 word opcode funct3
+pub at_funct3 : (word opcode funct3 : ℕ) → opcode < 128 → bit_and word 0x707f ≡ funct3 * 2 ^ 12 + opcode
+    → AtFunct3 word opcode funct3
 at_funct3 word opcode funct3 below matches =
     let same : funct3_of word * 2 ^ 12 + opcode_of word ≡ funct3 * 2 ^ 12 + opcode = sym (and-funct3 word) ∙ matches in
     record { opcode_is = omega arith; funct3_is = omega arith }
@@ -29,7 +30,8 @@ at_funct3 word opcode funct3 below matches =
 pub at_funct7 : (word opcode funct3 funct7 : ℕ) → word < 2 ^ 32 → opcode < 128 → funct3 < 8
     → bit_and word 0xfe00_707f ≡ funct7 * 2 ^ 25 + (funct3 * 2 ^ 12 + opcode) → AtFunct7 word opcode funct3 funct7
 at_funct7 word opcode funct3 funct7 fits a b matches =
-    let same : funct7_of word * 2 ^ 25 + (funct3_of word * 2 ^ 12 + opcode_of word) ≡ funct7 * 2 ^ 25 + (funct3 * 2 ^ 12 + opcode) =
+    let same : funct7_of word * 2 ^ 25 + (funct3_of word * 2 ^ 12 + opcode_of word) ≡ funct7 * 2 ^ 25
+        + (funct3 * 2 ^ 12 + opcode) =
     sym (and-funct7 word fits) ∙ matches in
     record { opcode_is = omega arith; funct3_is = omega arith; funct7_is = omega arith }
 
@@ -40,7 +42,8 @@ at_whole word value fits matches = sym (and-whole word fits) ∙ matches
 pub under_opcode : (word opcode : ℕ) → opcode_of word ≡ opcode → bit_and word 0x7f ≡ opcode
 under_opcode word opcode e = and-opcode word ∙ e
 
-pub under_funct3 : (word opcode funct3 : ℕ) → AtFunct3 word opcode funct3 → bit_and word 0x707f ≡ funct3 * 2 ^ 12 + opcode
+pub under_funct3 : (word opcode funct3 : ℕ) → AtFunct3 word opcode funct3
+    → bit_and word 0x707f ≡ funct3 * 2 ^ 12 + opcode
 under_funct3 word opcode funct3 h =
     let same : funct3_of word * 2 ^ 12 + opcode_of word ≡ funct3 * 2 ^ 12 + opcode = omega arith in
     and-funct3 word ∙ same
@@ -48,7 +51,8 @@ under_funct3 word opcode funct3 h =
 pub under_funct7 : (word opcode funct3 funct7 : ℕ) → word < 2 ^ 32 → AtFunct7 word opcode funct3 funct7
     → bit_and word 0xfe00_707f ≡ funct7 * 2 ^ 25 + (funct3 * 2 ^ 12 + opcode)
 under_funct7 word opcode funct3 funct7 fits h =
-    let same : funct7_of word * 2 ^ 25 + (funct3_of word * 2 ^ 12 + opcode_of word) ≡ funct7 * 2 ^ 25 + (funct3 * 2 ^ 12 + opcode) =
+    let same : funct7_of word * 2 ^ 25 + (funct3_of word * 2 ^ 12 + opcode_of word) ≡ funct7 * 2 ^ 25
+        + (funct3 * 2 ^ 12 + opcode) =
     omega arith in
     and-funct7 word fits ∙ same
 
@@ -113,10 +117,12 @@ by_op w n m h =
     ∙ ap (λ (x : ℕ). option_map (λ op. Op op (rd_of w) (rs1_of w) (rs2_of w)) (register_at m x)) h.funct3_is
 
 pub by_fence : (w n : ℕ) → AtFunct3 w 0x0f n
-    → by_opcode (opcode_of w) w ≡ (if n == 0 then Some (Fence (rest_of w)) else (if n == 1 then Some (FenceI (rest_of w)) else None))
+    → by_opcode (opcode_of w) w
+        ≡ (if n == 0 then Some (Fence (rest_of w)) else (if n == 1 then Some (FenceI (rest_of w)) else None))
 by_fence w n h =
     ap (λ (x : ℕ). by_opcode x w) h.opcode_is
-    ∙ ap (λ (x : ℕ). if x == 0 then Some (Fence (rest_of w)) else (if x == 1 then Some (FenceI (rest_of w)) else None)) h.funct3_is
+    ∙ ap (λ (x : ℕ). if x == 0 then Some (Fence (rest_of w)) else
+        (if x == 1 then Some (FenceI (rest_of w)) else None)) h.funct3_is
 
 pub by_ecall : (w : ℕ) → w ≡ 0x73 → by_opcode (opcode_of w) w ≡ Some Ecall
 by_ecall w e = ap (λ (x : ℕ). by_opcode (opcode_of x) x) e

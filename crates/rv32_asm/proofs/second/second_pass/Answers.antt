@@ -16,7 +16,8 @@ loop-rest-init c =
     ≡ Ok (measure_of (labels_of c.args.labels.now) c.args.count) in
     let none : length c.new-into.result.items ≡ 0 = ap length c.new-into.ensures.items in
     record {
-      passes = ap (second_pass c.args.at 1 (lines_of c.args.text.now) (labels_of c.args.labels.now)) c.new-into.ensures.items;
+      passes = ap (second_pass c.args.at 1 (lines_of c.args.text.now) (labels_of c.args.labels.now))
+          c.new-into.ensures.items;
       track = record {
         defined = [];
         ends = labels_of c.args.labels.now;
@@ -34,7 +35,8 @@ returns-in-Err-clause-value c =
     ap lines_from c.in-Some.is ∙ c.split_line.ensures.lines in
     let at_place : ℕ → Result (List ℕ) AsmKind =
     λ n. behind_bytes c.loop-rest.into.items (valued (c.args.at + n) c.split_line.result.0.now labels) in
-    gives_stop c.in-Err.problem c.loop-rest.line (at_place c.len.result) _ c.in_line.result c.in_line.ensures c.in-Err.ensures
+    gives_stop c.in-Err.problem c.loop-rest.line (at_place c.len.result) _ c.in_line.result c.in_line.ensures
+        c.in-Err.ensures
     (λ wrong is. sym c.loop-rest.invariant.passes
     ∙ second_stop c.args.at c.loop-rest.line c.split_line.result.0.now (lines_from c.split_line.result.1) labels
     c.loop-rest.into.items (lines_from c.loop-rest.rest) wrong split (ap at_place (sym long) ∙ is))
@@ -49,7 +51,8 @@ loop-rest-preserved c =
     λ n. behind_bytes c.loop-rest.into.items (valued (c.args.at + n) c.split_line.result.0.now labels) in
     let values : at_place (length c.loop-rest.into.items) ≡ Ok c.push_line.new.into.items =
     ap at_place (sym long) ∙ c.in-Ok.ensures in
-    let step : IsStepped c.args.at c.loop-rest.line (lines_from c.split_line.result.1) c.push_line.new.into.items c.args.count =
+    let step : IsStepped c.args.at c.loop-rest.line (lines_from c.split_line.result.1)
+        c.push_line.new.into.items c.args.count =
     track_more c.args.at c.loop-rest.line c.split_line.result.0.now (lines_from c.split_line.result.1) labels
     c.loop-rest.into.items (lines_from c.loop-rest.rest) c.args.count c.push_line.new.into.items
     c.loop-rest.invariant.track split values in

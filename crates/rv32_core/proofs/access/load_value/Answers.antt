@@ -13,8 +13,10 @@ extend-requires g c =
     (length-no_bytes op c.load_width.result c.load_width.ensures) c.in_ok-load.ensures in
     let answer : IsAnswer (Load c.args.address (load_width op)) bytes =
     g.met.B.Bytes.answers c.args.bytes.now c.load.new.self (Load c.args.address (load_width op)) bytes one in
-    let is : c.from_le_bytes.result ≡ from_le_bytes w32 (bytes ++ drop c.load_width.result no_bytes) = c.from_le_bytes.ensures in
-    subst (λ n. n < 2 ^ (8 * load_width op)) (sym (is ∙ loaded-is op c.load_width.result c.args.address bytes c.load_width.ensures answer))
+    let is : c.from_le_bytes.result ≡ from_le_bytes w32 (bytes ++ drop c.load_width.result no_bytes) =
+        c.from_le_bytes.ensures in
+    subst (λ n. n < 2 ^ (8 * load_width op))
+        (sym (is ∙ loaded-is op c.load_width.result c.args.address bytes c.load_width.ensures answer))
     (loaded-below op c.args.address bytes answer)
 
 pub returns-clause-ok : goal.returns-clause-ok
@@ -25,5 +27,7 @@ returns-clause-ok g c =
     (length-no_bytes op c.load_width.result c.load_width.ensures) c.in_ok-load.ensures in
     let answer : IsAnswer (Load c.args.address (load_width op)) bytes =
     g.met.B.Bytes.answers c.args.bytes.now c.load.new.self (Load c.args.address (load_width op)) bytes one in
-    let is : c.from_le_bytes.result ≡ from_le_bytes w32 (bytes ++ drop c.load_width.result no_bytes) = c.from_le_bytes.ensures in
-    (bytes, one, c.extend.ensures ∙ ap (load_meaning op) (is ∙ loaded-is op c.load_width.result c.args.address bytes c.load_width.ensures answer))
+    let is : c.from_le_bytes.result ≡ from_le_bytes w32 (bytes ++ drop c.load_width.result no_bytes) =
+        c.from_le_bytes.ensures in
+    (bytes, one, c.extend.ensures
+        ∙ ap (load_meaning op) (is ∙ loaded-is op c.load_width.result c.args.address bytes c.load_width.ensures answer))

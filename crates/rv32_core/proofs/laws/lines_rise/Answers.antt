@@ -9,4 +9,5 @@ pub returns-clause-step : goal.returns-clause-step
 returns-clause-step c = step_lines-inside
 
 pub returns-clause-run : goal.returns-clause-run
-returns-clause-run c = λ n cost machine memory fits. run_items-inside n cost machine.core.base machine.core.size machine memory refl refl fits
+returns-clause-run c = λ n cost machine memory fits. run_items-inside n cost machine.core.base machine.core.size machine
+    memory refl refl fits

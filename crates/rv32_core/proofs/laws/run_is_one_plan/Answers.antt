@@ -12,10 +12,12 @@ pub returns-clause-flat : goal.returns-clause-flat
 returns-clause-flat c = λ n before machine memory. served-run_plan machine.core.base n before machine memory refl
 
 pub returns-clause-lines : goal.returns-clause-lines
-returns-clause-lines c = λ n before cost machine memory fits. asked-run_plan machine.core n before cost machine memory refl refl fits
+returns-clause-lines c = λ n before cost machine memory fits. asked-run_plan machine.core n before cost machine
+    memory refl refl fits
 
 pub returns-clause-inside : goal.returns-clause-inside
-returns-clause-inside c = λ n before machine is. Asks-run_plan machine.core.base machine.core.size n before machine is refl refl
+returns-clause-inside c = λ n before machine is. Asks-run_plan machine.core.base machine.core.size n before
+    machine is refl refl
 
 pub returns-clause-outcomes : goal.returns-clause-outcomes
 returns-clause-outcomes c = step_plan-keeps

@@ -16,8 +16,10 @@ invariant-loop-left g l =
       room : vec_len l.fn.output + l.fn.count ≤ vec_capacity l.output;
       capacity : vec_capacity l.fn.output ≤ vec_capacity l.output;
       before : take (vec_len l.fn.output) l.output.items ≡ l.fn.output.items;
-      ends : (new : _) (end : List ℕ) → Ends step (loads_plan l.output.items (pieces l.at l.left)) l.memory new end → Ends step (loads_plan l.fn.output.items (pieces l.fn.address l.fn.count)) l.fn.memory new end;
-      stops : (new : _) (stop : _) → Stops step (loads_plan l.output.items (pieces l.at l.left)) l.memory new stop tt → Stops step (loads_plan l.fn.output.items (pieces l.fn.address l.fn.count)) l.fn.memory new stop tt;
+      ends : (new : _) (end : List ℕ) → Ends step (loads_plan l.output.items (pieces l.at l.left)) l.memory new end
+          → Ends step (loads_plan l.fn.output.items (pieces l.fn.address l.fn.count)) l.fn.memory new end;
+      stops : (new : _) (stop : _) → Stops step (loads_plan l.output.items (pieces l.at l.left)) l.memory new stop tt
+          → Stops step (loads_plan l.fn.output.items (pieces l.fn.address l.fn.count)) l.fn.memory new stop tt;
     }
 
 abbrev pub decreases-loop-left : goal.decreases-loop-left

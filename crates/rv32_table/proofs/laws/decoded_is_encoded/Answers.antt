@@ -5,4 +5,5 @@ pub returns-clause-fits : goal.returns-clause-fits
 returns-clause-fits c = λ word instr below e. let h : Returns word instr = decoded-returns word instr below e in h.fits
 
 pub returns-clause-back : goal.returns-clause-back
-returns-clause-back c = λ word instr below e. let h : Returns word instr = decoded-returns word instr below e in h.word_is
+returns-clause-back c = λ word instr below e. let h : Returns word instr = decoded-returns word instr
+    below e in h.word_is

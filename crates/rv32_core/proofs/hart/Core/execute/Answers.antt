@@ -10,4 +10,5 @@ use Rattle.rv32_core.proofs.hart.Core.execute.Goals as goal
 pub returns-in-Some-clause-fine : goal.returns-in-Some-clause-fine
 returns-in-Some-clause-fine c =
     let machine = machine_of c.args.self.now c.args.files.now in
-    subst (λ (e : Effect). IsEffect machine e) (sym c.effect.ensures) (effect_of-fine machine _ (subst (λ (i : Option Instr). IfSome i Fits) c.in-Some.is c.requires))
+    subst (λ (e : Effect). IsEffect machine e) (sym c.effect.ensures)
+        (effect_of-fine machine _ (subst (λ (i : Option Instr). IfSome i Fits) c.in-Some.is c.requires))
