@@ -193,8 +193,11 @@ module _ (mem : List ℕ) (list : List (List ℕ)) where
       (ask_all (set_settled ways ms v) (one.0) (fetched ms use_of)) (one.1) in
       let f : (two.0 ≡ mem) × (two.1 ≡ one.1) = fetched-of (set_settled ways ms v) n (one.0) (one.1)
       (needs kind && not (keeps ms n)) (s.0) room
-      (λ b. elim holds [ inl d ↦ absurd (and-not (needs kind) (keeps ms n) b (dirty-kept n ms d)) | inr h ↦
-          s.2 n lt h ]) in
+      (λ b. elim holds [
+        | inl d ↦ absurd (and-not (needs kind) (keeps ms n) b (dirty-kept n ms d))
+        | inr h ↦
+            s.2 n lt h
+      ]) in
       subst (Used ways ms use_of)
       (sym (served-bind serve_lines (λ left. left) (ask_all ms mem (stored mem v)) (λ now. bind (λ left. left)
       (ask_all (set_settled ways ms v) now (fetched ms use_of)) (λ brought. Done (set_after ways ms use_of, brought)))
@@ -321,8 +324,8 @@ stand-after cache after list mem now n kind st lt changed other m =
     let fits : length (set_of sets n) ≤ cache.ways =
     subst (λ z. length z ≤ cache.ways) (sym (set_of_is (length list) cache n some))
     (subst (λ z. z ≤ cache.ways)
-        (sym (length-map (held_in cache n)
-        (λ (h : Held). let kept : Kept = record { line = h.line; dirty = h.dirty } in kept)))
+    (sym (length-map (held_in cache n)
+    (λ (h : Held). let kept : Kept = record { line = h.line; dirty = h.dirty } in kept)))
     (start.fits (n % length (cache.sets)) inside)) in
     let same : length (r.1) ≡ length list = u.2 in
     record {
@@ -408,7 +411,7 @@ module _ {S E : Type 0} (step : S → LineRequest → Result (List ℕ) E → S 
         subst (λ z. StandFor after z mem) (sym same)
             (stand-after cache after before mem mem n Read st (below before (x.1)) (inl refl) (λ j ne. refl)
             (subst (λ (z : List ℕ). Mirrors (length before) after
-                (after_use (lists_of cache mem) n (r.0.0) z)) (u.1) m)),
+            (after_use (lists_of cache mem) n (r.0.0) z)) (u.1) m)),
         x.2.1 ∙ ap (λ (z : (Lines × List ℕ) × List (List ℕ)). z.0.1) split
             ∙ ap (λ (z : List ℕ). slice_of z (64 * n + offset) count) (u.1),
       )

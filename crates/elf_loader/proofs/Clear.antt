@@ -146,7 +146,7 @@ clear_overlap base size file none =
 
 pub first_overlap : (base size : ℕ) (file : List ℕ) (index : ℕ) → NoneSoFar base size file → index < header_count file →
     OverlapsLower file index → ((k : ℕ) → k < index → ¬ OverlapsLower file k)
-        → IsFirstFault base size file (Overlap index)
+    → IsFirstFault base size file (Overlap index)
 first_overlap base size file index none below found least =
     first_of base size file (Overlap index) (clear_overlap base size file none)
     (λ k lower other. least k lower other.1) (below, found)
@@ -155,18 +155,18 @@ clear_entry : (base size : ℕ) (file : List ℕ) → NoneSoFar base size file �
     ((k : ℕ) → k < header_count file → ¬ OverlapsLower file k) → IsClearBefore base size file Entry
 clear_entry base size file none apart =
     clear_next base size file (Overlap 0) Entry refl (clear_overlap base size file none)
-        (λ index found. apart index found.0 found.1)
+    (λ index found. apart index found.0 found.1)
 
 pub first_entry : (base size : ℕ) (file : List ℕ) → NoneSoFar base size file →
     ((k : ℕ) → k < header_count file → ¬ OverlapsLower file k) → HasOtherEntry base size file
-        → IsFirstFault base size file Entry
+    → IsFirstFault base size file Entry
 first_entry base size file none apart found =
     first_of base size file Entry (clear_entry base size file none apart)
-        (λ k lower. absurd (omega (arith, lower))) found
+    (λ k lower. absurd (omega (arith, lower))) found
 
 pub judged : (base size : ℕ) (file : List ℕ) → NoneSoFar base size file →
     ((k : ℕ) → k < header_count file → ¬ OverlapsLower file k) → ¬ HasOtherEntry base size file
-        → IsFaultless base size file
+    → IsFaultless base size file
 judged base size file none apart right fault = by_fault fault
   where
     clear : IsClearBefore base size file NoMemory

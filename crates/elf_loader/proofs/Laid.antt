@@ -65,8 +65,11 @@ sound_at base size file index header faultless below same bad =
 pub inside_at : (base size n : ℕ) (file : List ℕ) (index : ℕ) (header : ProgramHeader) → IsFaultless base size file →
     index < header_count file → header ≡ header_at file index → n ≡ size → ¬ IsOutside base n header
 inside_at base size n file index header faultless below same long out =
-    faultless (Outside index) (below, subst (λ h. IsOutside base size h) same
-        (subst (λ m. IsOutside base m header) long out))
+    faultless (Outside index) (
+      below,
+      subst (λ h. IsOutside base size h) same
+          (subst (λ m. IsOutside base m header) long out),
+    )
 
 taking : (k m : ℕ) → (k == 1 && nat_lt 0 m) ≡ true → (k ≡ 1) × (0 < m)
 taking k m takes = (grind (arith, nat_tests), grind (arith, nat_tests))
@@ -86,7 +89,7 @@ both_cover file one other x sound whole first second =
     let a : one.kind ≡ 1 = load_of one.kind one.address one.file_size x first in
     let b : other.kind ≡ 1 = load_of other.kind other.address other.file_size x second in
     let s = shared one.kind one.address one.file_size one.memory_size other.kind other.address other.file_size
-        other.memory_size x
+    other.memory_size x
     (part_fits file one a sound) (part_fits file other b whole) first second in (
       a,
       b,
@@ -108,14 +111,14 @@ apart base size file k index x faultless lower below first = by_test (covers (he
         lower,
         both_cover file (header_at file index) (header_at file k) x
             (λ bad. faultless (Segment index) (below, bad))
-                (λ bad. faultless (Segment k) (omega arith, bad)) second first,
+            (λ bad. faultless (Segment k) (omega arith, bad)) second first,
       ),
     ))
     by_test false second = refl
 
 pub laid_more : (base size : ℕ) (file : List ℕ) (index : ℕ) (old new : List ℕ) → IsFaultless base size file →
     index < header_count file → IsLaidOutTo base size file index old
-        → IsPlaced base file (header_at file index) old new →
+    → IsPlaced base file (header_at file index) old new →
     IsLaidOutTo base size file (index + 1) new
 laid_more base size file index old new faultless below laid placed = record {
   len = placed.len ∙ laid.len;
@@ -127,7 +130,7 @@ laid_more base size file index old new faultless below laid placed = record {
     | inr not ↦
         let same : k ≡ index = omega arith in
         subst (λ j. covers (header_at file j) (base + place) ≡ true
-            → get_or new place 0 ≡ byte_at file (header_at file j) (base + place))
+        → get_or new place 0 ≡ byte_at file (header_at file j) (base + place))
         (sym same) (placed.part place (omega (arith, laid.len))) covered
   ];
   blank = λ place within free.
@@ -146,7 +149,7 @@ pub data FoundIn (p : ProgramHeader → Bool) (file : List ℕ) (count : ℕ) (f
 
 find_last : (p : ProgramHeader → Bool) (file : List ℕ) (n : ℕ) →
     find p (first_headers file (n + 1)) ≡ option_or (find p (first_headers file n))
-        (cond (p (header_at file n)) (Some (header_at file n)) None)
+    (cond (p (header_at file n)) (Some (header_at file n)) None)
 find_last p file n =
     ap (find p) (map-range_with_len_more (header_at file) 0 n n (zero-add n))
     ∙ find-append p (first_headers file n) (header_at file n ∷ [])
@@ -200,7 +203,7 @@ pub any_header : (p : ProgramHeader → Bool) (file : List ℕ) (count k : ℕ) 
     list_any p (first_headers file count) ≡ true
 any_header p file count k below pass =
     let long : k < length (first_headers file count) = omega
-        (arith, length-map-range_with_len (header_at file) 0 count) in
+    (arith, length-map-range_with_len (header_at file) 0 count) in
     let here : get_or (first_headers file count) k (header_at file k) ≡ header_at file k =
     get_or-map-range_with_len (header_at file) 0 count k k (header_at file k) below (zero-add k) in
     list_any_at p (first_headers file count) k (header_at file k) long (ap p here ∙ pass)
@@ -218,10 +221,10 @@ no_header p file count none =
 -- the greatest end with one header more
 end_if : (base : ℕ) (some : List ProgramHeader) (header : ProgramHeader) (b : Bool) →
     fold max base (map end_of (some ++ cond b (header ∷ []) []))
-        ≡ max (fold max base (map end_of some)) (cond b (end_of header) base)
+    ≡ max (fold max base (map end_of some)) (cond b (end_of header) base)
 end_if base some header true =
     ap (fold max base) (map-append end_of some (header ∷ []))
-        ∙ fold-append max base (map end_of some) (end_of header ∷ [])
+    ∙ fold-append max base (map end_of some) (end_of header ∷ [])
 end_if base some header false =
     let from : base ≤ fold max base (map end_of some) = fold_above base (map end_of some) in
     ap (λ hs. fold max base (map end_of hs)) (append-nil some) ∙ omega arith
@@ -229,12 +232,12 @@ end_if base some header false =
 pub end_more : (base : ℕ) (file : List ℕ) (index : ℕ) →
     greatest_end base (first_headers file (index + 1))
     ≡ max (greatest_end base (first_headers file index))
-        (cond (takes_memory (header_at file index)) (end_of (header_at file index)) base)
+    (cond (takes_memory (header_at file index)) (end_of (header_at file index)) base)
 end_more base file index =
     ap (λ hs. fold max base (map end_of hs)) (filter_of_map_range_with_len_more takes_memory
-        (header_at file) 0 index index (zero-add index))
+    (header_at file) 0 index index (zero-add index))
     ∙ end_if base (filter takes_memory (first_headers file index)) (header_at file index)
-        (takes_memory (header_at file index))
+    (takes_memory (header_at file index))
 
 cond_to : (base size end : ℕ) (b : Bool) → (b ≡ true → end ≤ base + size) → cond b end base ≤ base + size
 cond_to base size end true inside = inside refl

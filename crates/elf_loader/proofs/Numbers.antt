@@ -35,6 +35,6 @@ four_bytes file at n four long =
 
 pub word_read : (file : List ℕ) (at : ℕ) → at + 4 ≤ length file →
     from_le_bytes w32 (get_or file at 0 ∷ get_or file (at + 1) 0 ∷ get_or file (at + 2) 0 ∷ get_or file (at + 3) 0 ∷ [])
-        ≡ word file at
+    ≡ word file at
 unfolding word
 word_read file at long = rw (four_bytes file at (at + 4 - at) (omega arith) long) refl

@@ -72,7 +72,7 @@ old_behind {start} {offset} {file} {part} {old} {new} p k later =
     ∙ at_back (take start old) part (drop (start + length part) old) k (omega arith)
     ∙ get_or-drop (start + length part) old (k - (length (take start old) + length part)) 0
     ∙ ap (λ n. get_or old n 0) (let same : start + length part + (k - (length (take start old) + length part))
-        ≡ k = omega arith in same)
+    ≡ k = omega arith in same)
 
 put_len : {start offset : ℕ} {file part old new : List ℕ} → Put start offset file part old new → length new ≡ length old
 put_len {start} {offset} {file} {part} {old} {new} p =
@@ -86,12 +86,12 @@ placed {start} {offset} {file} {part} {old} {new} base header p load there long 
   len = put_len p;
   part = λ place within covered.
       let later : header.address ≤ base + place = from header.kind header.address header.file_size
-          (base + place) covered in
+      (base + place) covered in
       let early : base + place < header.address + header.file_size =
       below header.kind header.address header.file_size (base + place) covered in
       byte_within p place (omega arith) (omega arith)
       ∙ ap (λ n. get_or file n 0) (let same : offset + (place - start) ≡ header.offset
-          + (base + place - header.address) = omega arith in same);
+      + (base + place - header.address) = omega arith in same);
   rest = λ place within uncovered. elim (cases_lt place start) [
     | inl early ↦ old_before p place early
     | inr later ↦
@@ -105,6 +105,6 @@ pub placed_part : (base : ℕ) (file : List ℕ) (header : ProgramHeader) (start
     new ≡ take start old ++ part ++ drop (start + length part) old →
     part ≡ take header.file_size (drop header.offset file) → length part ≡ header.file_size →
     start + length part ≤ length old → header.kind ≡ 1 → base + start ≡ header.address
-        → IsPlaced base file header old new
+    → IsPlaced base file header old new
 placed_part base file header start part old new same taken long fits load there =
     placed base header (record { same = same; taken = rw long taken; fits = fits }) load there long refl

@@ -36,7 +36,7 @@ range_kept p n k below pass =
     let long : k < length xs = omega (arith, length-range_with_len 0 n) in
     let here : get_or xs k 0 ≡ k = get_or-range_with_len 0 n k 0 below ∙ zero-add k in
     let rest : drop k xs ≡ k ∷ drop (k + 1) xs = rw add-one (drop-cons xs k 0 long
-        ∙ ap (λ x. x ∷ drop (suc k) xs) here) in
+    ∙ ap (λ x. x ∷ drop (suc k) xs) here) in
     let split : xs ≡ take k xs ++ k ∷ drop (k + 1) xs =
     sym (take-append-drop k xs) ∙ ap (λ ys. take k xs ++ ys) rest in
     subst (λ ys. Contains (filter p ys) k) (sym split) (kept p (take k xs) (drop (k + 1) xs) k pass)
@@ -58,7 +58,7 @@ blank_outside base size file memory place below unmarked =
         let line : place / 64 < size / 64 = omega arith in
         let touched : touches (header_at file k) (base + 64 * (place / 64)) ≡ true =
         covers-touches (header_at file k) (base + 64 * (place / 64)) (base + place) (omega arith)
-            (omega arith) covered in
+        (omega arith) covered in
         absurd (unmarked
         (range_kept (λ n. list_any (λ h. touches h (base + 64 * n)) (headers file)) (size / 64) (place / 64) line
         (any_header (λ h. touches h (base + 64 * (place / 64))) file (header_count file) k within touched)))
@@ -83,7 +83,7 @@ lines_below base size file =
     (λ k below.
     let long : k < size / 64 = omega (arith, length-range_with_len 0 (size / 64)) in
     let here : get_or (range_with_len 0 (size / 64)) k 0
-        ≡ k = get_or-range_with_len 0 (size / 64) k 0 long ∙ zero-add k in
+    ≡ k = get_or-range_with_len 0 (size / 64) k 0 long ∙ zero-add k in
     omega arith))
 
 -- the first break is in the memory or at its end

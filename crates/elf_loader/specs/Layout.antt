@@ -42,7 +42,7 @@ touches header address = is_load header && meets header.address header.file_size
 unfoldable pub marked_lines : ℕ → ℕ → List ℕ → List ℕ
 marked_lines base size file =
     filter (λ line. list_any (λ header. touches header (base + 64 * line)) (headers file))
-        (range_with_len 0 (size / 64))
+    (range_with_len 0 (size / 64))
 
 -- whether a segment is a PT_LOAD that takes memory
 abbrev pub takes_memory : ProgramHeader → Bool

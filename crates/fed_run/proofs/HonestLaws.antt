@@ -58,7 +58,7 @@ uses-honest ways memory sets (first ∷ others) more fits =
     let one : List (List ℕ) = if asks sets first then line_in memory first.line ∷ [] else [] in
     let rest : List (List ℕ) = answers_of ways memory (sets_after ways sets first) others in
     ap (λ (l : List (List ℕ)). option_and_then (λ now. fed_uses ways now others)
-        (fed_use ways (fed_by memory sets l) first))
+    (fed_use ways (fed_by memory sets l) first))
     (append_assoc one rest more)
     ∙ ap (option_and_then (λ now. fed_uses ways now others)) (use-honest ways memory sets first (rest ++ more) (fits.0))
     ∙ uses-honest ways memory (sets_after ways sets first) others more (fits.1)
@@ -147,7 +147,7 @@ on-honest : (ways n : ℕ) (step : FlatStep) (sets : Sets) (more : List (List �
     → IsFlat (fed_run ways n step.machine (fed_by step.memory sets
     (flat_answers ways n sets step.machine step.memory ++ more))) (flat_run n step.machine step.memory) more
     → IsFlat
-        (fed_on (fed_run ways n) (fed_after step sets (answers_on (flat_answers ways n sets) step ended ++ more)) ended)
+    (fed_on (fed_run ways n) (fed_after step sets (answers_on (flat_answers ways n sets) step ended ++ more)) ended)
     (run_from (flat_run n) step ended) more
 on-honest ways n step sets more No h = (ap (λ k. 1 + k) (h.0), h.1, h.2, h.3, h.4)
 on-honest ways n step sets more (Exit status) h = (refl, refl, refl, refl, refl)
@@ -177,7 +177,7 @@ run-honest ways (suc n) machine memory sets more is long =
     let size : step.machine.core.size ≡ machine.core.size = flat_step-size machine memory in
     let still : IsMemory step.machine.core.base step.machine.core.size =
     subst (λ b. IsMemory b step.machine.core.size) (sym base)
-        (subst (λ z. IsMemory machine.core.base z) (sym size) is) in
+    (subst (λ z. IsMemory machine.core.base z) (sym size) is) in
     let same : length step.memory ≡ step.machine.core.size = step-length machine memory long ∙ long ∙ sym size in
     subst (λ (z : FlatRun). IsFlat (fed_run ways (suc n) machine (fed_by memory sets
     (flat_answers ways (suc n) sets machine memory ++ more))) z more) (sym (flat_run-suc n machine memory))

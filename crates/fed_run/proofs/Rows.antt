@@ -10,7 +10,7 @@ use Rattle.fed_run.specs.Fed.{Ends, Starves, fed_run, program_line, over_image_l
 -- It is fed with line 1 and then with line 0, and exits.
 pub fed-exits : let run = fed_run 1 9 (machine_at_start 0 0 128 0 [] output_limit)
     (over_image_line (replicate 64 7 ∷ program_line ∷ [])) in (run.ending ≡ Ends (Exited 0)) × (run.instructions ≡ 3)
-        × (run.feed.left ≡ [])
+    × (run.feed.left ≡ [])
 unfolding fed_run lines_from decoded table register_meaning load_meaning
 fed-exits = (refl, refl, refl)
 

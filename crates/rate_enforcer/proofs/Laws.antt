@@ -49,7 +49,7 @@ pub stands_ended : {config : Config} {n start leaf : ℕ} {learner : Learner} {o
     → Stands config (suc n) end (end + (after_end learner end).rate) (after_end learner end) new
 stands_ended {config} {n} {start} {leaf} {learner} {old} end None new s end_is choice new_is =
     subst (λ (log : LogLists). Stands config (suc n) end (end + (after_end learner end).rate)
-        (after_end learner end) log)
+    (after_end learner end) log)
     (sym new_is) (stands_passed end s end_is choice)
 stands_ended end (Some index) new s end_is choice new_is = stands_chosen end index new s end_is choice new_is
 
@@ -221,8 +221,12 @@ module _ {M W : Type 0} (memory_of : M → MemoryState) (tap_of : W → TapState
   write_stops {b} {c} start leaf (tree.Full held) before after write none = record {
     end = Whole;
     is_end = refl;
-    ran = record { moves = []; events = []; ran = subst (λ (x : Bus M W). Ran memory_of tap_of Whole [] [] b x)
-        (sym write) none };
+    ran = record {
+      moves = [];
+      events = [];
+      ran = subst (λ (x : Bus M W). Ran memory_of tap_of Whole [] [] b x)
+          (sym write) none;
+    };
   }
   write_stops start leaf tree.Device before after write none = record {
     end = MoveFailed;

@@ -32,8 +32,11 @@ shift-some : (n paper : ℕ) → 0 < paper
 shift-some n zero some = absurd (omega arith)
 shift-some n (suc paper) some =
     ap
-    (λ (k : ℕ). let turn : Turn ℕ (ℕ × ℕ) ℕ = record { records = (n + 1) ∷ []; held = (n + 1, k);
-        answer = n + 1 } in turn)
+    (λ (k : ℕ). let turn : Turn ℕ (ℕ × ℕ) ℕ = record {
+      records = (n + 1) ∷ [];
+      held = (n + 1, k);
+      answer = n + 1;
+    } in turn)
     (let e : paper ≡ suc paper - 1 = omega arith in e)
 
 -- the pages of a press that hasn't jammed
@@ -181,7 +184,7 @@ pub third-noted : IsCut pages_of IsFirstPage pages (play shift (sheets_plan 3) (
     (record after_two { jammed = true }) Jammed 1
 third-noted =
     Stops-follows (Within IsSound Prints) shift IsLike pages pages_of IsFew press-clean press-turns IsJam
-        IsFirstPage press-cuts
+    IsFirstPage press-cuts
     (sheets_plan 3) (loaded 3 2) (record after_two { jammed = true }) Jammed 1
     (Stops-narrows Prints IsSound press-keeps (sheets_plan 3) (loaded 3 2)
     (record after_two { jammed = true }) Jammed 1 refl third_is_cut)
@@ -213,7 +216,7 @@ third_is_late = inr (
 pub late-noted : pages out_of_paper ≡ flat_map pages_of (bare ((play shift (sheets_plan 3) (0, 2)).records))
 late-noted =
     (Stops-late (Within IsSound Prints) shift IsLike pages pages_of IsFew press-clean press-turns IsOut IsEmpty
-        press-late press-quiet
+    press-late press-quiet
     (sheets_plan 3) (loaded 2 9) out_of_paper NoPaper 1
     (Stops-narrows Prints IsSound press-keeps (sheets_plan 3) (loaded 2 9) out_of_paper NoPaper 1 refl third_is_late)
     refl (omega arith) (0, 2) (refl, refl)).1

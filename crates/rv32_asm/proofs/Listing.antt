@@ -15,7 +15,7 @@ use Rattle.rv32_asm.specs.declared.fault.AsmKind.TheVariants as kind
 -- looked up in the map's entries, and in the list
 pub looked_up : {S : Type 0} (labels : IndexMap (Bor (List ℕ)) ℕ S) (name : List ℕ) (entries : List (Bor (List ℕ) × ℕ))
     → get_by (λ key. bytes_eq name key.now) (with_entries labels entries)
-        ≡ place_of name (labels_of (with_entries labels entries))
+    ≡ place_of name (labels_of (with_entries labels entries))
 looked_up labels name [] = refl
 looked_up labels name (entry ∷ entries) =
     ap (cond (bytes_eq name entry.0.now) (Some entry.1)) (looked_up labels name entries)
@@ -47,5 +47,8 @@ defined labels new label name place is named fresh entries =
 
     listed : labels_of new ≡ labels_of labels ++ (name.now, place) ∷ []
     listed =
-        rw (entries, insert_entry-new (λ one other. bytes_eq one.now other.now) labels name place absent,
-            map-append) refl
+        rw (
+          entries,
+          insert_entry-new (λ one other. bytes_eq one.now other.now) labels name place absent,
+          map-append,
+        ) refl

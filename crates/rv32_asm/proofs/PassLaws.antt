@@ -32,7 +32,7 @@ module _ (at : ℕ) (line : List ℕ) (before : Labels) (count : ℕ) where
       → measured at line (measure_of before count) ≡ by_parts parts
   parted parts text are =
       if_true (list_all is_text_byte line) text (by_parts (parts_of (without_comment line))) (Err kind.Byte)
-          ∙ ap by_parts are
+      ∙ ap by_parts are
 
   pub measured_label : (parts : Parts) (wrong : AsmKind) → list_all is_text_byte line ≡ true
       → parts_of (without_comment line) ≡ parts → labelled parts.label (at + count) before ≡ Err wrong

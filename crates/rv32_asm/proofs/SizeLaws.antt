@@ -60,7 +60,7 @@ two_words one two = refl
 
 puts_length : (rd : ℕ) (word : Result ℕ AsmKind) (more : List ℕ)
     → (word >>> λ w. Ok (to_le_bytes w32 (encoded (upper_of rd w)) ++ to_le_bytes w32 (encoded (lower_of rd w))))
-        ≡ Ok more
+    ≡ Ok more
     → length more ≡ 8
 puts_length rd (Ok w) more is =
     ap length (sym (ok_of _ more is)) ∙ two_words (encoded (upper_of rd w)) (encoded (lower_of rd w))
@@ -122,13 +122,13 @@ counted at before labels after_labels found after more measures values =
     let same : length more ≡ size_of found (at + before) = found_sized found (at + before) labels more values in
     let counts : after.count ≡ before + size_of found (at + before) = grown_counts at _ after_labels after measures in
     let within : at + (before + size_of found (at + before))
-        ≤ 4_294_901_760 = grown_within at _ after_labels after measures in
+    ≤ 4_294_901_760 = grown_within at _ after_labels after measures in
     record { count = counts ∙ ap (λ n. before + n) (sym same); within = omega (arith, counts, within) }
 
 line_steps : (at before : ℕ) (labels : Labels) (text : Bool) (named : Result Labels AsmKind)
     (found : Result (Option Statement) AsmKind) (after : Measure) (more : List ℕ)
     → (if text then (named >>> λ ls. found >>> λ s. grown at (before + size_of s (at + before)) ls) else Err kind.Byte)
-        ≡ Ok after
+    ≡ Ok after
     → (found >>> λ s. bytes_of_found s (at + before) labels) ≡ Ok more → IsCounted at before after more
 line_steps at before labels true (Ok ls) (Ok s) after more measures values =
     counted at before labels ls s after more measures values
@@ -166,7 +166,7 @@ module _ (at number : ℕ) (line : List ℕ) (rest : List (List ℕ)) (labels : 
       let same : bytes ++ more ≡ new = ok_of (bytes ++ more) new values in
       let long : after.count ≡ length new = counted.count ∙ sym (length-append bytes more) ∙ ap length same in
       let P : ℕ → Type 0 = λ n. first_pass at (number + 1) rest (measure_of after.labels n)
-          ≡ Ok (measure_of ends count) in
+      ≡ Ok (measure_of ends count) in
       let Q : ℕ → Type 0 = λ n. at + n ≤ 4_294_901_760 in
       record {
         track = record { defined = after.labels; ends = ends; passes = subst P long passes };
@@ -224,7 +224,7 @@ pub gives_stop : (what : Problem) (number : ℕ) (meant : Result (List ℕ) AsmK
     → GivesProgram {X = List ℕ} (λ x. x) (Err fault) whole
 gives_stop (problem.Kind wrong) number meant whole fault is gives stops =
     let P : AsmFault → Type 0 = λ f. GivesProgram {X = List ℕ} (λ x. x) (Err f) whole
-        in subst P (sym is) (stops wrong gives)
+    in subst P (sym is) (stops wrong gives)
 gives_stop problem.NoMemory number meant whole fault is gives stops =
     let P : AsmFault → Type 0 = λ f. GivesProgram {X = List ℕ} (λ x. x) (Err f) whole in subst P (sym is) tt
 

@@ -34,8 +34,11 @@ is_buffer-below core address count fits some = grind (arith, nat_tests)
 -- a buffer is a range
 pub is_buffer-range : (core : CoreState) (address count : ℕ) → IsTrue (is_buffer core address count)
     → address < 2 ^ 32 → core.base + core.size < 2 ^ 32 → IsRange core.base core.size address count
-is_buffer-range core address zero fits fine low = record { above = λ some. absurd (omega arith);
-    below = λ some. absurd (omega arith); ends = omega arith }
+is_buffer-range core address zero fits fine low = record {
+  above = λ some. absurd (omega arith);
+  below = λ some. absurd (omega arith);
+  ends = omega arith;
+}
 is_buffer-range core address (suc n) fits fine low =
     let end : address + suc n ≤ core.base + core.size = is_buffer-below core address (suc n) fits (omega arith) in
     record { above = is_buffer-above core address (suc n) fits; below = λ _. end; ends = omega arith }
@@ -103,8 +106,10 @@ read_of-fine machine =
     let chosen : Effect = if is_buffer core address count then read else Answers bad_buffer in
     fine-if machine (register core 10 == 0) chosen (Answers bad_file)
     (λ _. fine-if machine (is_buffer core address count) read (Answers bad_buffer)
-    (λ fits. (is_buffer-front core address count (min count (bytes_left machine.files)) fits (omega arith),
-        omega arith)) (λ _. tt))
+    (λ fits. (
+      is_buffer-front core address count (min count (bytes_left machine.files)) fits (omega arith),
+      omega arith,
+    )) (λ _. tt))
     (λ _. tt)
 
 write_of-fine : (machine : Machine) → IsEffect machine (write_of machine)
@@ -119,14 +124,14 @@ write_of-fine machine =
     (λ _. fine-if machine (is_buffer core address count) write (Answers bad_buffer)
     (λ fits. fine-if machine room (Writes address count) (Traps OutputLimit)
     (λ fit. (is_buffer-front core address count count fits (omega arith), grind (arith, nat_tests)))
-        (λ _ e. absurd (cc))) (λ _. tt))
+    (λ _ e. absurd (cc))) (λ _. tt))
     (λ _. tt)
 
 break_of-fine : (machine : Machine) → IsEffect machine (break_of machine.core)
 break_of-fine machine =
     let core = machine.core in
     fine-if machine (takes_break core (register core 10)) (Breaks (register core 10)) (Answers core.break_now)
-        (λ _. tt) (λ _. tt)
+    (λ _. tt) (λ _. tt)
 
 call_of-fine : (machine : Machine) → IsEffect machine (call_of machine)
 call_of-fine machine =
@@ -138,19 +143,19 @@ call_of-fine machine =
     (λ _. fine-if machine (register core 17 == 64) (write_of machine) exit (λ _. write_of-fine machine)
     (λ _. fine-if machine (register core 17 == 93) (Exits (register core 10 % 256)) break (λ _. tt)
     (λ _. fine-if machine (register core 17 == 214) (break_of core) (Answers no_call)
-        (λ _. break_of-fine machine) (λ _. tt))))
+    (λ _. break_of-fine machine) (λ _. tt))))
 
 jump_to-fine : (machine : Machine) (index target : ℕ) → index < 32 → IsEffect machine (jump_to index target)
 jump_to-fine machine index target low =
     fine-if machine (target % 4 == 0) (Jumps index target) (Traps FetchMisaligned)
-        (λ aligned. (low, grind (arith, nat_tests))) (λ _ e. absurd (cc))
+    (λ aligned. (low, grind (arith, nat_tests))) (λ _ e. absurd (cc))
 
 branch_of-fine : (machine : Machine) (op : BranchOp) (rs1 rs2 : ℕ) (offset : ℤ)
     → IsEffect machine (branch_of machine.core op rs1 rs2 offset)
 branch_of-fine machine op rs1 rs2 offset =
     let core = machine.core in
     fine-if machine (branch_meaning op (register core rs1) (register core rs2))
-        (jump_to 0 (target_of core.pc offset)) Passes
+    (jump_to 0 (target_of core.pc offset)) Passes
     (λ _. jump_to-fine machine 0 (target_of core.pc offset) (omega arith)) (λ _. tt)
 
 load_from-fine : (machine : Machine) (op : LoadOp) (index address : ℕ) → index < 32

@@ -16,14 +16,14 @@ flat_run-zero machine memory = refl
 -- one step first
 pub flat_run-suc : (n : ℕ) (machine : Machine) (memory : List ℕ)
     → flat_run (suc n) machine memory ≡ run_from (flat_run n) (flat_step machine memory)
-        ((flat_step machine memory).done.ended)
+    ((flat_step machine memory).done.ended)
 unfolding flat_run
 flat_run-suc n machine memory = refl
 
 -- one step first, where some are left
 pub flat_run-next : (n i : ℕ) (machine : Machine) (memory : List ℕ) → i < n
     → flat_run (n - i) machine memory ≡ run_from (flat_run (n - (i + 1))) (flat_step machine memory)
-        ((flat_step machine memory).done.ended)
+    ((flat_step machine memory).done.ended)
 flat_run-next n i machine memory left =
     ap (λ k. flat_run k machine memory) (let e : n - i ≡ suc (n - (i + 1)) = omega arith in e)
     ∙ flat_run-suc (n - (i + 1)) machine memory
@@ -40,7 +40,7 @@ pub finished_before-one : (i : ℕ) (run : FlatRun) → finished_before i (finis
     ≡ finished_before (i + 1) run
 finished_before-one i run =
     ap (λ (k : ℕ). let r : FlatRun = record run { instructions = k } in r)
-        (let e : i + (1 + run.instructions) ≡ (i + 1) + run.instructions = omega arith in e)
+    (let e : i + (1 + run.instructions) ≡ (i + 1) + run.instructions = omega arith in e)
 
 -- the run of one step that ends so
 pub run_from-ended : (rest : Machine → List ℕ → FlatRun) (step : FlatStep) (ended : Ended) → step.done.ended ≡ ended
@@ -59,7 +59,7 @@ runs_on_from_start n machine memory = record {
       ap (λ k. flat_run k machine memory) (let e : n ≡ n - 0 = omega arith in e)
       ∙ ap (λ (k : ℕ). let r : FlatRun = record (flat_run (n - 0) machine memory) { instructions = k } in r)
       (let e : (flat_run (n - 0) machine memory).instructions ≡ 0
-          + (flat_run (n - 0) machine memory).instructions = omega arith in e);
+      + (flat_run (n - 0) machine memory).instructions = omega arith in e);
 }
 
 -- after one more step that goes on
@@ -75,8 +75,11 @@ runs_on_after_step whole n i machine next memory after cost run left e = record 
 -- an exit ends it, and counts
 pub run_ends_with_exit : (whole : FlatRun) (n i : ℕ) (machine next : Machine) (memory after : List ℕ) (status cost : ℕ)
     → RunsOn whole n i machine memory → i < n
-    → flat_step machine memory ≡ record { machine = next; memory = after;
-        done = record { ended = Exit status; cost = cost } }
+    → flat_step machine memory ≡ record {
+      machine = next;
+      memory = after;
+      done = record { ended = Exit status; cost = cost };
+    }
     → whole ≡ record { instructions = i + 1; machine = next; memory = after; ending = Exited status }
 run_ends_with_exit whole n i machine next memory after status cost run left e =
     run.is ∙ ap (finished_before i) (flat_run-step n i machine memory _ left e)
@@ -85,13 +88,20 @@ run_ends_with_exit whole n i machine next memory after status cost run left e =
 pub run_ends_with_trap : (whole : FlatRun) (n i : ℕ) (machine next : Machine) (memory after : List ℕ)
     (kind : TrapKind) (pc cost : ℕ)
     → RunsOn whole n i machine memory → i < n
-    → flat_step machine memory ≡ record { machine = next; memory = after;
-        done = record { ended = Trap kind pc; cost = cost } }
+    → flat_step machine memory ≡ record {
+      machine = next;
+      memory = after;
+      done = record { ended = Trap kind pc; cost = cost };
+    }
     → whole ≡ record { instructions = i; machine = next; memory = after; ending = Trapped kind pc }
 run_ends_with_trap whole n i machine next memory after kind pc cost run left e =
     run.is ∙ ap (finished_before i) (flat_run-step n i machine memory _ left e)
-    ∙ ap (λ (k : ℕ). let r : FlatRun = record { instructions = k; machine = next; memory = after;
-        ending = Trapped kind pc } in r)
+    ∙ ap (λ (k : ℕ). let r : FlatRun = record {
+      instructions = k;
+      machine = next;
+      memory = after;
+      ending = Trapped kind pc;
+    } in r)
     (let e : i + 0 ≡ i = omega arith in e)
 
 -- with all its instructions finished it ends with Budget
@@ -102,8 +112,12 @@ run_ends_with_budget whole n i machine memory run low high =
     run.is
     ∙ ap (λ k. finished_before i (flat_run k machine memory)) (let e : n - i ≡ 0 = omega arith in e)
     ∙ ap (finished_before i) (flat_run-zero machine memory)
-    ∙ ap (λ (k : ℕ). let r : FlatRun = record { instructions = k; machine = machine; memory = memory;
-        ending = Budget } in r)
+    ∙ ap (λ (k : ℕ). let r : FlatRun = record {
+      instructions = k;
+      machine = machine;
+      memory = memory;
+      ending = Budget;
+    } in r)
     (let e : i + 0 ≡ n = omega arith in e)
 
 -- no run finishes more instructions than it may
@@ -113,7 +127,7 @@ flat_run-instructions zero machine memory = subst (λ (r : FlatRun). r.instructi
 flat_run-instructions (suc n) machine memory =
     subst (λ (r : FlatRun). r.instructions ≤ suc n) (sym (flat_run-suc n machine memory))
     (at_most n (flat_run n) (flat_run-instructions n) (flat_step machine memory)
-        ((flat_step machine memory).done.ended))
+    ((flat_step machine memory).done.ended))
   where
     at_most : (n : ℕ) (rest : Machine → List ℕ → FlatRun) → ((m : Machine) (b : List ℕ) → (rest m b).instructions ≤ n)
         → (step : FlatStep) (ended : Ended) → (run_from rest step ended).instructions ≤ suc n
@@ -126,7 +140,7 @@ flat_run-instructions (suc n) machine memory =
 finished_before-none : (run : FlatRun) → finished_before 0 run ≡ run
 finished_before-none run =
     ap (λ (k : ℕ). let r : FlatRun = record run { instructions = k } in r)
-        (let e : 0 + run.instructions ≡ run.instructions = omega arith in e)
+    (let e : 0 + run.instructions ≡ run.instructions = omega arith in e)
 
 -- so many before, and so many more
 finished_before-twice : (i k : ℕ) (run : FlatRun) → finished_before i (finished_before k run)

@@ -29,14 +29,14 @@ run_items-none cost machine memory = refl
 pub run_items-suc : (n cost : ℕ) (machine : Machine) (memory : List ℕ)
     → run_items (suc n) cost machine memory
     ≡ items_after cost (step_lines machine memory) ++ items_from (run_items n) (flat_step machine memory)
-        ((flat_step machine memory).done.ended)
+    ((flat_step machine memory).done.ended)
 unfolding run_items
 run_items-suc n cost machine memory = refl
 
 pub run_items-next : (n cost : ℕ) (machine next : Machine) (memory after : List ℕ) (done : Done)
     → flat_step machine memory ≡ record { machine = next; memory = after; done = done } → done.ended ≡ No
     → run_items (suc n) cost machine memory ≡ items_after cost (step_lines machine memory)
-        ++ run_items n done.cost next after
+    ++ run_items n done.cost next after
 run_items-next n cost machine next memory after done e goes =
     let step : FlatStep = record { machine = next; memory = after; done = done } in
     run_items-suc n cost machine memory
@@ -67,7 +67,7 @@ cost_after-none cost machine memory = refl
 cost_after-suc : (n cost : ℕ) (machine : Machine) (memory : List ℕ)
     → cost_after (suc n) cost machine memory
     ≡ cost_after n ((flat_step machine memory).done.cost) ((flat_step machine memory).machine)
-        ((flat_step machine memory).memory)
+    ((flat_step machine memory).memory)
 unfolding cost_after
 cost_after-suc n cost machine memory = refl
 
@@ -95,14 +95,14 @@ parts_from n more front step (Trap kind pc) later budget = absurd (cc)
 run_items-beyond : (n more cost : ℕ) (machine : Machine) (memory : List ℕ) → (flat_run n machine memory).ending ≡ Budget
     → run_items (n + more) cost machine memory
     ≡ run_items n cost machine memory ++ items_beyond more (cost_after n cost machine memory)
-        (flat_run n machine memory)
+    (flat_run n machine memory)
 run_items-beyond zero more cost machine memory budget =
     ap (λ n. run_items n cost machine memory) (let e : 0 + more ≡ more = omega arith in e)
     ∙ ap (λ n. run_items more n machine memory) (sym (cost_after-none cost machine memory))
     ∙ ap (λ (run : FlatRun). items_beyond more (cost_after 0 cost machine memory) run)
-        (sym (flat_run-zero machine memory))
+    (sym (flat_run-zero machine memory))
     ∙ ap (λ l. l ++ items_beyond more (cost_after 0 cost machine memory) (flat_run 0 machine memory))
-        (sym (run_items-none cost machine memory))
+    (sym (run_items-none cost machine memory))
 run_items-beyond (suc n) more cost machine memory budget =
     let step : FlatStep = flat_step machine memory in
     let front : List LineItem = items_after cost (step_lines machine memory) in
@@ -111,22 +111,22 @@ run_items-beyond (suc n) more cost machine memory budget =
     ap (λ k. run_items k cost machine memory) (let e : suc n + more ≡ suc (n + more) = omega arith in e)
     ∙ run_items-suc (n + more) cost machine memory
     ∙ parts_from n more front step (step.done.ended)
-        (run_items-beyond n more step.done.cost step.machine step.memory) whole
+    (run_items-beyond n more step.done.cost step.machine step.memory) whole
     ∙ ap (λ (run : FlatRun). (front ++ items_from (run_items n) step (step.done.ended))
-        ++ items_beyond more (cost_after n step.done.cost step.machine step.memory) run)
+    ++ items_beyond more (cost_after n step.done.cost step.machine step.memory) run)
     (sym (flat_run-suc n machine memory))
     ∙ ap (λ k. (front ++ items_from (run_items n) step (step.done.ended))
-        ++ items_beyond more k (flat_run (suc n) machine memory))
+    ++ items_beyond more k (flat_run (suc n) machine memory))
     (sym (cost_after-suc n cost machine memory))
     ∙ ap (λ l. l ++ items_beyond more (cost_after (suc n) cost machine memory) (flat_run (suc n) machine memory))
-        (sym (run_items-suc n cost machine memory))
+    (sym (run_items-suc n cost machine memory))
 
 pub run_items-parts : (n more cost : ℕ) (machine : Machine) (memory : List ℕ)
     → (flat_run n machine memory).ending ≡ Budget
     → run_items (n + more) cost machine memory
     ≡ run_items n cost machine memory
     ++ run_items more (cost_after n cost machine memory) ((flat_run n machine memory).machine)
-        ((flat_run n machine memory).memory)
+    ((flat_run n machine memory).memory)
 run_items-parts n more cost machine memory budget = run_items-beyond n more cost machine memory budget
 
 -- ---- the image's items
@@ -145,7 +145,7 @@ image_items-uses cost [] = ap (map (λ (item : LineItem). item.use_of)) (image_i
 image_items-uses cost (line ∷ marked) =
     ap (map (λ (item : LineItem). item.use_of)) (image_items-next cost line marked)
     ∙ ap (λ l. (let first : LineUse = record { line = line; kind = WholeWrite } in first) ∷ l)
-        (image_items-uses 1 marked)
+    (image_items-uses 1 marked)
 
 -- ---- lines rise, and lie in the memory
 -- the one use is of a lower line
@@ -217,7 +217,7 @@ lines_of-inside core kind address (suc n) lines place =
     let high : address + suc n ≤ core.base + core.size = place.below (omega arith) in
     subst (λ l. All (InMemory core.size) (used kind l)) (sym (lines_of-some core address (suc n) (omega arith)))
     (lines_from-inside core.size kind (line_of core address) (line_of core (address + suc n - 1)
-        + 1 - line_of core address) (omega arith))
+    + 1 - line_of core address) (omega arith))
 
 data_lines-inside : (machine : Machine) (effect : Effect) → machine.core.size % 64 ≡ 0 → IsEffect machine effect
     → All (InMemory machine.core.size) (data_lines machine.core effect)
@@ -265,7 +265,7 @@ items_after-inside : (size cost : ℕ) (lines : List LineUse) → All (InMemory 
 items_after-inside size cost [] h = All-nil (λ (item : LineItem). item.use_of.line < size / 64)
 items_after-inside size cost (first ∷ others) h =
     All-cons (λ (item : LineItem). item.use_of.line < size / 64) (record { cost = cost; use_of = first })
-        (items_after 0 others)
+    (items_after 0 others)
     (h 0 first (omega arith)) (items_after-inside size 0 others (λ k d below. h (suc k) d (omega arith)))
 
 -- a step leaves the memory where it is
@@ -309,7 +309,7 @@ flat_step-base machine memory =
     let word : ℕ = from_le_bytes w32 (bytes_at machine memory machine.core.pc 4) in
     step-if (λ s. s.machine.core.base ≡ machine.core.base) (is_inside machine.core machine.core.pc 4)
     (effected machine memory (cost_of_word machine word) (effect_of_word machine word))
-        (effected machine memory 0 (Traps FetchFault))
+    (effected machine memory 0 (Traps FetchFault))
     (effected-base machine memory (cost_of_word machine word) (effect_of_word machine word)) refl
 
 pub flat_step-size : (machine : Machine) (memory : List ℕ)
@@ -318,7 +318,7 @@ flat_step-size machine memory =
     let word : ℕ = from_le_bytes w32 (bytes_at machine memory machine.core.pc 4) in
     step-if (λ s. s.machine.core.size ≡ machine.core.size) (is_inside machine.core machine.core.pc 4)
     (effected machine memory (cost_of_word machine word) (effect_of_word machine word))
-        (effected machine memory 0 (Traps FetchFault))
+    (effected machine memory 0 (Traps FetchFault))
     (effected-size machine memory (cost_of_word machine word) (effect_of_word machine word)) refl
 
 items_from-inside : (size : ℕ) (rest : ℕ → Machine → List ℕ → List LineItem) (step : FlatStep) (ended : Ended)
@@ -337,7 +337,7 @@ run_items-inside zero cost base size machine memory at long fits =
 run_items-inside (suc n) cost base size machine memory at long fits =
     let step : FlatStep = flat_step machine memory in
     let own : IsMemory machine.core.base machine.core.size = subst
-        (λ b. IsMemory b machine.core.size) (sym at) (subst (IsMemory base) (sym long) fits) in
+    (λ b. IsMemory b machine.core.size) (sym at) (subst (IsMemory base) (sym long) fits) in
     let first : All (InMemory size) (step_lines machine memory) =
     subst (λ k. All (InMemory k) (step_lines machine memory)) long (step_lines-inside machine memory own) in
     subst (All (λ (item : LineItem). item.use_of.line < size / 64)) (sym (run_items-suc n cost machine memory))

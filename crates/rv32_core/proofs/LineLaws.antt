@@ -18,7 +18,7 @@ lines_of-none core address = refl
 -- of some
 pub lines_of-some : (core : CoreState) (address count : ℕ) → 0 < count
     → lines_of core address count ≡ lines_from (line_of core address) (line_of core (address + count - 1)
-        + 1 - line_of core address)
+    + 1 - line_of core address)
 lines_of-some core address count some = let no : (count == 0) ≡ false = grind (arith, nat_tests) in rw no refl
 
 pub lines_from-none : (line : ℕ) → lines_from line 0 ≡ []
@@ -39,7 +39,7 @@ pub lines_of-one : (core : CoreState) (address count : ℕ) → core.base % 64 �
 lines_of-one core address count lines low some fits =
     lines_of-some core address count some
     ∙ ap (lines_from (line_of core address)) (let e : line_of core (address + count - 1) + 1 - line_of core address
-        ≡ 1 = omega arith in e)
+    ≡ 1 = omega arith in e)
     ∙ lines_from-one (line_of core address)
 
 -- the line of its first piece, and the lines of what is left
@@ -51,7 +51,7 @@ lines_of-more core address count lines low some = elim (cases_lt (64 - address %
       lines_of-one core address count lines low some (omega arith)
       ∙ ap (λ l. line_of core address ∷ l)
       (sym (ap (lines_of core (address + first_length address count)) (let e : count - first_length address count
-          ≡ 0 = omega arith in e)))
+      ≡ 0 = omega arith in e)))
   | inl over ↦
       let part : ℕ = 64 - address % 64 in
       let first : first_length address count ≡ part = omega arith in
@@ -74,7 +74,7 @@ lines_of-more core address count lines low some = elim (cases_lt (64 - address %
 pub AsksLines-bind : {B C A D : Type 0} (core : CoreState) (put : B → C) (p : Plan Access (List ℕ) B A) (next : A
     → Plan Access (List ℕ) C D)
     (lines more : List LineUse) → AsksLines core p lines → ((a : A) → AsksLines core (next a) more)
-        → AsksLines core (bind put p next) (lines ++ more)
+    → AsksLines core (bind put p next) (lines ++ more)
 AsksLines-bind core put (Outcome a) next lines more h g = subst (λ l. AsksLines core (next a) (l ++ more)) (sym h) (g a)
 AsksLines-bind core put (Ask access left k) next [] more h g = absurd h
 AsksLines-bind core put (Ask access left k) next (first ∷ others) more h g =
@@ -98,7 +98,7 @@ AsksLines-asked core serve (Ask access left k) held [] h = absurd h
 AsksLines-asked core serve (Ask access left k) held (first ∷ others) h =
     ap (λ (l : LineUse). l ∷ asked_lines core serve (k ((serve held access).0)) ((serve held access).1)) (h.0)
     ∙ ap (λ l. first ∷ l) (AsksLines-asked core serve (k ((serve held access).0)) ((serve held access).1) others
-        (h.1 ((serve held access).0)))
+    (h.1 ((serve held access).0)))
 
 -- the stores of a range ask for its lines, whatever bytes are stored
 stores_within-lines : (core : CoreState) (most address count : ℕ) (bytes : List ℕ) → core.base % 64 ≡ 0
@@ -112,12 +112,12 @@ stores_within-lines core (suc most) address (suc n) bytes lines low fits =
     let part : ℕ = first_length address count in
     let base : core.base ≤ address = low (omega arith) in
     let rest = stores_within-lines core most (address + part) (count - part) (drop part bytes) lines
-        (λ _. omega arith) (omega arith) in
+    (λ _. omega arith) (omega arith) in
     subst (λ l. AsksLines core (stores_plan bytes l) (used Write (lines_of core address count)))
     (sym (pieces_within-more most address count (omega arith)))
     (subst
-        (λ l. AsksLines core (stores_plan bytes ((address, part) ∷ pieces_within most (address + part) (count - part)))
-        (used Write l))
+    (λ l. AsksLines core (stores_plan bytes ((address, part) ∷ pieces_within most (address + part) (count - part)))
+    (used Write l))
     (sym (lines_of-more core address count lines base (omega arith)))
     (refl, λ _. rest))
 
@@ -141,11 +141,13 @@ loads_within-lines core (suc most) address (suc n) so_far lines low fits =
     subst (λ l. AsksLines core (loads_plan so_far l) (used Read (lines_of core address count)))
     (sym (pieces_within-more most address count (omega arith)))
     (subst
-        (λ l. AsksLines core (loads_plan so_far ((address, part) ∷ pieces_within most (address + part) (count - part)))
-        (used Read l))
-    (sym (lines_of-more core address count lines base (omega arith)))
-    (refl, λ bytes. loads_within-lines core most (address + part) (count - part) (so_far ++ bytes) lines
-        (λ _. omega arith) (omega arith)))
+    (λ l. AsksLines core (loads_plan so_far ((address, part) ∷ pieces_within most (address + part) (count - part)))
+    (used Read l))
+    (sym (lines_of-more core address count lines base (omega arith))) (
+      refl,
+      λ bytes. loads_within-lines core most (address + part) (count - part) (so_far ++ bytes) lines
+          (λ _. omega arith) (omega arith),
+    ))
 
 pub loads_plan-lines : (core : CoreState) (address count : ℕ) (so_far : List ℕ) → core.base % 64 ≡ 0
     → (0 < count → core.base ≤ address)

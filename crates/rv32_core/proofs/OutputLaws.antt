@@ -50,9 +50,9 @@ step-output machine memory =
     let word : ℕ = from_le_bytes w32 (bytes_at machine memory machine.core.pc 4) in
     step-if (λ s. Begins s.machine.files.output machine.files.output) (is_inside machine.core machine.core.pc 4)
     (effected machine memory (cost_of_word machine word) (effect_of_word machine word))
-        (effected machine memory 0 (Traps FetchFault))
+    (effected machine memory 0 (Traps FetchFault))
     (effected-output machine memory (cost_of_word machine word) (effect_of_word machine word))
-        (begins-same machine.files.output)
+    (begins-same machine.files.output)
 
 from-output : (rest : Machine → List ℕ → FlatRun) (step : FlatStep) (ended : Ended) (out : List ℕ)
     → ((m : Machine) (memory : List ℕ) → Begins (rest m memory).machine.files.output m.files.output)
@@ -86,7 +86,7 @@ pub longer-output : (n more : ℕ) (machine : Machine) (memory : List ℕ)
 longer-output n more machine memory =
     let run : FlatRun = flat_run n machine memory in
     subst (λ (r : FlatRun). Begins r.machine.files.output run.machine.files.output)
-        (sym (flat_run-goes_on n more machine memory))
+    (sym (flat_run-goes_on n more machine memory))
     (gone_on-output more run run.ending)
 
 -- ---- the number of bytes
@@ -103,7 +103,7 @@ length-read machine memory address count (b ∷ bytes) all fits long =
     let some : 0 < count = omega (arith, all) in
     let above : machine.core.base ≤ address = is_buffer-above machine.core address count fits some in
     let below : address + count ≤ machine.core.base
-        + machine.core.size = is_buffer-below machine.core address count fits some in
+    + machine.core.size = is_buffer-below machine.core address count fits some in
     length-spliced memory (address - machine.core.base) (b ∷ bytes) (omega (arith, all, long))
 
 length-stored : (machine : Machine) (memory : List ℕ) (op : StoreOp) (address value : ℕ)
@@ -140,9 +140,9 @@ step-length machine memory long =
     let word : ℕ = from_le_bytes w32 (bytes_at machine memory machine.core.pc 4) in
     step-if (λ s. length s.memory ≡ length memory) (is_inside machine.core machine.core.pc 4)
     (effected machine memory (cost_of_word machine word) (effect_of_word machine word))
-        (effected machine memory 0 (Traps FetchFault))
+    (effected machine memory 0 (Traps FetchFault))
     (effected-length machine memory (cost_of_word machine word) (effect_of_word machine word)
-        (effect_of_word-fine machine word) long) refl
+    (effect_of_word-fine machine word) long) refl
 
 from-length : (rest : Machine → List ℕ → FlatRun) (step : FlatStep) (ended : Ended) (count : ℕ)
     → length (rest step.machine step.memory).memory ≡ count → length step.memory ≡ count

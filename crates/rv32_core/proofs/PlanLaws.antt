@@ -27,8 +27,11 @@ use Rattle.rv32_core.proofs.TransferLaws.{first_length, pieces_within-none, piec
 -- the first piece of a range lies in one line
 first-in_line : (base size address count : ℕ) → 0 < count → base ≤ address → address + count ≤ base + size
     → IsInLine base size address (first_length address count)
-first-in_line base size address count some above below = record { above = above; below = omega arith;
-    in_line = omega arith }
+first-in_line base size address count some above below = record {
+  above = above;
+  below = omega arith;
+  in_line = omega arith;
+}
 
 -- each store of a range
 Asks-stores_within : (base size most address : ℕ) (bytes : List ℕ) → length bytes ≤ most
@@ -47,7 +50,7 @@ Asks-stores_within base size (suc most) address (b ∷ bs) fits above below =
     let first : length (take part bytes) ≡ part = length-take-le part bytes (omega arith) in
     let left : length (drop part bytes) ≡ count - part = length-drop part bytes in
     let later = Asks-stores_within base size most (address + part) (drop part bytes) (omega (arith, left))
-        (λ _. omega arith) (λ _. omega (arith, left)) in
+    (λ _. omega arith) (λ _. omega (arith, left)) in
     subst (λ l. Asks (IsAccess base size) (stores_plan bytes l)) (sym (pieces_within-more most address count some)) (
       subst (λ n. IsInLine base size address n) (sym first) (first-in_line base size address count some low high),
       λ _. subst
@@ -89,9 +92,11 @@ Asks-effect_plan machine cost (Jumps index target) fine = tt
 Asks-effect_plan machine cost (Loads op index address) fine = (load-in_line machine op index address fine, λ _. tt)
 Asks-effect_plan machine cost (Stores op address value) fine =
     let line : IsInLine machine.core.base machine.core.size address
-        (store_width op) = store-in_line machine op address value fine in
-    (subst (λ n. IsInLine machine.core.base machine.core.size address n)
-        (sym (length-stored_bytes op value)) line, λ _. tt)
+    (store_width op) = store-in_line machine op address value fine in (
+      subst (λ n. IsInLine machine.core.base machine.core.size address n)
+          (sym (length-stored_bytes op value)) line,
+      λ _. tt,
+    )
 Asks-effect_plan machine cost (Answers value) fine = tt
 Asks-effect_plan machine cost (Breaks value) fine = tt
 Asks-effect_plan machine cost (Reads address count) fine =
@@ -104,7 +109,7 @@ Asks-effect_plan machine cost (Reads address count) fine =
     (Asks-stores_within core.base core.size (length bytes) address bytes (omega arith)
     (λ some. is_buffer-above core address count fine.0 (omega (arith, all)))
     (λ some. (let high : address + count ≤ core.base + core.size = is_buffer-below core address count fine.0
-        (omega (arith, all)) in omega (arith, all)))))
+    (omega (arith, all)) in omega (arith, all)))))
     (λ _. tt)
 Asks-effect_plan machine cost (Writes address count) fine =
     let core = machine.core in
@@ -120,17 +125,22 @@ Asks-effect_plan machine cost (Traps kind) fine = tt
 Asks-fetch : (machine : Machine) (fits : Bool)
     → (fits ≡ true → IsInLine machine.core.base machine.core.size machine.core.pc 4)
     → Asks (IsAccess machine.core.base machine.core.size) (if fits then Ask (Load machine.core.pc 4) machine
-        (λ bytes. word_plan machine (from_le_bytes w32 bytes)) else effect_plan machine 0 (Traps FetchFault))
-Asks-fetch machine true line =
-    (line refl, λ bytes. Asks-effect_plan machine (cost_of_word machine (from_le_bytes w32 bytes))
-        (effect_of_word machine (from_le_bytes w32 bytes)) (effect_of_word-fine machine (from_le_bytes w32 bytes)))
+    (λ bytes. word_plan machine (from_le_bytes w32 bytes)) else effect_plan machine 0 (Traps FetchFault))
+Asks-fetch machine true line = (
+  line refl,
+  λ bytes. Asks-effect_plan machine (cost_of_word machine (from_le_bytes w32 bytes))
+      (effect_of_word machine (from_le_bytes w32 bytes)) (effect_of_word-fine machine (from_le_bytes w32 bytes)),
+)
 Asks-fetch machine false line = tt
 
 -- four bytes at a pc
 fetch-in_line : (core : CoreState) → core.pc % 4 ≡ 0 → is_inside core core.pc 4 ≡ true
     → IsInLine core.base core.size core.pc 4
-fetch-in_line core aligned fits = record { above = grind (arith, nat_tests); below = grind (arith, nat_tests);
-    in_line = omega arith }
+fetch-in_line core aligned fits = record {
+  above = grind (arith, nat_tests);
+  below = grind (arith, nat_tests);
+  in_line = omega arith;
+}
 
 -- Whatever is answered, a step asks for bytes inside the memory and inside one line alone.
 pub Asks-step_plan : (machine : Machine) → IsCore machine.core
@@ -180,13 +190,13 @@ IsCore-moved_break core break is = record { memory = is.memory; aligned = is.ali
 module _ {S E : Type 0} (step : S → Access → Result (List ℕ) E → S → Type 0) where
   Ends-effect_keeps : (machine : Machine) (cost : ℕ) (effect : Effect) → IsEffect machine effect → IsCore machine.core
       → (s t : S) (end : Machine × Done) → Ends step (effect_plan machine cost effect) s t end
-          → IsSameMemory machine.core ((end.0).core)
+      → IsSameMemory machine.core ((end.0).core)
   Ends-effect_keeps machine cost Passes fine is s t end h =
       subst (λ (e : Machine × Done). IsSameMemory machine.core ((e.0).core)) (sym h.0)
-          (IsCore-set_to machine.core 0 0 is)
+      (IsCore-set_to machine.core 0 0 is)
   Ends-effect_keeps machine cost (Sets index value) fine is s t end h =
       subst (λ (e : Machine × Done). IsSameMemory machine.core ((e.0).core)) (sym h.0)
-          (IsCore-set_to machine.core index value is)
+      (IsCore-set_to machine.core index value is)
   Ends-effect_keeps machine cost (Jumps index target) fine is s t end h =
       subst (λ (e : Machine × Done). IsSameMemory machine.core ((e.0).core)) (sym h.0)
       (IsCore-moved_on machine.core index (next_pc machine.core) target fine.1 is)
@@ -195,10 +205,10 @@ module _ {S E : Type 0} (step : S → Access → Result (List ℕ) E → S → T
       (IsCore-set_to machine.core index (load_meaning op (from_le_bytes w32 (h.0))) is)
   Ends-effect_keeps machine cost (Stores op address value) fine is s t end h =
       subst (λ (e : Machine × Done). IsSameMemory machine.core ((e.0).core)) (sym (h.3).0)
-          (IsCore-set_to machine.core 0 0 is)
+      (IsCore-set_to machine.core 0 0 is)
   Ends-effect_keeps machine cost (Answers value) fine is s t end h =
       subst (λ (e : Machine × Done). IsSameMemory machine.core ((e.0).core)) (sym h.0)
-          (IsCore-set_to machine.core 10 value is)
+      (IsCore-set_to machine.core 10 value is)
   Ends-effect_keeps machine cost (Breaks value) fine is s t end h =
       let moved : CoreState = record machine.core { break_now = value } in
       let same : IsSameMemory moved (at_pc (with_register moved 10 value) (next_pc moved)) =
@@ -211,31 +221,31 @@ module _ {S E : Type 0} (step : S → Access → Result (List ℕ) E → S → T
       (stores_plan (slice_of machine.files.input machine.files.position count) (pieces address count))
       (λ _. Outcome (after_read machine count, going_on cost))
       (λ x s' t' e g. subst (λ (r : Machine × Done). IsSameMemory machine.core ((r.0).core)) (sym g.0)
-          (IsCore-set_to machine.core 10 count is)) s t end h
+      (IsCore-set_to machine.core 10 count is)) s t end h
   Ends-effect_keeps machine cost (Writes address count) fine is s t end h =
       Ends-bind-holds step (λ (e : Machine × Done). IsSameMemory machine.core ((e.0).core)) (λ _. machine)
       (loads_plan machine.files.output (pieces address count))
       (λ output. Outcome (after_write machine output count, going_on cost))
       (λ x s' t' e g. subst (λ (r : Machine × Done). IsSameMemory machine.core ((r.0).core)) (sym g.0)
-          (IsCore-set_to machine.core 10 count is)) s t end h
+      (IsCore-set_to machine.core 10 count is)) s t end h
   Ends-effect_keeps machine cost (Exits status) fine is s t end h =
       subst (λ (e : Machine × Done). IsSameMemory machine.core ((e.0).core)) (sym h.0)
-          (record { is = is; base = refl; size = refl })
+      (record { is = is; base = refl; size = refl })
   Ends-effect_keeps machine cost (Traps kind) fine is s t end h =
       subst (λ (e : Machine × Done). IsSameMemory machine.core ((e.0).core)) (sym h.0)
-          (record { is = is; base = refl; size = refl })
+      (record { is = is; base = refl; size = refl })
 
   Ends-fetch_keeps : (machine : Machine) (fits : Bool) → IsCore machine.core → (s t : S) (end : Machine × Done)
       → Ends step (if fits then Ask (Load machine.core.pc 4) machine
-          (λ bytes. word_plan machine (from_le_bytes w32 bytes)) else effect_plan machine 0 (Traps FetchFault)) s t end
+      (λ bytes. word_plan machine (from_le_bytes w32 bytes)) else effect_plan machine 0 (Traps FetchFault)) s t end
       → IsSameMemory machine.core ((end.0).core)
   Ends-fetch_keeps machine true is s t end h =
       let word : ℕ = from_le_bytes w32 (h.0) in
       Ends-effect_keeps machine (cost_of_word machine word) (effect_of_word machine word)
-          (effect_of_word-fine machine word) is (h.1) t end (h.3)
+      (effect_of_word-fine machine word) is (h.1) t end (h.3)
   Ends-fetch_keeps machine false is s t end h =
       subst (λ (e : Machine × Done). IsSameMemory machine.core ((e.0).core)) (sym h.0)
-          (record { is = is; base = refl; size = refl })
+      (record { is = is; base = refl; size = refl })
 
   -- Whatever is answered, the core after a step is one of the same memory.
   pub Ends-step_keeps : (machine : Machine) → IsCore machine.core → (s t : S) (end : Machine × Done)

@@ -54,16 +54,20 @@ served-after base n before step No later =
 served-after base n before step (Exit status) later = refl
 served-after base n before step (Trap kind pc) later =
     ap (λ (k : ℕ). let parts : RunEnd
-        × List ℕ = (record { instructions = k; machine = step.machine; ending = Trapped kind pc },
-        step.memory) in parts)
+    × List ℕ = (
+      record { instructions = k; machine = step.machine; ending = Trapped kind pc },
+      step.memory,
+    ) in parts)
     (let e : before ≡ before + 0 = omega arith in e)
 
 pub served-run_plan : (base n before : ℕ) (machine : Machine) (memory : List ℕ) → machine.core.base ≡ base
     → served (access_bytes base) (run_plan n before machine) memory ≡ run_parts before (flat_run n machine memory)
 served-run_plan base zero before machine memory at =
     ap (λ (p : MachineRun). served (access_bytes base) p memory) (run_plan-none before machine)
-    ∙ ap (λ (k : ℕ). let parts : RunEnd × List ℕ = (record { instructions = k; machine = machine; ending = Budget },
-        memory) in parts)
+    ∙ ap (λ (k : ℕ). let parts : RunEnd × List ℕ = (
+      record { instructions = k; machine = machine; ending = Budget },
+      memory,
+    ) in parts)
     (let e : before ≡ before + 0 = omega arith in e)
     ∙ ap (λ (r : FlatRun). run_parts before r) (sym (flat_run-zero machine memory))
 served-run_plan base (suc n) before machine memory at =
@@ -75,7 +79,7 @@ served-run_plan base (suc n) before machine memory at =
     (λ end. after_instruction before (run_plan n (before + 1)) (end.0) ((end.1).ended)) memory
     ∙ ap (λ (r : (Machine × Done) × List ℕ).
     served (access_bytes base) (after_instruction before (run_plan n (before + 1)) ((r.0).0) (((r.0).1).ended)) (r.1))
-        first
+    first
     ∙ served-after base n before step step.done.ended
     (served-run_plan base n (before + 1) step.machine step.memory (flat_step-base machine memory ∙ at))
     ∙ ap (λ (r : FlatRun). run_parts before r) (sym (flat_run-suc n machine memory))
@@ -111,9 +115,9 @@ asked-same : {H B A : Type 0} (core other : CoreState) (serve : H → Access
 asked-same core other serve (Outcome a) held e = refl
 asked-same core other serve (Ask access left k) held e =
     ap (λ (u : LineUse). u ∷ asked_lines core serve (k ((serve held access).0)) ((serve held access).1))
-        (line_used-same core other access e)
+    (line_used-same core other access e)
     ∙ ap (λ l. line_used other access ∷ l) (asked-same core other serve (k ((serve held access).0))
-        ((serve held access).1) e)
+    ((serve held access).1) e)
 
 -- the lines of items
 abbrev pub uses_of : List LineItem → List LineUse
@@ -136,7 +140,7 @@ asked-after core serve n before step (Trap kind pc) later = refl
 pub asked-run_plan : (core : CoreState) (n before cost : ℕ) (machine : Machine) (memory : List ℕ)
     → core.base ≡ machine.core.base → core.size ≡ machine.core.size → IsMemory core.base core.size
     → asked_lines core (access_bytes core.base) (run_plan n before machine) memory
-        ≡ uses_of (run_items n cost machine memory)
+    ≡ uses_of (run_items n cost machine memory)
 asked-run_plan core zero before cost machine memory at long fits =
     ap (λ (p : MachineRun). asked_lines core (access_bytes core.base) p memory) (run_plan-none before machine)
     ∙ ap uses_of (sym (run_items-none cost machine memory))
@@ -155,19 +159,19 @@ asked-run_plan core (suc n) before cost machine memory at long fits =
     ∙ asked-bind core serve (λ left. (before, left)) (step_plan machine)
     (λ end. after_instruction before (run_plan n (before + 1)) (end.0) ((end.1).ended)) memory
     ∙ ap (λ l. l ++ asked_lines core serve (after_instruction before (run_plan n (before + 1))
-        (((served serve (step_plan machine) memory).0).0) ((((served serve (step_plan machine) memory).0).1).ended))
-        ((served serve (step_plan machine) memory).1)) lines
+    (((served serve (step_plan machine) memory).0).0) ((((served serve (step_plan machine) memory).0).1).ended))
+    ((served serve (step_plan machine) memory).1)) lines
     ∙ ap (λ (r : (Machine × Done) × List ℕ).
     step_lines machine memory ++ asked_lines core serve
-        (after_instruction before (run_plan n (before + 1)) ((r.0).0) (((r.0).1).ended)) (r.1)) first
+    (after_instruction before (run_plan n (before + 1)) ((r.0).0) (((r.0).1).ended)) (r.1)) first
     ∙ ap (λ l. step_lines machine memory ++ l)
     (asked-after core serve n before step step.done.ended
     (asked-run_plan core n (before + 1) step.done.cost step.machine step.memory
     (at ∙ sym (flat_step-base machine memory)) (long ∙ sym (flat_step-size machine memory)) fits))
     ∙ ap (λ l. l ++ uses_of (items_from (run_items n) step step.done.ended))
-        (sym (uses_of-after cost (step_lines machine memory)))
+    (sym (uses_of-after cost (step_lines machine memory)))
     ∙ sym (map-append (λ (item : LineItem). item.use_of) (items_after cost (step_lines machine memory))
-        (items_from (run_items n) step step.done.ended))
+    (items_from (run_items n) step step.done.ended))
     ∙ ap uses_of (sym (run_items-suc n cost machine memory))
 
 -- ---- what it may ask for

@@ -30,7 +30,7 @@ length-slice_of list offset count fits = grind (arith, common_steps)
 -- an effect's plan is served by a list of bytes to what the effect makes of it
 pub served-effect_plan : (machine : Machine) (memory : List ℕ) (cost : ℕ) (effect : Effect) → IsEffect machine effect
     → served (access_bytes machine.core.base) (effect_plan machine cost effect) memory
-        ≡ parts_of (effected machine memory cost effect)
+    ≡ parts_of (effected machine memory cost effect)
 served-effect_plan machine memory cost Passes fine = refl
 served-effect_plan machine memory cost (Sets index value) fine = refl
 served-effect_plan machine memory cost (Jumps index target) fine = refl
@@ -45,30 +45,30 @@ served-effect_plan machine memory cost (Reads address count) fine =
     served-bind (access_bytes base) (λ _. machine) (stores_plan bytes (pieces address count))
     (λ _. Outcome (after_read machine count, going_on cost)) memory
     ∙ ap (λ (r : Unit {0} × List ℕ). let end : (Machine × Done)
-        × List ℕ = ((after_read machine count, going_on cost), r.1) in end)
+    × List ℕ = ((after_read machine count, going_on cost), r.1) in end)
     (served-stores_plan base address count bytes memory all (is_buffer-above machine.core address count fine.0))
 served-effect_plan machine memory cost (Writes address count) fine =
     let base = machine.core.base in
     served-bind (access_bytes base) (λ _. machine) (loads_plan machine.files.output (pieces address count))
     (λ output. Outcome (after_write machine output count, going_on cost)) memory
     ∙ ap (λ (r : List ℕ × List ℕ). let end : (Machine × Done)
-        × List ℕ = ((after_write machine (r.0) count, going_on cost), r.1) in end)
+    × List ℕ = ((after_write machine (r.0) count, going_on cost), r.1) in end)
     (served-loads_plan base address count machine.files.output memory
-        (is_buffer-above machine.core address count fine.0))
+    (is_buffer-above machine.core address count fine.0))
 served-effect_plan machine memory cost (Exits status) fine = refl
 served-effect_plan machine memory cost (Traps kind) fine = refl
 
 -- the two ways of a fetch
 served-fetch : (machine : Machine) (memory : List ℕ) (fits : Bool)
     → served (access_bytes machine.core.base) (if fits then Ask (Load machine.core.pc 4) machine
-        (λ bytes. word_plan machine (from_le_bytes w32 bytes)) else effect_plan machine 0 (Traps FetchFault)) memory
+    (λ bytes. word_plan machine (from_le_bytes w32 bytes)) else effect_plan machine 0 (Traps FetchFault)) memory
     ≡ parts_of (let word : ℕ = from_le_bytes w32 (slice_of memory (machine.core.pc - machine.core.base) 4)
-        in if fits then effected machine memory (cost_of_word machine word)
-        (effect_of_word machine word) else effected machine memory 0 (Traps FetchFault))
+    in if fits then effected machine memory (cost_of_word machine word)
+    (effect_of_word machine word) else effected machine memory 0 (Traps FetchFault))
 served-fetch machine memory true =
     let word : ℕ = from_le_bytes w32 (slice_of memory (machine.core.pc - machine.core.base) 4) in
     served-effect_plan machine memory (cost_of_word machine word) (effect_of_word machine word)
-        (effect_of_word-fine machine word)
+    (effect_of_word-fine machine word)
 served-fetch machine memory false = refl
 
 -- a step's plan is served by a list of bytes to the step of the flat machine
@@ -81,8 +81,11 @@ pub flat_step-is : (machine : Machine) (memory : List ℕ) (end : (Machine × Do
     → served (access_bytes machine.core.base) (step_plan machine) memory ≡ end
     → flat_step machine memory ≡ record { machine = (end.0).0; memory = end.1; done = (end.0).1 }
 flat_step-is machine memory end e =
-    ap (λ (r : (Machine × Done) × List ℕ). let step : FlatStep = record { machine = (r.0).0; memory = r.1;
-        done = (r.0).1 } in step)
+    ap (λ (r : (Machine × Done) × List ℕ). let step : FlatStep = record {
+      machine = (r.0).0;
+      memory = r.1;
+      done = (r.0).1;
+    } in step)
     (sym (served-step_plan machine memory) ∙ e)
 
 module _ {S E : Type 0} (step : S → Access → Result (List ℕ) E → S → Type 0) (base : S → ℕ) (told : S → Option (List ℕ))
@@ -100,7 +103,7 @@ module _ {S E : Type 0} (step : S → Access → Result (List ℕ) E → S → T
       (after, ap told (sym h.1) ∙ e, (let is : a ≡ x = h.0 in ap (λ (z : A). (z, after)) (sym is)))
   Ends-told start (Ask (Load address count) b k) s t a same h after e =
       let rest = Ends-told start (k (h.0)) (h.1) t a (keeps_base s (h.1) (Load address count) (Ok (h.0)) (h.2)
-          ∙ same) (h.3) after e in
+      ∙ same) (h.3) after e in
       let first = tells_load s (h.1) address count (h.0) (h.2) (rest.0) (rest.1) in
       let is : h.0 ≡ slice_of (rest.0) (address - start) count =
       first.1 ∙ ap (λ n. slice_of (rest.0) (address - n) count) same
@@ -108,7 +111,7 @@ module _ {S E : Type 0} (step : S → Access → Result (List ℕ) E → S → T
       (rest.0, first.0, ap (λ bytes. served (access_bytes start) (k bytes) (rest.0)) (sym is) ∙ rest.2)
   Ends-told start (Ask (Store address bytes) b k) s t a same h after e =
       let rest = Ends-told start (k (h.0)) (h.1) t a (keeps_base s (h.1) (Store address bytes) (Ok (h.0)) (h.2)
-          ∙ same) (h.3) after e in
+      ∙ same) (h.3) after e in
       let first = tells_store s (h.1) address bytes (h.0) (h.2) (rest.0) (rest.1) in
       let none : h.0 ≡ [] = answers s (h.1) (Store address bytes) (h.0) (h.2) in
       let is : (access_bytes start (first.0) (Store address bytes)).1 ≡ rest.0 =

@@ -32,8 +32,10 @@ pub record IsPlace (core : CoreState) (address count : ℕ) : Type 0 where
 -- bytes that are inside
 pub is_inside-place : (core : CoreState) (address count : ℕ) → is_inside core address count ≡ true
     → IsPlace core address count
-is_inside-place core address count inside = record { above = λ _. grind (arith, nat_tests);
-    below = λ _. grind (arith, nat_tests) }
+is_inside-place core address count inside = record {
+  above = λ _. grind (arith, nat_tests);
+  below = λ _. grind (arith, nat_tests);
+}
 
 -- the bytes of a load, of a store, and of a buffer
 pub load-place : (machine : Machine) (op : LoadOp) (index address : ℕ) → IsEffect machine (Loads op index address)
@@ -94,25 +96,25 @@ effect_plan-lines machine cost (Jumps index target) lines h = refl
 effect_plan-lines machine cost (Loads op index address) lines h =
     subst (λ l. AsksLines machine.core (effect_plan machine cost (Loads op index address)) (used Read l))
     (sym (load-line machine.core op address lines ((load-place machine op index address h).above (load_width-some op))
-        (h.1))) (refl, λ _. refl)
+    (h.1))) (refl, λ _. refl)
 effect_plan-lines machine cost (Stores op address value) lines h =
     subst (λ l. AsksLines machine.core (effect_plan machine cost (Stores op address value)) (used Write l))
     (sym (store-line machine.core op address lines
-        ((store-place machine op address value h).above (store_width-some op)) (h.0))) (refl, λ _. refl)
+    ((store-place machine op address value h).above (store_width-some op)) (h.0))) (refl, λ _. refl)
 effect_plan-lines machine cost (Answers value) lines h = refl
 effect_plan-lines machine cost (Breaks value) lines h = refl
 effect_plan-lines machine cost (Reads address count) lines h =
     let bytes : List ℕ = slice_of machine.files.input machine.files.position count in
     AsksLines-last machine.core (λ _. machine) (stores_plan bytes (pieces address count))
-        (λ _. (after_read machine count, going_on cost))
+    (λ _. (after_read machine count, going_on cost))
     (used Write (lines_of machine.core address count))
-        (stores_plan-lines machine.core address count bytes lines (is_buffer-above machine.core address count (h.0)))
+    (stores_plan-lines machine.core address count bytes lines (is_buffer-above machine.core address count (h.0)))
 effect_plan-lines machine cost (Writes address count) lines h =
     AsksLines-last machine.core (λ _. machine) (loads_plan machine.files.output (pieces address count))
     (λ output. (after_write machine output count, going_on cost))
     (used Read (lines_of machine.core address count))
-        (loads_plan-lines machine.core address count machine.files.output lines
-        (is_buffer-above machine.core address count (h.0)))
+    (loads_plan-lines machine.core address count machine.files.output lines
+    (is_buffer-above machine.core address count (h.0)))
 effect_plan-lines machine cost (Exits status) lines h = refl
 effect_plan-lines machine cost (Traps kind) lines h = refl
 
@@ -152,14 +154,14 @@ step_plan-asked machine memory fits =
     (effect_plan machine 0 (Traps FetchFault)) memory (fetch_line core ∷ word_lines machine word) []
     (ap (λ l. fetch_line core ∷ l)
     (AsksLines-asked core (access_bytes core.base) (word_plan machine word) memory (word_lines machine word)
-        (word_plan-lines machine word fits)))
+    (word_plan-lines machine word fits)))
     refl
 
 -- ---- what a trap gives
 fault-lines : (machine : Machine) (memory : List ℕ) (cost : ℕ) (effect : Effect) (test : Bool) (pc : ℕ)
     → IsEffect machine effect
     → (if test then effected machine memory cost effect else effected machine memory 0 (Traps FetchFault)).done.ended
-        ≡ Trap FetchFault pc
+    ≡ Trap FetchFault pc
     → (if test then fetch_line machine.core ∷ data_lines machine.core effect else []) ≡ []
 fault-lines machine memory cost effect false pc h e = refl
 fault-lines machine memory cost Passes true pc h e = absurd (cc)
@@ -176,7 +178,7 @@ fault-lines machine memory cost (Traps kind) true pc h e = absurd (h (let same :
 
 trap-lines : (machine : Machine) (memory : List ℕ) (cost : ℕ) (effect : Effect) (test : Bool) (kind : TrapKind) (pc : ℕ)
     → (if test then effected machine memory cost effect else effected machine memory 0 (Traps FetchFault)).done.ended
-        ≡ Trap kind pc
+    ≡ Trap kind pc
     → (kind ≡ FetchFault → ⊥)
     → (if test then fetch_line machine.core ∷ data_lines machine.core effect else []) ≡ fetch_line machine.core ∷ []
 trap-lines machine memory cost effect false kind pc e other = absurd (other (let same : kind ≡ FetchFault = cc in same))
@@ -195,7 +197,7 @@ trap-lines machine memory cost (Traps found) true kind pc e other = refl
 finished-lines : (machine : Machine) (memory : List ℕ) (cost : ℕ) (effect : Effect) (test : Bool)
     → ((kind : TrapKind) (pc : ℕ)
     → (if test then effected machine memory cost effect else effected machine memory 0 (Traps FetchFault)).done.ended
-        ≡ Trap kind pc → ⊥)
+    ≡ Trap kind pc → ⊥)
     → (if test then fetch_line machine.core ∷ data_lines machine.core effect else [])
     ≡ fetch_line machine.core ∷ data_lines machine.core effect
 finished-lines machine memory cost effect true h = refl
@@ -206,7 +208,7 @@ pub step_lines-fault : (machine : Machine) (memory : List ℕ) (pc : ℕ)
 step_lines-fault machine memory pc e =
     let word : ℕ = from_le_bytes w32 (bytes_at machine memory machine.core.pc 4) in
     fault-lines machine memory (cost_of_word machine word) (effect_of_word machine word)
-        (is_inside machine.core machine.core.pc 4) pc
+    (is_inside machine.core machine.core.pc 4) pc
     (effect_of_word-fine machine word) e
 
 pub step_lines-trap : (machine : Machine) (memory : List ℕ) (kind : TrapKind) (pc : ℕ)
@@ -215,7 +217,7 @@ pub step_lines-trap : (machine : Machine) (memory : List ℕ) (kind : TrapKind) 
 step_lines-trap machine memory kind pc e other =
     let word : ℕ = from_le_bytes w32 (bytes_at machine memory machine.core.pc 4) in
     trap-lines machine memory (cost_of_word machine word) (effect_of_word machine word)
-        (is_inside machine.core machine.core.pc 4) kind pc e other
+    (is_inside machine.core machine.core.pc 4) kind pc e other
 
 pub step_lines-finished : (machine : Machine) (memory : List ℕ)
     → ((kind : TrapKind) (pc : ℕ) → (flat_step machine memory).done.ended ≡ Trap kind pc → ⊥)
@@ -224,4 +226,4 @@ pub step_lines-finished : (machine : Machine) (memory : List ℕ)
 step_lines-finished machine memory h =
     let word : ℕ = from_le_bytes w32 (bytes_at machine memory machine.core.pc 4) in
     finished-lines machine memory (cost_of_word machine word) (effect_of_word machine word)
-        (is_inside machine.core machine.core.pc 4) h
+    (is_inside machine.core machine.core.pc 4) h

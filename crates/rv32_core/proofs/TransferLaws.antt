@@ -25,7 +25,7 @@ pieces_within-none (suc most) address = refl
 pub pieces_within-more : (most address count : ℕ) → 0 < count
     → pieces_within (suc most) address count
     ≡ (address, first_length address count) ∷ pieces_within most (address + first_length address count)
-        (count - first_length address count)
+    (count - first_length address count)
 unfolding pieces_within
 pieces_within-more most address count some = let no : (count == 0) ≡ false = grind (arith, nat_tests) in rw no refl
 
@@ -35,7 +35,7 @@ pub pieces_within-enough : (most more address count : ℕ) → count ≤ most �
 pieces_within-enough zero more address count h g =
     let none : count ≡ 0 = omega arith in
     ap (pieces_within zero address) none ∙ pieces_within-none zero address ∙ sym (pieces_within-none more address)
-        ∙ ap (pieces_within more address) (sym none)
+    ∙ ap (pieces_within more address) (sym none)
 pieces_within-enough (suc most) more address zero h g = pieces_within-none (suc most) address
     ∙ sym (pieces_within-none more address)
 pieces_within-enough (suc most) zero address (suc count) h g = absurd (omega arith)
@@ -51,35 +51,35 @@ pieces_within-enough (suc most) (suc more) address (suc count) h g =
 -- the first piece of a range, and the pieces of what is left
 pub pieces-more : (address count : ℕ) → 0 < count
     → pieces address count ≡ (address, first_length address count) ∷ pieces (address + first_length address count)
-        (count - first_length address count)
+    (count - first_length address count)
 pieces-more address zero some = absurd (omega arith)
 pieces-more address (suc count) some =
     let part = first_length address (suc count) in
     let one : 0 < part = omega arith in
     pieces_within-more count address (suc count) some
     ∙ ap (λ l. (address, part) ∷ l) (pieces_within-enough count (suc count - part) (address + part) (suc count - part)
-        (omega arith) (omega arith))
+    (omega arith) (omega arith))
 
 -- the first store of a range, and the stores of what is left
 stores_plan-more : (address part : ℕ) (bytes piece later : List ℕ) → 0 < length bytes
     → part ≡ first_length address (length bytes)
     → piece ≡ take part bytes → later ≡ drop part bytes
     → stores_plan bytes (pieces address (length bytes)) ≡ Ask (Store address piece) tt
-        (λ _. stores_plan later (pieces (address + part) (length later)))
+    (λ _. stores_plan later (pieces (address + part) (length later)))
 stores_plan-more address part bytes piece later some first front back =
     let left : length bytes - part ≡ length later = sym (ap length back ∙ length-drop part bytes) in
     ap (stores_plan bytes) (pieces-more address (length bytes) some)
     ∙ ap (λ (n : ℕ). stores_plan bytes ((address, n) ∷ pieces (address + n) (length bytes - n))) (sym first)
     ∙ ap (λ (n : ℕ). stores_plan bytes ((address, part) ∷ pieces (address + part) n)) left
     ∙ ap (λ (l : List ℕ). let p : Plan Access (List ℕ) (Unit {0}) (Unit {0}) = Ask (Store address l) tt
-        (λ _. stores_plan (drop part bytes) (pieces (address + part) (length later))) in p) (sym front)
+    (λ _. stores_plan (drop part bytes) (pieces (address + part) (length later))) in p) (sym front)
     ∙ ap (λ (l : List ℕ). let p : Plan Access (List ℕ) (Unit {0}) (Unit {0}) = Ask (Store address piece) tt
-        (λ _. stores_plan l (pieces (address + part) (length later))) in p) (sym back)
+    (λ _. stores_plan l (pieces (address + part) (length later))) in p) (sym back)
 
 -- the first load of a range, and the loads of what is left
 loads_plan-more : (address count part : ℕ) (so_far : List ℕ) → 0 < count → part ≡ first_length address count
     → loads_plan so_far (pieces address count) ≡ Ask (Load address part) tt
-        (λ bytes. loads_plan (so_far ++ bytes) (pieces (address + part) (count - part)))
+    (λ bytes. loads_plan (so_far ++ bytes) (pieces (address + part) (count - part)))
 loads_plan-more address count part so_far some first =
     ap (loads_plan so_far) (pieces-more address count some)
     ∙ ap (λ (n : ℕ). loads_plan so_far ((address, n) ∷ pieces (address + n) (count - n))) (sym first)
@@ -94,7 +94,7 @@ module _ {S E : Type 0} (step : S → Access → Result (List ℕ) E → S → T
       → Ends step (stores_plan bytes (pieces address (length bytes))) s t tt
   stores_on address part bytes piece later some first front back s m t answer one rest =
       subst (λ p. Ends step p s t tt) (sym (stores_plan-more address part bytes piece later some first front back))
-          (answer, m, one, rest)
+      (answer, m, one, rest)
 
   -- a store of the rest is stopped
   pub stores_stop_later : (address part : ℕ) (bytes piece later : List ℕ) → 0 < length bytes
@@ -105,7 +105,7 @@ module _ {S E : Type 0} (step : S → Access → Result (List ℕ) E → S → T
       → Stops step (stores_plan bytes (pieces address (length bytes))) s t stop tt
   stores_stop_later address part bytes piece later some first front back s m t answer stop one rest =
       subst (λ p. Stops step p s t stop tt)
-          (sym (stores_plan-more address part bytes piece later some first front back)) (inr (answer, m, one, rest))
+      (sym (stores_plan-more address part bytes piece later some first front back)) (inr (answer, m, one, rest))
 
   -- the store of the first piece is stopped
   pub stores_stop : (address part : ℕ) (bytes piece later : List ℕ) → 0 < length bytes
@@ -115,14 +115,14 @@ module _ {S E : Type 0} (step : S → Access → Result (List ℕ) E → S → T
       → Stops step (stores_plan bytes (pieces address (length bytes))) s t stop tt
   stores_stop address part bytes piece later some first front back s t stop one =
       subst (λ p. Stops step p s t stop tt)
-          (sym (stores_plan-more address part bytes piece later some first front back)) (inl (one, refl))
+      (sym (stores_plan-more address part bytes piece later some first front back)) (inl (one, refl))
 
   -- with no byte left
   pub stores_over : (address : ℕ) (bytes : List ℕ) (s : S) → length bytes ≡ 0
       → Ends step (stores_plan bytes (pieces address (length bytes))) s s tt
   stores_over address bytes s none =
       subst (λ l. Ends step (stores_plan bytes l) s s tt) (sym (ap (λ n. pieces address n) none
-          ∙ pieces_within-none 0 address)) (refl, refl)
+      ∙ pieces_within-none 0 address)) (refl, refl)
 
   -- one piece is loaded, and the rest after it
   pub loads_on : (address count part : ℕ) (so_far : List ℕ) → 0 < count → part ≡ first_length address count
@@ -136,13 +136,18 @@ module _ {S E : Type 0} (step : S → Access → Result (List ℕ) E → S → T
   -- a load of the rest is stopped
   pub loads_stop_later : (address count part : ℕ) (so_far : List ℕ) → 0 < count → part ≡ first_length address count
       → (s m t : S) (loaded bytes : List ℕ) (stop : E) → step s (Load address part) (Ok bytes) m
-          → loaded ≡ so_far ++ bytes
+      → loaded ≡ so_far ++ bytes
       → Stops step (loads_plan loaded (pieces (address + part) (count - part))) m t stop tt
       → Stops step (loads_plan so_far (pieces address count)) s t stop tt
   loads_stop_later address count part so_far some first s m t loaded bytes stop one is rest =
       subst (λ p. Stops step p s t stop tt) (sym (loads_plan-more address count part so_far some first))
-      (inr (bytes, m, one, subst
-          (λ l. Stops step (loads_plan l (pieces (address + part) (count - part))) m t stop tt) is rest))
+      (inr (
+        bytes,
+        m,
+        one,
+        subst
+            (λ l. Stops step (loads_plan l (pieces (address + part) (count - part))) m t stop tt) is rest,
+      ))
 
   -- the load of the first piece is stopped
   pub loads_stop : (address count part : ℕ) (so_far : List ℕ) → 0 < count → part ≡ first_length address count
@@ -150,14 +155,14 @@ module _ {S E : Type 0} (step : S → Access → Result (List ℕ) E → S → T
       → Stops step (loads_plan so_far (pieces address count)) s t stop tt
   loads_stop address count part so_far some first s t stop one =
       subst (λ p. Stops step p s t stop tt) (sym (loads_plan-more address count part so_far some first))
-          (inl (one, refl))
+      (inl (one, refl))
 
   -- with no byte left
   pub loads_over : (address count : ℕ) (so_far : List ℕ) (s : S) → count ≡ 0
       → Ends step (loads_plan so_far (pieces address count)) s s so_far
   loads_over address count so_far s none =
       subst (λ l. Ends step (loads_plan so_far l) s s so_far) (sym (ap (λ n. pieces address n) none
-          ∙ pieces_within-none 0 address)) (refl, refl)
+      ∙ pieces_within-none 0 address)) (refl, refl)
 
 -- what is left of a range behind its first piece is a range
 pub range-later : (base size address count part left : ℕ) → IsRange base size address count → part ≤ count
@@ -178,7 +183,7 @@ take-spliced memory bytes offset = elim (cases_lt (length memory) offset) [
   | inl outside ↦
       let none : drop (offset + length bytes) memory ≡ [] = drop_all (offset + length bytes) memory (omega arith) in
       rw none (take_all (offset + length bytes) ((take offset memory ++ bytes) ++ []) (grind (arith, common_steps))
-          ∙ append-nil (take offset memory ++ bytes))
+      ∙ append-nil (take offset memory ++ bytes))
 ]
 
 drop-spliced : (memory bytes : List ℕ) (offset more : ℕ)
@@ -200,13 +205,13 @@ pub spliced-spliced : (memory first second : List ℕ) (offset : ℕ)
     → spliced (spliced memory offset first) (offset + length first) second ≡ spliced memory offset (first ++ second)
 spliced-spliced memory first second offset =
     ap (λ l. (l ++ second) ++ drop ((offset + length first) + length second) (spliced memory offset first))
-        (take-spliced memory first offset)
+    (take-spliced memory first offset)
     ∙ ap (λ l. ((take offset memory ++ first) ++ second) ++ l) (drop-spliced memory first offset (length second))
     ∙ ap (λ l. l ++ drop ((offset + length first) + length second) memory)
-        (append_assoc (take offset memory) first second)
+    (append_assoc (take offset memory) first second)
     ∙ ap (λ n. (take offset memory ++ (first ++ second)) ++ drop n memory)
     (let e : (offset + length first) + length second ≡ offset
-        + length (first ++ second) = omega (arith, length-append first second) in e)
+    + length (first ++ second) = omega (arith, length-append first second) in e)
 
 -- a splice of no byte
 pub spliced-none : (memory : List ℕ) (offset : ℕ) → spliced memory offset [] ≡ memory
@@ -234,7 +239,7 @@ slice_of-append memory offset first second =
 served-stores_within : (base most address : ℕ) (bytes memory : List ℕ) → length bytes ≤ most
     → (0 < length bytes → base ≤ address)
     → served (access_bytes base) (stores_plan bytes (pieces_within most address (length bytes))) memory
-        ≡ (tt, spliced memory (address - base) bytes)
+    ≡ (tt, spliced memory (address - base) bytes)
 served-stores_within base most address [] memory fits above =
     ap (λ l. served (access_bytes base) (stores_plan [] l) memory) (pieces_within-none most address)
     ∙ ap (λ (m : List ℕ). let r : Unit {0} × List ℕ = (tt, m) in r) (sym (spliced-none memory (address - base)))
@@ -248,15 +253,15 @@ served-stores_within base (suc most) address (b ∷ bs) memory fits above =
     let first : length (take part bytes) ≡ part = length-take-le part bytes (omega arith) in
     let left : length (drop part bytes) ≡ count - part = length-drop part bytes in
     let later = served-stores_within base most (address + part) (drop part bytes)
-        (spliced memory (address - base) (take part bytes))
+    (spliced memory (address - base) (take part bytes))
     (omega (arith, left)) (λ _. omega arith)
     in
     ap (λ l. served (access_bytes base) (stores_plan bytes l) memory) (pieces_within-more most address count some)
     ∙ ap (λ n. served (access_bytes base) (stores_plan (drop part bytes) (pieces_within most (address + part) n))
-        (spliced memory (address - base) (take part bytes))) (sym left)
+    (spliced memory (address - base) (take part bytes))) (sym left)
     ∙ later
     ∙ ap (λ (n : ℕ). let r : Unit {0}
-        × List ℕ = (tt, spliced (spliced memory (address - base) (take part bytes)) n (drop part bytes)) in r)
+    × List ℕ = (tt, spliced (spliced memory (address - base) (take part bytes)) n (drop part bytes)) in r)
     (let e : (address + part) - base ≡ (address - base) + length (take part bytes) = omega (arith, first) in e)
     ∙ ap (λ (m : List ℕ). let r : Unit {0} × List ℕ = (tt, m) in r)
     (spliced-spliced memory (take part bytes) (drop part bytes) (address - base)
@@ -265,7 +270,7 @@ served-stores_within base (suc most) address (b ∷ bs) memory fits above =
 pub served-stores_plan : (base address count : ℕ) (bytes memory : List ℕ) → length bytes ≡ count
     → (0 < count → base ≤ address)
     → served (access_bytes base) (stores_plan bytes (pieces address count)) memory
-        ≡ (tt, spliced memory (address - base) bytes)
+    ≡ (tt, spliced memory (address - base) bytes)
 served-stores_plan base address count bytes memory all above =
     ap (λ n. served (access_bytes base) (stores_plan bytes (pieces address n)) memory) (sym all)
     ∙ served-stores_within base (length bytes) address bytes memory (omega arith) (λ some. above (omega arith))
@@ -274,7 +279,7 @@ served-stores_plan base address count bytes memory all above =
 served-loads_within : (base most address count : ℕ) (so_far memory : List ℕ) → count ≤ most
     → (0 < count → base ≤ address)
     → served (access_bytes base) (loads_plan so_far (pieces_within most address count)) memory
-        ≡ (so_far ++ slice_of memory (address - base) count, memory)
+    ≡ (so_far ++ slice_of memory (address - base) count, memory)
 served-loads_within base most address zero so_far memory fits above =
     ap (λ l. served (access_bytes base) (loads_plan so_far l) memory) (pieces_within-none most address)
     ∙ ap (λ (l : List ℕ). let r : List ℕ × List ℕ = (l, memory) in r) (sym (append-nil so_far))
@@ -286,19 +291,19 @@ served-loads_within base (suc most) address (suc n) so_far memory fits above =
     let low : base ≤ address = above some in
     let piece : List ℕ = slice_of memory (address - base) part in
     let later = served-loads_within base most (address + part) (count - part) (so_far ++ piece) memory (omega arith)
-        (λ _. omega arith) in
+    (λ _. omega arith) in
     ap (λ l. served (access_bytes base) (loads_plan so_far l) memory) (pieces_within-more most address count some)
     ∙ later
     ∙ ap (λ (l : List ℕ). let r : List ℕ × List ℕ = (l, memory) in r)
     (append_assoc so_far piece (slice_of memory ((address + part) - base) (count - part))
     ∙ ap (λ l. so_far ++ l)
     (ap (λ k. piece ++ slice_of memory k (count - part)) (let e : (address + part) - base ≡ (address - base)
-        + part = omega arith in e)
+    + part = omega arith in e)
     ∙ slice_of-append memory (address - base) part (count - part)
     ∙ ap (slice_of memory (address - base)) (let e : part + (count - part) ≡ count = omega arith in e)))
 
 pub served-loads_plan : (base address count : ℕ) (so_far memory : List ℕ) → (0 < count → base ≤ address)
     → served (access_bytes base) (loads_plan so_far (pieces address count)) memory
-        ≡ (so_far ++ slice_of memory (address - base) count, memory)
+    ≡ (so_far ++ slice_of memory (address - base) count, memory)
 served-loads_plan base address count so_far memory above = served-loads_within base count address count so_far memory
     (omega arith) above

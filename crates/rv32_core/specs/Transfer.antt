@@ -16,7 +16,7 @@ pieces_within zero address count = []
 pieces_within (suc most) address count =
     if count == 0 then []
     else (let part = min count (64 - address % 64) in (address, part) ∷ pieces_within most
-        (address + part) (count - part))
+    (address + part) (count - part))
 
 -- All pieces of so many bytes from an address on: there are no more of them than bytes.
 abbrev pub pieces : ℕ → ℕ → List (ℕ × ℕ)

@@ -136,7 +136,7 @@ jalr-encoded rd rs1 imm a b c =
 
 branch-encoded : (op : BranchOp) (rs1 rs2 : ℕ) (offset : ℤ) → Fits (Branch op rs1 rs2 offset)
     → by_opcode (opcode_of (encoded (Branch op rs1 rs2 offset))) (encoded (Branch op rs1 rs2 offset))
-        ≡ Some (Branch op rs1 rs2 offset)
+    ≡ Some (Branch op rs1 rs2 offset)
 branch-encoded op rs1 rs2 offset fits =
     let w : ℕ = word_b 0x63 (branch_funct3 op) rs1 rs2 offset in
     let h : HasB w 0x63 (branch_funct3 op) rs1 rs2 offset =
@@ -161,7 +161,7 @@ load-encoded op rd rs1 imm fits =
 
 store-encoded : (op : StoreOp) (rs1 rs2 : ℕ) (imm : ℤ) → Fits (Store op rs1 rs2 imm)
     → by_opcode (opcode_of (encoded (Store op rs1 rs2 imm))) (encoded (Store op rs1 rs2 imm))
-        ≡ Some (Store op rs1 rs2 imm)
+    ≡ Some (Store op rs1 rs2 imm)
 store-encoded op rs1 rs2 imm fits =
     let w : ℕ = word_s 0x23 (store_funct3 op) rs1 rs2 imm in
     let h : HasS w 0x23 (store_funct3 op) rs1 rs2 imm =
@@ -191,13 +191,19 @@ shift-encoded : (op : ImmOp) (n m rd rs1 : ℕ) (imm : ℤ) → n < 2 ^ 3 → m 
     → ((w : ℕ) → op_imm_with w m n ≡ Some (OpImm op (rd_of w) (rs1_of w) (pos (rs2_of w))))
     → rd < 32 → rs1 < 32 → IsAmount imm
     → by_opcode (opcode_of (word_of 0x13 rd n rs1 (part imm 0 5) m)) (word_of 0x13 rd n rs1 (part imm 0 5) m)
-        ≡ Some (OpImm op rd rs1 imm)
+    ≡ Some (OpImm op rd rs1 imm)
 shift-encoded op n m rd rs1 imm below below_7 is a b c =
     let w : ℕ = word_of 0x13 rd n rs1 (part imm 0 5) m in
     let h : HasFields w 0x13 rd n rs1 (part imm 0 5) m =
     word_of-fields 0x13 rd n rs1 (part imm 0 5) m
-    (record { opcode_below = lit< tt; rd_below = a; funct3_below = below; rs1_below = b; rs2_below = omega arith;
-        funct7_below = below_7 }) in
+    (record {
+      opcode_below = lit< tt;
+      rd_below = a;
+      funct3_below = below;
+      rs1_below = b;
+      rs2_below = omega arith;
+      funct7_below = below_7;
+    }) in
     by_op_imm w n m (record { opcode_is = h.opcode_is; funct3_is = h.funct3_is; funct7_is = h.funct7_is })
     ∙ is w
     ∙ ap (λ (x : ℕ). Some (OpImm op x (rs1_of w) (pos (rs2_of w)))) h.rd_is
@@ -226,8 +232,14 @@ op-encoded op rd rs1 rs2 fits =
     let w : ℕ = word_of 0x33 rd (register_funct3 op) rs1 rs2 (register_funct7 op) in
     let h : HasFields w 0x33 rd (register_funct3 op) rs1 rs2 (register_funct7 op) =
     word_of-fields 0x33 rd (register_funct3 op) rs1 rs2 (register_funct7 op)
-    (record { opcode_below = lit< tt; rd_below = fits.0; funct3_below = register_funct3-below op; rs1_below = fits.1;
-        rs2_below = fits.2; funct7_below = register_funct7-below op }) in
+    (record {
+      opcode_below = lit< tt;
+      rd_below = fits.0;
+      funct3_below = register_funct3-below op;
+      rs1_below = fits.1;
+      rs2_below = fits.2;
+      funct7_below = register_funct7-below op;
+    }) in
     by_op w (register_funct3 op) (register_funct7 op)
     (record { opcode_is = h.opcode_is; funct3_is = h.funct3_is; funct7_is = h.funct7_is })
     ∙ ap (option_map (λ x. Op x (rd_of w) (rs1_of w) (rs2_of w))) (register_at-register_funct3 op)
@@ -253,7 +265,7 @@ lui-encoded rd imm fits =
     let w : ℕ = word_u 0x37 rd imm in
     let h : HasU w 0x37 rd imm = forth_u 0x37 rd imm (lit< tt) fits.0 fits.1 in
     by_lui w h.opcode_is ∙ ap (λ (x : ℕ). Some (Lui x (immediate_u w))) h.rd_is
-        ∙ ap (λ (x : ℕ). Some (Lui rd x)) h.imm_is
+    ∙ ap (λ (x : ℕ). Some (Lui rd x)) h.imm_is
 
 auipc-encoded : (rd imm : ℕ) → Fits (Auipc rd imm)
     → by_opcode (opcode_of (encoded (Auipc rd imm))) (encoded (Auipc rd imm)) ≡ Some (Auipc rd imm)
@@ -261,7 +273,7 @@ auipc-encoded rd imm fits =
     let w : ℕ = word_u 0x17 rd imm in
     let h : HasU w 0x17 rd imm = forth_u 0x17 rd imm (lit< tt) fits.0 fits.1 in
     by_auipc w h.opcode_is ∙ ap (λ (x : ℕ). Some (Auipc x (immediate_u w))) h.rd_is
-        ∙ ap (λ (x : ℕ). Some (Auipc rd x)) h.imm_is
+    ∙ ap (λ (x : ℕ). Some (Auipc rd x)) h.imm_is
 
 jal-encoded : (rd : ℕ) (offset : ℤ) → Fits (Jal rd offset)
     → by_opcode (opcode_of (encoded (Jal rd offset))) (encoded (Jal rd offset)) ≡ Some (Jal rd offset)
@@ -269,7 +281,7 @@ jal-encoded rd offset fits =
     let w : ℕ = word_j 0x6f rd offset in
     let h : HasJ w 0x6f rd offset = forth_j 0x6f rd offset (lit< tt) fits.0 fits.1 in
     by_jal w h.opcode_is ∙ ap (λ (x : ℕ). Some (Jal x (immediate_j w))) h.rd_is
-        ∙ ap (λ (x : ℤ). Some (Jal rd x)) h.offset_is
+    ∙ ap (λ (x : ℤ). Some (Jal rd x)) h.offset_is
 
 by_opcode-encoded : (i : Instr) → Fits i → by_opcode (opcode_of (encoded i)) (encoded i) ≡ Some i
 by_opcode-encoded (Lui rd imm) fits = lui-encoded rd imm fits
@@ -311,15 +323,27 @@ word_i-below : (opcode rd funct3 rs1 : ℕ) (imm : ℤ) → opcode < 2 ^ 7 → r
     → word_i opcode rd funct3 rs1 imm < 2 ^ 32
 word_i-below opcode rd funct3 rs1 imm a b c d =
     word_of-below opcode rd funct3 rs1 (part imm 0 5) (part imm 5 7)
-    (record { opcode_below = a; rd_below = b; funct3_below = c; rs1_below = d; rs2_below = five imm;
-        funct7_below = seven imm })
+    (record {
+      opcode_below = a;
+      rd_below = b;
+      funct3_below = c;
+      rs1_below = d;
+      rs2_below = five imm;
+      funct7_below = seven imm;
+    })
 
 shift-below : (n m rd rs1 : ℕ) (imm : ℤ) → n < 2 ^ 3 → m < 2 ^ 7 → rd < 2 ^ 5 → rs1 < 2 ^ 5
     → word_of 0x13 rd n rs1 (part imm 0 5) m < 2 ^ 32
 shift-below n m rd rs1 imm a b c d =
     word_of-below 0x13 rd n rs1 (part imm 0 5) m
-    (record { opcode_below = lit< tt; rd_below = c; funct3_below = a; rs1_below = d; rs2_below = five imm;
-        funct7_below = b })
+    (record {
+      opcode_below = lit< tt;
+      rd_below = c;
+      funct3_below = a;
+      rs1_below = d;
+      rs2_below = five imm;
+      funct7_below = b;
+    })
 
 op_imm-below : (op : ImmOp) (rd rs1 : ℕ) (imm : ℤ) → rd < 32 → rs1 < 32 → encoded (OpImm op rd rs1 imm) < 2 ^ 32
 op_imm-below Addi rd rs1 imm a b = word_i-below 0x13 rd 0 rs1 imm (lit< tt) a (lit< tt) b
@@ -349,20 +373,38 @@ encoded-below (Jal rd offset) fits = jal-below rd offset fits.0
 encoded-below (Jalr rd rs1 imm) fits = word_i-below 0x67 rd 0 rs1 imm (lit< tt) fits.0 (lit< tt) fits.1
 encoded-below (Branch op rs1 rs2 offset) fits =
     word_of-below 0x63 (part offset 1 4 * 2 + part offset 11 1) (branch_funct3 op) rs1 rs2
-        (part offset 12 1 * 2 ^ 6 + part offset 5 6)
-    (record { opcode_below = lit< tt; rd_below = low_b offset; funct3_below = branch_funct3-below op;
-        rs1_below = fits.0; rs2_below = fits.1; funct7_below = high_b offset })
+    (part offset 12 1 * 2 ^ 6 + part offset 5 6)
+    (record {
+      opcode_below = lit< tt;
+      rd_below = low_b offset;
+      funct3_below = branch_funct3-below op;
+      rs1_below = fits.0;
+      rs2_below = fits.1;
+      funct7_below = high_b offset;
+    })
 encoded-below (Load op rd rs1 imm) fits = word_i-below 0x03 rd (load_funct3 op) rs1 imm (lit< tt) fits.0
     (load_funct3-below op) fits.1
 encoded-below (Store op rs1 rs2 imm) fits =
     word_of-below 0x23 (part imm 0 5) (store_funct3 op) rs1 rs2 (part imm 5 7)
-    (record { opcode_below = lit< tt; rd_below = five imm; funct3_below = store_funct3-below op; rs1_below = fits.0;
-        rs2_below = fits.1; funct7_below = seven imm })
+    (record {
+      opcode_below = lit< tt;
+      rd_below = five imm;
+      funct3_below = store_funct3-below op;
+      rs1_below = fits.0;
+      rs2_below = fits.1;
+      funct7_below = seven imm;
+    })
 encoded-below (OpImm op rd rs1 imm) fits = op_imm-below op rd rs1 imm fits.0 fits.1
 encoded-below (Op op rd rs1 rs2) fits =
     word_of-below 0x33 rd (register_funct3 op) rs1 rs2 (register_funct7 op)
-    (record { opcode_below = lit< tt; rd_below = fits.0; funct3_below = register_funct3-below op; rs1_below = fits.1;
-        rs2_below = fits.2; funct7_below = register_funct7-below op })
+    (record {
+      opcode_below = lit< tt;
+      rd_below = fits.0;
+      funct3_below = register_funct3-below op;
+      rs1_below = fits.1;
+      rs2_below = fits.2;
+      funct7_below = register_funct7-below op;
+    })
 encoded-below (Fence rest) fits = let below : 4111 + rest < 2 ^ 32 = rest-below rest fits in omega arith
 encoded-below (FenceI rest) fits = rest-below rest fits
 encoded-below Ecall fits = lit< tt

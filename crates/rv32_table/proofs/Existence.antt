@@ -79,15 +79,15 @@ unfolding table
 exists_branch w op o e =
     if-case (HasRow w table) (funct3_of w == 0) _ _ _ e (λ f s. by_mask_3 w 4 99 0 (FormB (Branch Beq)) refl o f)
     (λ no e. if-case (HasRow w table) (funct3_of w == 1) _ _ _ e
-        (λ f s. by_mask_3 w 5 99 1 (FormB (Branch Bne)) refl o f)
+    (λ f s. by_mask_3 w 5 99 1 (FormB (Branch Bne)) refl o f)
     (λ no e. if-case (HasRow w table) (funct3_of w == 4) _ _ _ e
-        (λ f s. by_mask_3 w 6 99 4 (FormB (Branch Blt)) refl o f)
+    (λ f s. by_mask_3 w 6 99 4 (FormB (Branch Blt)) refl o f)
     (λ no e. if-case (HasRow w table) (funct3_of w == 5) _ _ _ e
-        (λ f s. by_mask_3 w 7 99 5 (FormB (Branch Bge)) refl o f)
+    (λ f s. by_mask_3 w 7 99 5 (FormB (Branch Bge)) refl o f)
     (λ no e. if-case (HasRow w table) (funct3_of w == 6) _ _ _ e
-        (λ f s. by_mask_3 w 8 99 6 (FormB (Branch Bltu)) refl o f)
+    (λ f s. by_mask_3 w 8 99 6 (FormB (Branch Bltu)) refl o f)
     (λ no e. if-case (HasRow w table) (funct3_of w == 7) _ _ _ e
-        (λ f s. by_mask_3 w 9 99 7 (FormB (Branch Bgeu)) refl o f)
+    (λ f s. by_mask_3 w 9 99 7 (FormB (Branch Bgeu)) refl o f)
     (λ no e. absurd (cc)))))))
 
 exists_load : (w : ℕ) (op : LoadOp) → (opcode_of w == 3) ≡ true → load_at (funct3_of w) ≡ Some op → HasRow w table
@@ -105,9 +105,9 @@ unfolding table
 exists_store w op o e =
     if-case (HasRow w table) (funct3_of w == 0) _ _ _ e (λ f s. by_mask_3 w 15 35 0 (FormS (Store Sb)) refl o f)
     (λ no e. if-case (HasRow w table) (funct3_of w == 1) _ _ _ e
-        (λ f s. by_mask_3 w 16 35 1 (FormS (Store Sh)) refl o f)
+    (λ f s. by_mask_3 w 16 35 1 (FormS (Store Sh)) refl o f)
     (λ no e. if-case (HasRow w table) (funct3_of w == 2) _ _ _ e
-        (λ f s. by_mask_3 w 17 35 2 (FormS (Store Sw)) refl o f)
+    (λ f s. by_mask_3 w 17 35 2 (FormS (Store Sw)) refl o f)
     (λ no e. absurd (cc))))
 
 exists_immediate : (w : ℕ) (op : ImmOp) → (opcode_of w == 19) ≡ true → immediate_at (funct3_of w) ≡ Some op
@@ -116,15 +116,15 @@ unfolding table
 exists_immediate w op o e =
     if-case (HasRow w table) (funct3_of w == 0) _ _ _ e (λ f s. by_mask_3 w 18 19 0 (FormI (OpImm Addi)) refl o f)
     (λ no e. if-case (HasRow w table) (funct3_of w == 2) _ _ _ e
-        (λ f s. by_mask_3 w 19 19 2 (FormI (OpImm Slti)) refl o f)
+    (λ f s. by_mask_3 w 19 19 2 (FormI (OpImm Slti)) refl o f)
     (λ no e. if-case (HasRow w table) (funct3_of w == 3) _ _ _ e
-        (λ f s. by_mask_3 w 20 19 3 (FormI (OpImm Sltiu)) refl o f)
+    (λ f s. by_mask_3 w 20 19 3 (FormI (OpImm Sltiu)) refl o f)
     (λ no e. if-case (HasRow w table) (funct3_of w == 4) _ _ _ e
-        (λ f s. by_mask_3 w 21 19 4 (FormI (OpImm Xori)) refl o f)
+    (λ f s. by_mask_3 w 21 19 4 (FormI (OpImm Xori)) refl o f)
     (λ no e. if-case (HasRow w table) (funct3_of w == 6) _ _ _ e
-        (λ f s. by_mask_3 w 22 19 6 (FormI (OpImm Ori)) refl o f)
+    (λ f s. by_mask_3 w 22 19 6 (FormI (OpImm Ori)) refl o f)
     (λ no e. if-case (HasRow w table) (funct3_of w == 7) _ _ _ e
-        (λ f s. by_mask_3 w 23 19 7 (FormI (OpImm Andi)) refl o f)
+    (λ f s. by_mask_3 w 23 19 7 (FormI (OpImm Andi)) refl o f)
     (λ no e. absurd (cc)))))))
 
 exists_plain_shift : (w : ℕ) (op : ImmOp) → w < 2 ^ 32 → (opcode_of w == 19) ≡ true → (funct7_of w == 0) ≡ true
@@ -132,9 +132,9 @@ exists_plain_shift : (w : ℕ) (op : ImmOp) → w < 2 ^ 32 → (opcode_of w == 1
 unfolding table
 exists_plain_shift w op fits o g e =
     if-case (HasRow w table) (funct3_of w == 1) _ _ _ e
-        (λ f s. by_mask_37 w 24 19 1 0 (FormShift (OpImm Slli)) fits refl o f g)
+    (λ f s. by_mask_37 w 24 19 1 0 (FormShift (OpImm Slli)) fits refl o f g)
     (λ no e. if-case (HasRow w table) (funct3_of w == 5) _ _ _ e
-        (λ f s. by_mask_37 w 25 19 5 0 (FormShift (OpImm Srli)) fits refl o f g)
+    (λ f s. by_mask_37 w 25 19 5 0 (FormShift (OpImm Srli)) fits refl o f g)
     (λ no e. absurd (cc)))
 
 exists_sign_shift : (w : ℕ) (op : ImmOp) → w < 2 ^ 32 → (opcode_of w == 19) ≡ true → (funct7_of w == 32) ≡ true
@@ -142,7 +142,7 @@ exists_sign_shift : (w : ℕ) (op : ImmOp) → w < 2 ^ 32 → (opcode_of w == 19
 unfolding table
 exists_sign_shift w op fits o g e =
     if-case (HasRow w table) (funct3_of w == 5) _ _ _ e
-        (λ f s. by_mask_37 w 26 19 5 32 (FormShift (OpImm Srai)) fits refl o f g)
+    (λ f s. by_mask_37 w 26 19 5 32 (FormShift (OpImm Srai)) fits refl o f g)
     (λ no e. absurd (cc))
 
 exists_plain : (w : ℕ) (op : RegOp) → w < 2 ^ 32 → (opcode_of w == 51) ≡ true → (funct7_of w == 0) ≡ true
@@ -151,19 +151,19 @@ unfolding table
 exists_plain w op fits o g e =
     if-case (HasRow w table) (funct3_of w == 0) _ _ _ e (λ f s. by_mask_37 w 27 51 0 0 (FormR (Op Add)) fits refl o f g)
     (λ no e. if-case (HasRow w table) (funct3_of w == 1) _ _ _ e
-        (λ f s. by_mask_37 w 29 51 1 0 (FormR (Op Sll)) fits refl o f g)
+    (λ f s. by_mask_37 w 29 51 1 0 (FormR (Op Sll)) fits refl o f g)
     (λ no e. if-case (HasRow w table) (funct3_of w == 2) _ _ _ e
-        (λ f s. by_mask_37 w 30 51 2 0 (FormR (Op Slt)) fits refl o f g)
+    (λ f s. by_mask_37 w 30 51 2 0 (FormR (Op Slt)) fits refl o f g)
     (λ no e. if-case (HasRow w table) (funct3_of w == 3) _ _ _ e
-        (λ f s. by_mask_37 w 31 51 3 0 (FormR (Op Sltu)) fits refl o f g)
+    (λ f s. by_mask_37 w 31 51 3 0 (FormR (Op Sltu)) fits refl o f g)
     (λ no e. if-case (HasRow w table) (funct3_of w == 4) _ _ _ e
-        (λ f s. by_mask_37 w 32 51 4 0 (FormR (Op Xor)) fits refl o f g)
+    (λ f s. by_mask_37 w 32 51 4 0 (FormR (Op Xor)) fits refl o f g)
     (λ no e. if-case (HasRow w table) (funct3_of w == 5) _ _ _ e
-        (λ f s. by_mask_37 w 33 51 5 0 (FormR (Op Srl)) fits refl o f g)
+    (λ f s. by_mask_37 w 33 51 5 0 (FormR (Op Srl)) fits refl o f g)
     (λ no e. if-case (HasRow w table) (funct3_of w == 6) _ _ _ e
-        (λ f s. by_mask_37 w 35 51 6 0 (FormR (Op Or)) fits refl o f g)
+    (λ f s. by_mask_37 w 35 51 6 0 (FormR (Op Or)) fits refl o f g)
     (λ no e. if-case (HasRow w table) (funct3_of w == 7) _ _ _ e
-        (λ f s. by_mask_37 w 36 51 7 0 (FormR (Op And)) fits refl o f g)
+    (λ f s. by_mask_37 w 36 51 7 0 (FormR (Op And)) fits refl o f g)
     (λ no e. absurd (cc)))))))))
 
 exists_other : (w : ℕ) (op : RegOp) → w < 2 ^ 32 → (opcode_of w == 51) ≡ true → (funct7_of w == 32) ≡ true
@@ -171,9 +171,9 @@ exists_other : (w : ℕ) (op : RegOp) → w < 2 ^ 32 → (opcode_of w == 51) ≡
 unfolding table
 exists_other w op fits o g e =
     if-case (HasRow w table) (funct3_of w == 0) _ _ _ e
-        (λ f s. by_mask_37 w 28 51 0 32 (FormR (Op Sub)) fits refl o f g)
+    (λ f s. by_mask_37 w 28 51 0 32 (FormR (Op Sub)) fits refl o f g)
     (λ no e. if-case (HasRow w table) (funct3_of w == 5) _ _ _ e
-        (λ f s. by_mask_37 w 34 51 5 32 (FormR (Op Sra)) fits refl o f g)
+    (λ f s. by_mask_37 w 34 51 5 32 (FormR (Op Sra)) fits refl o f g)
     (λ no e. absurd (cc)))
 
 exists_multiply : (w : ℕ) (op : RegOp) → w < 2 ^ 32 → (opcode_of w == 51) ≡ true → (funct7_of w == 1) ≡ true
@@ -182,19 +182,19 @@ unfolding table
 exists_multiply w op fits o g e =
     if-case (HasRow w table) (funct3_of w == 0) _ _ _ e (λ f s. by_mask_37 w 41 51 0 1 (FormR (Op Mul)) fits refl o f g)
     (λ no e. if-case (HasRow w table) (funct3_of w == 1) _ _ _ e
-        (λ f s. by_mask_37 w 42 51 1 1 (FormR (Op Mulh)) fits refl o f g)
+    (λ f s. by_mask_37 w 42 51 1 1 (FormR (Op Mulh)) fits refl o f g)
     (λ no e. if-case (HasRow w table) (funct3_of w == 2) _ _ _ e
-        (λ f s. by_mask_37 w 43 51 2 1 (FormR (Op Mulhsu)) fits refl o f g)
+    (λ f s. by_mask_37 w 43 51 2 1 (FormR (Op Mulhsu)) fits refl o f g)
     (λ no e. if-case (HasRow w table) (funct3_of w == 3) _ _ _ e
-        (λ f s. by_mask_37 w 44 51 3 1 (FormR (Op Mulhu)) fits refl o f g)
+    (λ f s. by_mask_37 w 44 51 3 1 (FormR (Op Mulhu)) fits refl o f g)
     (λ no e. if-case (HasRow w table) (funct3_of w == 4) _ _ _ e
-        (λ f s. by_mask_37 w 45 51 4 1 (FormR (Op Div)) fits refl o f g)
+    (λ f s. by_mask_37 w 45 51 4 1 (FormR (Op Div)) fits refl o f g)
     (λ no e. if-case (HasRow w table) (funct3_of w == 5) _ _ _ e
-        (λ f s. by_mask_37 w 46 51 5 1 (FormR (Op Divu)) fits refl o f g)
+    (λ f s. by_mask_37 w 46 51 5 1 (FormR (Op Divu)) fits refl o f g)
     (λ no e. if-case (HasRow w table) (funct3_of w == 6) _ _ _ e
-        (λ f s. by_mask_37 w 47 51 6 1 (FormR (Op Rem)) fits refl o f g)
+    (λ f s. by_mask_37 w 47 51 6 1 (FormR (Op Rem)) fits refl o f g)
     (λ no e. if-case (HasRow w table) (funct3_of w == 7) _ _ _ e
-        (λ f s. by_mask_37 w 48 51 7 1 (FormR (Op Remu)) fits refl o f g)
+    (λ f s. by_mask_37 w 48 51 7 1 (FormR (Op Remu)) fits refl o f g)
     (λ no e. absurd (cc)))))))))
 
 exists_shift : (w : ℕ) (op : ImmOp) → w < 2 ^ 32 → (opcode_of w == 19) ≡ true
@@ -223,7 +223,7 @@ unfolding table
 exists_fence w i o e =
     if-case (HasRow w table) (funct3_of w == 0) _ _ _ e (λ f s. by_mask_3 w 37 15 0 (FormFence Fence) refl o f)
     (λ no e. if-case (HasRow w table) (funct3_of w == 1) _ _ _ e
-        (λ f s. by_mask_3 w 40 15 1 (FormFence FenceI) refl o f)
+    (λ f s. by_mask_3 w 40 15 1 (FormFence FenceI) refl o f)
     (λ no e. absurd (cc)))
 
 exists_system : (w : ℕ) (i : Instr) → w < 2 ^ 32 → system_by_fields w ≡ Some i → HasRow w table
@@ -231,7 +231,7 @@ unfolding table
 exists_system w i fits e =
     if-case (HasRow w table) (w == 0x0000_0073) _ _ _ e (λ f s. by_whole w 38 0x0000_0073 (FormWhole Ecall) fits refl f)
     (λ no e. if-case (HasRow w table) (w == 0x0010_0073) _ _ _ e
-        (λ f s. by_whole w 39 0x0010_0073 (FormWhole Ebreak) fits refl f)
+    (λ f s. by_whole w 39 0x0010_0073 (FormWhole Ebreak) fits refl f)
     (λ no e. absurd (cc)))
 
 exists_op_imm : (w : ℕ) (i : Instr) → w < 2 ^ 32 → (opcode_of w == 19) ≡ true → op_imm_by_fields w ≡ Some i
@@ -239,12 +239,12 @@ exists_op_imm : (w : ℕ) (i : Instr) → w < 2 ^ 32 → (opcode_of w == 19) ≡
 exists_op_imm w i fits o e =
     if-case (HasRow w table) (funct3_of w == 1) _ _ _ e
     (λ f e. let op : (x : ImmOp) × (shift_at (funct7_of w) (funct3_of w) ≡ Some x) = option_map-some _ _ _ e
-        in exists_shift w op.0 fits o op.1)
+    in exists_shift w op.0 fits o op.1)
     (λ no e. if-case (HasRow w table) (funct3_of w == 5) _ _ _ e
     (λ f e. let op : (x : ImmOp) × (shift_at (funct7_of w) (funct3_of w) ≡ Some x) = option_map-some _ _ _ e
-        in exists_shift w op.0 fits o op.1)
+    in exists_shift w op.0 fits o op.1)
     (λ no e. let op : (x : ImmOp) × (immediate_at (funct3_of w) ≡ Some x) = option_map-some _ _ _ e
-        in exists_immediate w op.0 o op.1))
+    in exists_immediate w op.0 o op.1))
 
 pub exists : (w : ℕ) (i : Instr) → w < 2 ^ 32 → by_opcode (opcode_of w) w ≡ Some i → HasRow w table
 unfolding table
@@ -254,18 +254,18 @@ exists w i fits e =
     (λ no e. if-case (HasRow w table) (opcode_of w == 111) _ _ _ e (λ o e. by_mask_7 w 2 111 (FormJ Jal) refl o)
     (λ no e. if-case (HasRow w table) (opcode_of w == 103) _ _ _ e (λ o e. exists_jump w i o e)
     (λ no e. if-case (HasRow w table) (opcode_of w == 99) _ _ _ e
-        (λ o e. let op : (x : BranchOp) × (branch_at (funct3_of w) ≡ Some x) = option_map-some _ _ _ e
-        in exists_branch w op.0 o op.1)
+    (λ o e. let op : (x : BranchOp) × (branch_at (funct3_of w) ≡ Some x) = option_map-some _ _ _ e
+    in exists_branch w op.0 o op.1)
     (λ no e. if-case (HasRow w table) (opcode_of w == 3) _ _ _ e
-        (λ o e. let op : (x : LoadOp) × (load_at (funct3_of w) ≡ Some x) = option_map-some _ _ _ e
-        in exists_load w op.0 o op.1)
+    (λ o e. let op : (x : LoadOp) × (load_at (funct3_of w) ≡ Some x) = option_map-some _ _ _ e
+    in exists_load w op.0 o op.1)
     (λ no e. if-case (HasRow w table) (opcode_of w == 35) _ _ _ e
-        (λ o e. let op : (x : StoreOp) × (store_at (funct3_of w) ≡ Some x) = option_map-some _ _ _ e
-        in exists_store w op.0 o op.1)
+    (λ o e. let op : (x : StoreOp) × (store_at (funct3_of w) ≡ Some x) = option_map-some _ _ _ e
+    in exists_store w op.0 o op.1)
     (λ no e. if-case (HasRow w table) (opcode_of w == 19) _ _ _ e (λ o e. exists_op_imm w i fits o e)
     (λ no e. if-case (HasRow w table) (opcode_of w == 51) _ _ _ e
-        (λ o e. let op : (x : RegOp) × (register_at (funct7_of w) (funct3_of w) ≡ Some x) = option_map-some _ _ _ e
-        in exists_register w op.0 fits o op.1)
+    (λ o e. let op : (x : RegOp) × (register_at (funct7_of w) (funct3_of w) ≡ Some x) = option_map-some _ _ _ e
+    in exists_register w op.0 fits o op.1)
     (λ no e. if-case (HasRow w table) (opcode_of w == 15) _ _ _ e (λ o e. exists_fence w i o e)
     (λ no e. if-case (HasRow w table) (opcode_of w == 115) _ _ _ e (λ o e. exists_system w i fits e)
     (λ no e. absurd (cc))))))))))))

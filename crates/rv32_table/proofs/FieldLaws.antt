@@ -31,7 +31,7 @@ pub at_funct7 : (word opcode funct3 funct7 : ℕ) → word < 2 ^ 32 → opcode <
     → bit_and word 0xfe00_707f ≡ funct7 * 2 ^ 25 + (funct3 * 2 ^ 12 + opcode) → AtFunct7 word opcode funct3 funct7
 at_funct7 word opcode funct3 funct7 fits a b matches =
     let same : funct7_of word * 2 ^ 25 + (funct3_of word * 2 ^ 12 + opcode_of word) ≡ funct7 * 2 ^ 25
-        + (funct3 * 2 ^ 12 + opcode) =
+    + (funct3 * 2 ^ 12 + opcode) =
     sym (and-funct7 word fits) ∙ matches in
     record { opcode_is = omega arith; funct3_is = omega arith; funct7_is = omega arith }
 
@@ -52,7 +52,7 @@ pub under_funct7 : (word opcode funct3 funct7 : ℕ) → word < 2 ^ 32 → AtFun
     → bit_and word 0xfe00_707f ≡ funct7 * 2 ^ 25 + (funct3 * 2 ^ 12 + opcode)
 under_funct7 word opcode funct3 funct7 fits h =
     let same : funct7_of word * 2 ^ 25 + (funct3_of word * 2 ^ 12 + opcode_of word) ≡ funct7 * 2 ^ 25
-        + (funct3 * 2 ^ 12 + opcode) =
+    + (funct3 * 2 ^ 12 + opcode) =
     omega arith in
     and-funct7 word fits ∙ same
 
@@ -118,11 +118,11 @@ by_op w n m h =
 
 pub by_fence : (w n : ℕ) → AtFunct3 w 0x0f n
     → by_opcode (opcode_of w) w
-        ≡ (if n == 0 then Some (Fence (rest_of w)) else (if n == 1 then Some (FenceI (rest_of w)) else None))
+    ≡ (if n == 0 then Some (Fence (rest_of w)) else (if n == 1 then Some (FenceI (rest_of w)) else None))
 by_fence w n h =
     ap (λ (x : ℕ). by_opcode x w) h.opcode_is
     ∙ ap (λ (x : ℕ). if x == 0 then Some (Fence (rest_of w)) else
-        (if x == 1 then Some (FenceI (rest_of w)) else None)) h.funct3_is
+    (if x == 1 then Some (FenceI (rest_of w)) else None)) h.funct3_is
 
 pub by_ecall : (w : ℕ) → w ≡ 0x73 → by_opcode (opcode_of w) w ≡ Some Ecall
 by_ecall w e = ap (λ (x : ℕ). by_opcode (opcode_of x) x) e

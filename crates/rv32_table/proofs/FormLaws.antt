@@ -55,8 +55,14 @@ forth_i opcode rd funct3 rs1 imm a b c d range =
     let w : ℕ = word_i opcode rd funct3 rs1 imm in
     let has : HasFields w opcode rd funct3 rs1 (part imm 0 5) (part imm 5 7) =
     word_of-fields opcode rd funct3 rs1 (part imm 0 5) (part imm 5 7)
-    (record { opcode_below = a; rd_below = b; funct3_below = c; rs1_below = d; rs2_below = omega arith;
-        funct7_below = omega arith }) in
+    (record {
+      opcode_below = a;
+      rd_below = b;
+      funct3_below = c;
+      rs1_below = d;
+      rs2_below = omega arith;
+      funct7_below = omega arith;
+    }) in
     let whole : bits w 20 12 ≡ u % 2 ^ 12 =
     twelve_is w ∙ ap (λ (x : ℕ). x * 2 ^ 5 + rs2_of w) has.funct7_is
     ∙ ap (λ (x : ℕ). part imm 5 7 * 2 ^ 5 + x) has.rs2_is ∙ both_of_12 u in
@@ -123,8 +129,14 @@ forth_s opcode funct3 rs1 rs2 imm a b c d range =
     let w : ℕ = word_s opcode funct3 rs1 rs2 imm in
     let has : HasFields w opcode (part imm 0 5) funct3 rs1 rs2 (part imm 5 7) =
     word_of-fields opcode (part imm 0 5) funct3 rs1 rs2 (part imm 5 7)
-    (record { opcode_below = a; rd_below = omega arith; funct3_below = b; rs1_below = c; rs2_below = d;
-        funct7_below = omega arith }) in
+    (record {
+      opcode_below = a;
+      rd_below = omega arith;
+      funct3_below = b;
+      rs1_below = c;
+      rs2_below = d;
+      funct7_below = omega arith;
+    }) in
     let whole : bits w 25 7 * 2 ^ 5 + bits w 7 5 ≡ u % 2 ^ 12 =
     ap (λ (x : ℕ). x * 2 ^ 5 + rd_of w) has.funct7_is
     ∙ ap (λ (x : ℕ). part imm 5 7 * 2 ^ 5 + x) has.rd_is ∙ both_of_12 u in
@@ -192,7 +204,7 @@ back_b w fits =
     ap (λ (x : ℕ). x * 2 ^ 6 + part (immediate_b w) 5 6) (top_of_13 _ _ _ _ _ (is_thirteen w))
     ∙ ap (λ (x : ℕ). bits w 31 1 * 2 ^ 6 + x) (middle_of_13 _ _ _ _ _ (is_thirteen w)) ∙ high_field w in
     ap (λ (a : ℕ). word_of (opcode_of w) a (funct3_of w) (rs1_of w) (rs2_of w)
-        (part (immediate_b w) 12 1 * 2 ^ 6 + part (immediate_b w) 5 6)) low
+    (part (immediate_b w) 12 1 * 2 ^ 6 + part (immediate_b w) 5 6)) low
     ∙ ap (λ (a : ℕ). word_of (opcode_of w) (rd_of w) (funct3_of w) (rs1_of w) (rs2_of w) a) high
     ∙ fields-word_of w fits
 
@@ -253,8 +265,14 @@ forth_b opcode funct3 rs1 rs2 offset a b c d fits =
     let high : ℕ = part offset 12 1 * 2 ^ 6 + part offset 5 6 in
     let has : HasFields w opcode low funct3 rs1 rs2 high =
     word_of-fields opcode low funct3 rs1 rs2 high
-    (record { opcode_below = a; rd_below = omega arith; funct3_below = b; rs1_below = c; rs2_below = d;
-        funct7_below = omega arith }) in
+    (record {
+      opcode_below = a;
+      rd_below = omega arith;
+      funct3_below = b;
+      rs1_below = c;
+      rs2_below = d;
+      funct7_below = omega arith;
+    }) in
     let even : u % 2 ≡ 0 = even_bits offset fits.even (wider offset fits.range) in
     let whole : thirteen (bits w 31 1) (bits w 7 1) (bits w 25 6) (bits w 8 4) ≡ u % 2 ^ 13 =
     bits_of_both w (part offset 12 1) (part offset 11 1) (part offset 5 6) (part offset 1 4)
@@ -317,7 +335,7 @@ whole_j w middle next low top fits a b c d = omega arith
 pub back_j : (w : ℕ) → w < 2 ^ 32 → word_j (opcode_of w) (rd_of w) (immediate_j w) ≡ w
 back_j w fits =
     whole_j w (part (immediate_j w) 12 8) (part (immediate_j w) 11 1) (part (immediate_j w) 1 10)
-        (part (immediate_j w) 20 1) fits
+    (part (immediate_j w) 20 1) fits
     (middle_of_21 _ _ _ _ _ (is_twenty_one w)) (next_of_21 _ _ _ _ _ (is_twenty_one w))
     (low_of_21 _ _ _ _ _ (is_twenty_one w)) (top_of_21 _ _ _ _ _ (is_twenty_one w))
 
@@ -356,7 +374,7 @@ record HasPartsJ (w opcode rd middle next low top : ℕ) : Type 0 where
 
 parts_j : (opcode rd middle next low top : ℕ) → PartsJ opcode rd middle next low top
     → HasPartsJ (opcode + rd * 2 ^ 7 + middle * 2 ^ 12 + next * 2 ^ 20 + low * 2 ^ 21
-        + top * 2 ^ 31) opcode rd middle next low top
+    + top * 2 ^ 31) opcode rd middle next low top
 parts_j opcode rd middle next low top h = record {
   opcode_is = omega arith;
   rd_is = omega arith;
@@ -379,8 +397,14 @@ forth_j opcode rd offset a b fits =
     let w : ℕ = word_j opcode rd offset in
     let has : HasPartsJ w opcode rd (part offset 12 8) (part offset 11 1) (part offset 1 10) (part offset 20 1) =
     parts_j opcode rd (part offset 12 8) (part offset 11 1) (part offset 1 10) (part offset 20 1)
-    (record { opcode_below = a; rd_below = b; middle_below = omega arith; next_below = omega arith;
-        low_below = omega arith; top_below = omega arith }) in
+    (record {
+      opcode_below = a;
+      rd_below = b;
+      middle_below = omega arith;
+      next_below = omega arith;
+      low_below = omega arith;
+      top_below = omega arith;
+    }) in
     let even : u % 2 ≡ 0 = even_bits offset fits.even fits.range in
     let whole : twenty_one (bits w 31 1) (bits w 12 8) (bits w 20 1) (bits w 21 10) ≡ u % 2 ^ 21 =
     twenty_one_same w (part offset 20 1) (part offset 12 8) (part offset 11 1) (part offset 1 10)

@@ -49,7 +49,7 @@ find-none word (x ∷ xs) zero r e stands matches =
     (λ t same. cc)
     (λ t rest. let row : x ≡ r = cc in
     let test : is_match word x ≡ true = eq-eqb (bit_and word x.mask) x.value
-        (subst (Matches word) (sym row) matches) in cc)
+    (subst (Matches word) (sym row) matches) in cc)
 find-none word (x ∷ xs) (suc n) r e stands matches =
     if-case ⊥ (is_match word x) (Some x) (find (is_match word) xs) None e
     (λ t same. cc)
@@ -70,9 +70,9 @@ NotBoth word r s = Matches word r × Matches word s → ⊥
 is_apart-sound : (word : ℕ) (r s : Row) → is_apart r s ≡ true → NotBoth word r s
 is_apart-sound word r s apart both =
     let first : bit_and (bit_and word r.mask) s.mask
-        ≡ bit_and word (bit_and r.mask s.mask) = and_assoc s.mask word r.mask in
+    ≡ bit_and word (bit_and r.mask s.mask) = and_assoc s.mask word r.mask in
     let second : bit_and (bit_and word s.mask) r.mask
-        ≡ bit_and word (bit_and s.mask r.mask) = and_assoc r.mask word s.mask in
+    ≡ bit_and word (bit_and s.mask r.mask) = and_assoc r.mask word s.mask in
     let turned : bit_and r.mask s.mask ≡ bit_and s.mask r.mask = and_comm r.mask s.mask in
     let left : bit_and word r.mask ≡ r.value = both.0 in
     let right : bit_and word s.mask ≡ s.value = both.1 in
@@ -85,12 +85,12 @@ list_all-apart : (word : ℕ) (r : Row) (rows : List Row) → list_all (is_apart
 list_all-apart word r [] e = All-nil (NotBoth word r)
 list_all-apart word r (x ∷ xs) e =
     let parts : (is_apart r x ≡ true) × (list_all (is_apart r) xs ≡ true) = and_parts (is_apart r x)
-        (list_all (is_apart r) xs) e in
+    (list_all (is_apart r) xs) e in
     All-cons (NotBoth word r) x xs (is_apart-sound word r x parts.0) (list_all-apart word r xs parts.1)
 
 pub are_apart-sound : (word : ℕ) (rows : List Row) → are_apart rows ≡ true → AllPairs (NotBoth word) rows
 are_apart-sound word [] e = λ i j d below inside. absurd (omega arith)
 are_apart-sound word (x ∷ xs) e =
     let parts : (list_all (is_apart x) xs ≡ true) × (are_apart xs ≡ true) = and_parts (list_all (is_apart x) xs)
-        (are_apart xs) e in
+    (are_apart xs) e in
     AllPairs-cons (NotBoth word) x xs (list_all-apart word x xs parts.0) (are_apart-sound word xs parts.1)

@@ -14,7 +14,7 @@ and-funct3 word =
     let low : word % 2 ^ 12 < 2 ^ 12 = omega arith in
     let whole : word / 2 ^ 12 * 2 ^ 12 + word % 2 ^ 12 ≡ word = shr_split word 12 in
     let parts : bit_and (word / 2 ^ 12 * 2 ^ 12 + word % 2 ^ 12) (7 * 2 ^ 12 + 0x7f)
-        ≡ bit_and (word / 2 ^ 12) 7 * 2 ^ 12 + bit_and (word % 2 ^ 12) 0x7f =
+    ≡ bit_and (word / 2 ^ 12) 7 * 2 ^ 12 + bit_and (word % 2 ^ 12) 0x7f =
     and_block 12 (word / 2 ^ 12) 7 (word % 2 ^ 12) 0x7f low (omega arith) in
     let high : bit_and (word / 2 ^ 12) 7 ≡ word / 2 ^ 12 % 2 ^ 3 = and_mask (word / 2 ^ 12) 3 in
     let under : bit_and (word % 2 ^ 12) 0x7f ≡ word % 2 ^ 12 % 2 ^ 7 = and_mask (word % 2 ^ 12) 7 in
@@ -28,11 +28,11 @@ and-funct7 word fits =
     let low : word % 2 ^ 25 < 2 ^ 25 = omega arith in
     let whole : word / 2 ^ 25 * 2 ^ 25 + word % 2 ^ 25 ≡ word = shr_split word 25 in
     let parts : bit_and (word / 2 ^ 25 * 2 ^ 25 + word % 2 ^ 25) (127 * 2 ^ 25 + 0x707f)
-        ≡ bit_and (word / 2 ^ 25) 127 * 2 ^ 25 + bit_and (word % 2 ^ 25) 0x707f =
+    ≡ bit_and (word / 2 ^ 25) 127 * 2 ^ 25 + bit_and (word % 2 ^ 25) 0x707f =
     and_block 25 (word / 2 ^ 25) 127 (word % 2 ^ 25) 0x707f low (omega arith) in
     let high : bit_and (word / 2 ^ 25) 127 ≡ word / 2 ^ 25 % 2 ^ 7 = and_mask (word / 2 ^ 25) 7 in
     let under : bit_and (word % 2 ^ 25) 0x707f ≡ funct3_of (word % 2 ^ 25) * 2 ^ 12
-        + opcode_of (word % 2 ^ 25) = and-funct3 (word % 2 ^ 25) in
+    + opcode_of (word % 2 ^ 25) = and-funct3 (word % 2 ^ 25) in
     let opcodes : word % 2 ^ 25 % 2 ^ 7 ≡ word % 2 ^ 7 = omega arith in
     let functs : word % 2 ^ 25 / 2 ^ 12 % 2 ^ 3 ≡ word / 2 ^ 12 % 2 ^ 3 = omega arith in
     ap (λ (w : ℕ). bit_and w 0xfe00_707f) (sym whole) ∙ parts ∙ (cc)

@@ -44,7 +44,7 @@ whole_shift w o n m fits h =
     ap (λ (x : ℕ). word_of x (rd_of w) n (rs1_of w) (part (pos (rs2_of w)) 0 5) m) (sym h.opcode_is)
     ∙ ap (λ (x : ℕ). word_of (opcode_of w) (rd_of w) x (rs1_of w) (part (pos (rs2_of w)) 0 5) m) (sym h.funct3_is)
     ∙ ap (λ (x : ℕ). word_of (opcode_of w) (rd_of w) (funct3_of w) (rs1_of w) (part (pos (rs2_of w)) 0 5) x)
-        (sym h.funct7_is)
+    (sym h.funct7_is)
     ∙ back_shift w fits
 
 whole_fence : (w o n : ℕ) → w < 2 ^ 32 → AtFunct3 w o n → o + n * 2 ^ 12 + rest_of w ≡ w
@@ -91,70 +91,133 @@ rows-encoded w fits =
     ▹ (λ e. ((rd_fits w, rs1_fits w, IsSigned-immediate_i w), whole_i w 19 6 fits (at_funct3 w 19 6 (lit< tt) e)))
     ▹ (λ e. ((rd_fits w, rs1_fits w, IsSigned-immediate_i w), whole_i w 19 7 fits (at_funct3 w 19 7 (lit< tt) e)))
     ▹
-        (λ e. ((rd_fits w, rs1_fits w, IsAmount-rs2 w), whole_shift w 19 1 0 fits
-        (at_funct7 w 19 1 0 fits (lit< tt) (lit< tt) e)))
+    (λ e. (
+      (rd_fits w, rs1_fits w, IsAmount-rs2 w),
+      whole_shift w 19 1 0 fits
+          (at_funct7 w 19 1 0 fits (lit< tt) (lit< tt) e),
+    ))
     ▹
-        (λ e. ((rd_fits w, rs1_fits w, IsAmount-rs2 w), whole_shift w 19 5 0 fits
-        (at_funct7 w 19 5 0 fits (lit< tt) (lit< tt) e)))
+    (λ e. (
+      (rd_fits w, rs1_fits w, IsAmount-rs2 w),
+      whole_shift w 19 5 0 fits
+          (at_funct7 w 19 5 0 fits (lit< tt) (lit< tt) e),
+    ))
     ▹
-        (λ e. ((rd_fits w, rs1_fits w, IsAmount-rs2 w), whole_shift w 19 5 32 fits
-        (at_funct7 w 19 5 32 fits (lit< tt) (lit< tt) e)))
+    (λ e. (
+      (rd_fits w, rs1_fits w, IsAmount-rs2 w),
+      whole_shift w 19 5 32 fits
+          (at_funct7 w 19 5 32 fits (lit< tt) (lit< tt) e),
+    ))
     ▹
-        (λ e. ((rd_fits w, rs1_fits w, rs2_fits w), whole_r w 51 0 0 fits
-        (at_funct7 w 51 0 0 fits (lit< tt) (lit< tt) e)))
+    (λ e. (
+      (rd_fits w, rs1_fits w, rs2_fits w),
+      whole_r w 51 0 0 fits
+          (at_funct7 w 51 0 0 fits (lit< tt) (lit< tt) e),
+    ))
     ▹
-        (λ e. ((rd_fits w, rs1_fits w, rs2_fits w), whole_r w 51 0 32 fits
-        (at_funct7 w 51 0 32 fits (lit< tt) (lit< tt) e)))
+    (λ e. (
+      (rd_fits w, rs1_fits w, rs2_fits w),
+      whole_r w 51 0 32 fits
+          (at_funct7 w 51 0 32 fits (lit< tt) (lit< tt) e),
+    ))
     ▹
-        (λ e. ((rd_fits w, rs1_fits w, rs2_fits w), whole_r w 51 1 0 fits
-        (at_funct7 w 51 1 0 fits (lit< tt) (lit< tt) e)))
+    (λ e. (
+      (rd_fits w, rs1_fits w, rs2_fits w),
+      whole_r w 51 1 0 fits
+          (at_funct7 w 51 1 0 fits (lit< tt) (lit< tt) e),
+    ))
     ▹
-        (λ e. ((rd_fits w, rs1_fits w, rs2_fits w), whole_r w 51 2 0 fits
-        (at_funct7 w 51 2 0 fits (lit< tt) (lit< tt) e)))
+    (λ e. (
+      (rd_fits w, rs1_fits w, rs2_fits w),
+      whole_r w 51 2 0 fits
+          (at_funct7 w 51 2 0 fits (lit< tt) (lit< tt) e),
+    ))
     ▹
-        (λ e. ((rd_fits w, rs1_fits w, rs2_fits w), whole_r w 51 3 0 fits
-        (at_funct7 w 51 3 0 fits (lit< tt) (lit< tt) e)))
+    (λ e. (
+      (rd_fits w, rs1_fits w, rs2_fits w),
+      whole_r w 51 3 0 fits
+          (at_funct7 w 51 3 0 fits (lit< tt) (lit< tt) e),
+    ))
     ▹
-        (λ e. ((rd_fits w, rs1_fits w, rs2_fits w), whole_r w 51 4 0 fits
-        (at_funct7 w 51 4 0 fits (lit< tt) (lit< tt) e)))
+    (λ e. (
+      (rd_fits w, rs1_fits w, rs2_fits w),
+      whole_r w 51 4 0 fits
+          (at_funct7 w 51 4 0 fits (lit< tt) (lit< tt) e),
+    ))
     ▹
-        (λ e. ((rd_fits w, rs1_fits w, rs2_fits w), whole_r w 51 5 0 fits
-        (at_funct7 w 51 5 0 fits (lit< tt) (lit< tt) e)))
+    (λ e. (
+      (rd_fits w, rs1_fits w, rs2_fits w),
+      whole_r w 51 5 0 fits
+          (at_funct7 w 51 5 0 fits (lit< tt) (lit< tt) e),
+    ))
     ▹
-        (λ e. ((rd_fits w, rs1_fits w, rs2_fits w), whole_r w 51 5 32 fits
-        (at_funct7 w 51 5 32 fits (lit< tt) (lit< tt) e)))
+    (λ e. (
+      (rd_fits w, rs1_fits w, rs2_fits w),
+      whole_r w 51 5 32 fits
+          (at_funct7 w 51 5 32 fits (lit< tt) (lit< tt) e),
+    ))
     ▹
-        (λ e. ((rd_fits w, rs1_fits w, rs2_fits w), whole_r w 51 6 0 fits
-        (at_funct7 w 51 6 0 fits (lit< tt) (lit< tt) e)))
+    (λ e. (
+      (rd_fits w, rs1_fits w, rs2_fits w),
+      whole_r w 51 6 0 fits
+          (at_funct7 w 51 6 0 fits (lit< tt) (lit< tt) e),
+    ))
     ▹
-        (λ e. ((rd_fits w, rs1_fits w, rs2_fits w), whole_r w 51 7 0 fits
-        (at_funct7 w 51 7 0 fits (lit< tt) (lit< tt) e)))
+    (λ e. (
+      (rd_fits w, rs1_fits w, rs2_fits w),
+      whole_r w 51 7 0 fits
+          (at_funct7 w 51 7 0 fits (lit< tt) (lit< tt) e),
+    ))
     ▹ (λ e. (IsRest-rest_of w, whole_fence w 15 0 fits (at_funct3 w 15 0 (lit< tt) e)))
     ▹ (λ e. (tt, sym (at_whole w 0x0000_0073 fits e)))
     ▹ (λ e. (tt, sym (at_whole w 0x0010_0073 fits e)))
     ▹ (λ e. (IsRest-rest_of w, whole_fence w 15 1 fits (at_funct3 w 15 1 (lit< tt) e)))
     ▹
-        (λ e. ((rd_fits w, rs1_fits w, rs2_fits w), whole_r w 51 0 1 fits
-        (at_funct7 w 51 0 1 fits (lit< tt) (lit< tt) e)))
+    (λ e. (
+      (rd_fits w, rs1_fits w, rs2_fits w),
+      whole_r w 51 0 1 fits
+          (at_funct7 w 51 0 1 fits (lit< tt) (lit< tt) e),
+    ))
     ▹
-        (λ e. ((rd_fits w, rs1_fits w, rs2_fits w), whole_r w 51 1 1 fits
-        (at_funct7 w 51 1 1 fits (lit< tt) (lit< tt) e)))
+    (λ e. (
+      (rd_fits w, rs1_fits w, rs2_fits w),
+      whole_r w 51 1 1 fits
+          (at_funct7 w 51 1 1 fits (lit< tt) (lit< tt) e),
+    ))
     ▹
-        (λ e. ((rd_fits w, rs1_fits w, rs2_fits w), whole_r w 51 2 1 fits
-        (at_funct7 w 51 2 1 fits (lit< tt) (lit< tt) e)))
+    (λ e. (
+      (rd_fits w, rs1_fits w, rs2_fits w),
+      whole_r w 51 2 1 fits
+          (at_funct7 w 51 2 1 fits (lit< tt) (lit< tt) e),
+    ))
     ▹
-        (λ e. ((rd_fits w, rs1_fits w, rs2_fits w), whole_r w 51 3 1 fits
-        (at_funct7 w 51 3 1 fits (lit< tt) (lit< tt) e)))
+    (λ e. (
+      (rd_fits w, rs1_fits w, rs2_fits w),
+      whole_r w 51 3 1 fits
+          (at_funct7 w 51 3 1 fits (lit< tt) (lit< tt) e),
+    ))
     ▹
-        (λ e. ((rd_fits w, rs1_fits w, rs2_fits w), whole_r w 51 4 1 fits
-        (at_funct7 w 51 4 1 fits (lit< tt) (lit< tt) e)))
+    (λ e. (
+      (rd_fits w, rs1_fits w, rs2_fits w),
+      whole_r w 51 4 1 fits
+          (at_funct7 w 51 4 1 fits (lit< tt) (lit< tt) e),
+    ))
     ▹
-        (λ e. ((rd_fits w, rs1_fits w, rs2_fits w), whole_r w 51 5 1 fits
-        (at_funct7 w 51 5 1 fits (lit< tt) (lit< tt) e)))
+    (λ e. (
+      (rd_fits w, rs1_fits w, rs2_fits w),
+      whole_r w 51 5 1 fits
+          (at_funct7 w 51 5 1 fits (lit< tt) (lit< tt) e),
+    ))
     ▹
-        (λ e. ((rd_fits w, rs1_fits w, rs2_fits w), whole_r w 51 6 1 fits
-        (at_funct7 w 51 6 1 fits (lit< tt) (lit< tt) e)))
+    (λ e. (
+      (rd_fits w, rs1_fits w, rs2_fits w),
+      whole_r w 51 6 1 fits
+          (at_funct7 w 51 6 1 fits (lit< tt) (lit< tt) e),
+    ))
     ▹
-        (λ e. ((rd_fits w, rs1_fits w, rs2_fits w), whole_r w 51 7 1 fits
-        (at_funct7 w 51 7 1 fits (lit< tt) (lit< tt) e)))
+    (λ e. (
+      (rd_fits w, rs1_fits w, rs2_fits w),
+      whole_r w 51 7 1 fits
+          (at_funct7 w 51 7 1 fits (lit< tt) (lit< tt) e),
+    ))
     ▹ tt

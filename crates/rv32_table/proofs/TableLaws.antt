@@ -19,11 +19,11 @@ from_found : (w : ℕ) → w < 2 ^ 32 → (found : Option Row) (fields : Option 
     → by_opcode (opcode_of w) w ≡ fields → option_map (λ (r : Row). instruction_of r.form w) found ≡ fields
 from_found w fits (Some r) fields e f =
     sym (find-each (λ (x : Row). by_opcode (opcode_of w) w ≡ Some (instruction_of x.form w)) w table r
-        (rows-by_opcode w fits) e) ∙ f
+    (rows-by_opcode w fits) e) ∙ f
 from_found w fits None None e f = refl
 from_found w fits None (Some i) e f =
     let has : HasRow w table = exists w i fits f
-        in absurd (find-none w table has.place has.row e has.stands has.matches)
+    in absurd (find-none w table has.place has.row e has.stands has.matches)
 
 pub decoded-by_opcode : (w : ℕ) → w < 2 ^ 32 → decoded w ≡ by_opcode (opcode_of w) w
 unfolding decoded
@@ -40,7 +40,7 @@ returns_from w fits None i e f = absurd (cc)
 returns_from w fits (Some r) i e f =
     let both : Fits (instruction_of r.form w) × (encoded (instruction_of r.form w) ≡ w) =
     find-each (λ (x : Row). Fits (instruction_of x.form w) × (encoded (instruction_of x.form w) ≡ w)) w table r
-        (rows-encoded w fits) e in
+    (rows-encoded w fits) e in
     let same : instruction_of r.form w ≡ i = cc in
     subst (Returns w) same (record { fits = both.0; word_is = both.1 })
 

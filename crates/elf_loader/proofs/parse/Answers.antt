@@ -10,7 +10,7 @@ returns-clause-readable c = faultless_readable c.args.base c.args.size c.args.fi
 pub returns-clause-image : goal.returns-clause-image
 returns-clause-image c =
     faultless_image c.args.base c.args.size c.args.file.now _ c.requires c.in_default.ensures.faultless c.in-Ok.ensures
-        c.in-Ok-mark_lines.ensures
+    c.in-Ok-mark_lines.ensures
     c.entry.ensures c.first_break.ensures
 
 pub returns-in-Err-clause-exact : goal.returns-in-Err-clause-exact

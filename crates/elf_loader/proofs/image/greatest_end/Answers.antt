@@ -8,13 +8,13 @@ pub end_from-requires : goal.end_from-requires
 end_from-requires c = λ takes.
     let to : end_of c.nth.result ≤ c.args.base + c.args.size =
     ends_inside c.args.base c.args.size c.args.file.now c.loop-index.index c.nth.result c.requires.faultless
-        (omega arith) c.nth.ensures takes in
+    (omega arith) c.nth.ensures takes in
     omega arith
 
 pub loop-index-preserved : goal.loop-index-preserved
 loop-index-preserved c =
     let more =
     end_step c.args.base c.args.size c.args.file.now c.loop-index.index c.loop-index.end c.end_from.result c.nth.result
-        c.requires.faultless
+    c.requires.faultless
     (omega arith) c.nth.ensures c.end_from.ensures c.loop-index.invariant.0 c.loop-index.invariant.1 in
     (c.max-end.ensures ∙ more.0, omega (arith, more.1, c.max-end.ensures))

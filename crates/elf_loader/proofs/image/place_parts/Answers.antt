@@ -8,21 +8,21 @@ use Rattle.elf_loader.proofs.image.place_parts.Goals as goal
 pub place_part-requires-clause-sound : goal.place_part-requires-clause-sound
 place_part-requires-clause-sound c =
     sound_at c.args.base c.args.size c.args.file.now c.loop-index.index c.nth.result c.requires.faultless
-        (omega arith) c.nth.ensures
+    (omega arith) c.nth.ensures
 
 pub place_part-requires-clause-inside : goal.place_part-requires-clause-inside
 place_part-requires-clause-inside c =
     inside_at c.args.base c.args.size _ c.args.file.now c.loop-index.index c.nth.result c.requires.faultless
-        (omega arith) c.nth.ensures
+    (omega arith) c.nth.ensures
     c.loop-index.invariant.len
 
 pub loop-index-preserved : goal.loop-index-preserved
 loop-index-preserved c =
     laid_more c.args.base c.args.size c.args.file.now c.loop-index.index c.loop-index.bytes c.place_part.new.bytes
-        c.requires.faultless (omega arith)
+    c.requires.faultless (omega arith)
     c.loop-index.invariant
     (subst (λ h. IsPlaced c.args.base c.args.file.now h c.loop-index.bytes c.place_part.new.bytes) c.nth.ensures
-        c.place_part.ensures)
+    c.place_part.ensures)
 
 pub returns : goal.returns
 returns c =

@@ -10,7 +10,7 @@ loop-index-preserved c = λ k before overlaps. elim (cases_lt k c.loop-index.ind
   | inr not ↦
       let same : k ≡ c.loop-index.index = omega arith in
       c.overlaps_lower.ensures.none c.if-overlaps_lower.false
-          (subst (λ j. OverlapsLower c.args.file.now j) same overlaps)
+      (subst (λ j. OverlapsLower c.args.file.now j) same overlaps)
 ]
 
 pub returns-clause-none : goal.returns-clause-none

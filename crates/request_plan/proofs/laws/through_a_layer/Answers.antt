@@ -13,5 +13,5 @@ pub returns-clause-stops : goal.returns-clause-stops
 returns-clause-stops g c keeps below held left serve ends stops plan start end stop b holds h =
     let upper = g.T.Stepped.step in
     Stops-through (g.S.Stepped.step) (Within (g.T.Kept.holds) upper) below held serve ends left stops plan
-        start end stop b
+    start end stop b
     (Stops-narrows upper (g.T.Kept.holds) keeps plan start end stop b holds h)

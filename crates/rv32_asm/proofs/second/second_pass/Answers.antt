@@ -36,7 +36,7 @@ returns-in-Err-clause-value c =
     let at_place : ℕ → Result (List ℕ) AsmKind =
     λ n. behind_bytes c.loop-rest.into.items (valued (c.args.at + n) c.split_line.result.0.now labels) in
     gives_stop c.in-Err.problem c.loop-rest.line (at_place c.len.result) _ c.in_line.result c.in_line.ensures
-        c.in-Err.ensures
+    c.in-Err.ensures
     (λ wrong is. sym c.loop-rest.invariant.passes
     ∙ second_stop c.args.at c.loop-rest.line c.split_line.result.0.now (lines_from c.split_line.result.1) labels
     c.loop-rest.into.items (lines_from c.loop-rest.rest) wrong split (ap at_place (sym long) ∙ is))
@@ -52,7 +52,7 @@ loop-rest-preserved c =
     let values : at_place (length c.loop-rest.into.items) ≡ Ok c.push_line.new.into.items =
     ap at_place (sym long) ∙ c.in-Ok.ensures in
     let step : IsStepped c.args.at c.loop-rest.line (lines_from c.split_line.result.1)
-        c.push_line.new.into.items c.args.count =
+    c.push_line.new.into.items c.args.count =
     track_more c.args.at c.loop-rest.line c.split_line.result.0.now (lines_from c.split_line.result.1) labels
     c.loop-rest.into.items (lines_from c.loop-rest.rest) c.args.count c.push_line.new.into.items
     c.loop-rest.invariant.track split values in

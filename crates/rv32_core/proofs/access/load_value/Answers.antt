@@ -14,9 +14,9 @@ extend-requires g c =
     let answer : IsAnswer (Load c.args.address (load_width op)) bytes =
     g.met.B.Bytes.answers c.args.bytes.now c.load.new.self (Load c.args.address (load_width op)) bytes one in
     let is : c.from_le_bytes.result ≡ from_le_bytes w32 (bytes ++ drop c.load_width.result no_bytes) =
-        c.from_le_bytes.ensures in
+    c.from_le_bytes.ensures in
     subst (λ n. n < 2 ^ (8 * load_width op))
-        (sym (is ∙ loaded-is op c.load_width.result c.args.address bytes c.load_width.ensures answer))
+    (sym (is ∙ loaded-is op c.load_width.result c.args.address bytes c.load_width.ensures answer))
     (loaded-below op c.args.address bytes answer)
 
 pub returns-clause-ok : goal.returns-clause-ok
@@ -28,6 +28,10 @@ returns-clause-ok g c =
     let answer : IsAnswer (Load c.args.address (load_width op)) bytes =
     g.met.B.Bytes.answers c.args.bytes.now c.load.new.self (Load c.args.address (load_width op)) bytes one in
     let is : c.from_le_bytes.result ≡ from_le_bytes w32 (bytes ++ drop c.load_width.result no_bytes) =
-        c.from_le_bytes.ensures in
-    (bytes, one, c.extend.ensures
-        ∙ ap (load_meaning op) (is ∙ loaded-is op c.load_width.result c.args.address bytes c.load_width.ensures answer))
+    c.from_le_bytes.ensures in (
+      bytes,
+      one,
+      c.extend.ensures
+          ∙ ap (load_meaning op) (is
+          ∙ loaded-is op c.load_width.result c.args.address bytes c.load_width.ensures answer),
+    )

@@ -8,7 +8,7 @@ pub returns-in_err-load_piece-clause-err : goal.returns-in_err-load_piece-clause
 returns-in_err-load_piece-clause-err g c =
     let p = err_from_is_err_and c.from_residual.result c.from_residual.ensures.1 in
     rw (p.1, p.2) (c.loop-left.invariant.stops _ _
-        (loads_stop g.B.Bytes.step c.loop-left.at c.loop-left.left c.piece_length-piece.result c.loop-left.output.items
+    (loads_stop g.B.Bytes.step c.loop-left.at c.loop-left.left c.piece_length-piece.result c.loop-left.output.items
     c.loop-left-test.true c.piece_length-piece.ensures c.loop-left.memory _ _ c.in_err-load_piece.ensures.err))
 
 pub loop-left-preserved : goal.loop-left-preserved
@@ -26,21 +26,21 @@ loop-left-preserved g c =
       capacity = omega (arith, c.load_piece.ensures.capacity, c.loop-left.invariant.capacity);
       before = ap (take (vec_len c.args.output.now)) (one.2)
           ∙ take-append-le (vec_len c.args.output.now) c.loop-left.output.items (one.0)
-              (omega (arith, c.loop-left.invariant.grown, c.loop-left.output.ok))
+          (omega (arith, c.loop-left.invariant.grown, c.loop-left.output.ok))
           ∙ c.loop-left.invariant.before;
       ends = λ new end rest. c.loop-left.invariant.ends new end
           (loads_on g.B.Bytes.step c.loop-left.at c.loop-left.left c.piece_length-piece.result c.loop-left.output.items
           c.loop-left-test.true c.piece_length-piece.ensures c.loop-left.memory c.load_piece.new.memory new
-              c.load_piece.new.output.items (one.0) end (one.1) (one.2) rest);
+          c.load_piece.new.output.items (one.0) end (one.1) (one.2) rest);
       stops = λ new stop rest. c.loop-left.invariant.stops new stop
           (loads_stop_later g.B.Bytes.step c.loop-left.at c.loop-left.left c.piece_length-piece.result
           c.loop-left.output.items
           c.loop-left-test.true c.piece_length-piece.ensures c.loop-left.memory c.load_piece.new.memory new
-              c.load_piece.new.output.items (one.0) stop (one.1) (one.2) rest);
+          c.load_piece.new.output.items (one.0) stop (one.1) (one.2) rest);
     }
 
 pub returns-clause-ok : goal.returns-clause-ok
 returns-clause-ok g c =
     let none : c.loop-left.left ≡ 0 = omega arith in
     c.loop-left.invariant.ends _ _ (loads_over g.B.Bytes.step c.loop-left.at c.loop-left.left c.loop-left.output.items
-        c.loop-left.memory none)
+    c.loop-left.memory none)

@@ -8,18 +8,18 @@ returns-in_err-store-clause-err g c =
     let some : 0 < length c.loop-rest.rest.now = grind arith in
     let p = err_from_is_err_and c.from_residual.result c.from_residual.ensures.1 in
     rw (p.1, p.2) (c.loop-rest.invariant.stops _ _
-        (stores_stop g.B.Bytes.step c.loop-rest.at c.piece_length-count.result c.loop-rest.rest.now
-        c.split_at.result.0.now c.split_at.result.1.now
+    (stores_stop g.B.Bytes.step c.loop-rest.at c.piece_length-count.result c.loop-rest.rest.now
+    c.split_at.result.0.now c.split_at.result.1.now
     some c.piece_length-count.ensures c.split_at.ensures.front c.split_at.ensures.back c.loop-rest.memory _ _
-        c.in_err-store.ensures))
+    c.in_err-store.ensures))
 
 pub loop-rest-preserved : goal.loop-rest-preserved
 loop-rest-preserved g c =
     let some : 0 < length c.loop-rest.rest.now = grind arith in
     let part : c.piece_length-count.result ≤ length c.loop-rest.rest.now = omega
-        (arith, c.piece_length-count.ensures) in
+    (arith, c.piece_length-count.ensures) in
     let left : length c.split_at.result.1.now ≡ length c.loop-rest.rest.now - c.piece_length-count.result = omega
-        (arith, c.split_at.ensures.back_len) in
+    (arith, c.split_at.ensures.back_len) in
     record {
       base = g.met.B.Bytes.keeps_base _ _ _ _ c.in_ok-store.ensures ∙ c.loop-rest.invariant.base;
       size = g.met.B.Bytes.keeps_size _ _ _ _ c.in_ok-store.ensures ∙ c.loop-rest.invariant.size;
@@ -29,16 +29,16 @@ loop-rest-preserved g c =
           (stores_on g.B.Bytes.step c.loop-rest.at c.piece_length-count.result c.loop-rest.rest.now
           c.split_at.result.0.now c.split_at.result.1.now
           some c.piece_length-count.ensures c.split_at.ensures.front c.split_at.ensures.back c.loop-rest.memory
-              c.store.new.self new [] c.in_ok-store.ensures rest);
+          c.store.new.self new [] c.in_ok-store.ensures rest);
       stops = λ new stop rest. c.loop-rest.invariant.stops new stop
           (stores_stop_later g.B.Bytes.step c.loop-rest.at c.piece_length-count.result c.loop-rest.rest.now
           c.split_at.result.0.now c.split_at.result.1.now
           some c.piece_length-count.ensures c.split_at.ensures.front c.split_at.ensures.back c.loop-rest.memory
-              c.store.new.self new [] stop c.in_ok-store.ensures rest);
+          c.store.new.self new [] stop c.in_ok-store.ensures rest);
     }
 
 pub returns-clause-ok : goal.returns-clause-ok
 returns-clause-ok g c =
     let none : length c.loop-rest.rest.now ≡ 0 = grind arith in
     c.loop-rest.invariant.ends _ (stores_over g.B.Bytes.step c.loop-rest.at c.loop-rest.rest.now
-        c.loop-rest.memory none)
+    c.loop-rest.memory none)

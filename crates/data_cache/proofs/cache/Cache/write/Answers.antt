@@ -7,7 +7,7 @@ pub bring-requires-clause-lines : goal.bring-requires-clause-lines
 bring-requires-clause-lines g c =
     rw c.index_mut-set.ensures.value (below_at (λ v. v.items) _ c.self.inside.sets.items c.set_index-index.result _
     (rw (← c.self.view_is) at c.requires.lines)
-        (omega (arith, c.self.inside.sets.ok.0, c.set_index-index.ensures.inside)))
+    (omega (arith, c.self.inside.sets.ok.0, c.set_index-index.ensures.inside)))
 
 pub returns-in_err-bring-clause-err : goal.returns-in_err-bring-clause-err
 returns-in_err-bring-clause-err g c =

@@ -12,7 +12,7 @@ returns-clause-stands g c n leaf s =
     let log = (t c.note_choice.new.bus.tap.now).log in
     let after = c.ended-choice.ensures.after in
     let at = c.slot_after-self.ensures ∙ ap (λ r. c.args.end + r) (c.rate.ensures.value
-        ∙ ap (λ (x : Learner). x.rate) after) in
+    ∙ ap (λ (x : Learner). x.rate) after) in
     let done = stands_ended c.args.end c.ended-choice.result log s c.requires.at_end.end_is
     (sym c.ended-choice.ensures.sums) c.note_choice.ensures.log in
     subst (λ x. Stands clock.config (suc n) c.args.end x c.ended-choice.new.self log) (sym at)

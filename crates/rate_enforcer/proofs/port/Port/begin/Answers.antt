@@ -29,14 +29,14 @@ returns-in-Err-clause-stopped g c = no_room c.stop_at.new.self.clock c.requires.
 pub read_path-requires-clause-ready : goal.read_path-requires-clause-ready
 read_path-requires-clause-ready g c =
     let b = begun c.args.asked c.args.point c.leaf-leaf.result (g.W.Watch.state c.note.new.self.tap.now).log
-        c.requires.rests c.requires.early c.requires.first
+    c.requires.rests c.requires.early c.requires.first
     c.note.ensures.log c.note-2.ensures.log (made_then c.note.ensures.ran.made c.note-2.ensures.ran.made) in
     ready_begun c.room.new.self.shape b (c.room.ensures.same.shape ∙ c.requires.rests.is_for.shape)
 
 pub returns-in-Ok-read_path-clause-opens : goal.returns-in-Ok-read_path-clause-opens
 returns-in-Ok-read_path-clause-opens g c notes rests =
     let b = begun c.args.asked c.args.point c.leaf-leaf.result (g.W.Watch.state c.note.new.self.tap.now).log rests
-        c.requires.early c.requires.first
+    c.requires.early c.requires.first
     c.note.ensures.log c.note-2.ensures.log (made_then c.note.ensures.ran.made c.note-2.ensures.ran.made) in
     let one = c.room.ensures.same in
     let two = c.read_path.ensures.kept in
@@ -79,16 +79,19 @@ returns-in-Err-read_path-clause-stopped g c =
     let t = g.W.Watch.state in
     let clock = c.args.self.now.clock in
     let b = begun c.args.asked c.args.point c.leaf-leaf.result (g.W.Watch.state c.note.new.self.tap.now).log
-        c.requires.rests c.requires.early c.requires.first
+    c.requires.rests c.requires.early c.requires.first
     c.note.ensures.log c.note-2.ensures.log (made_then c.note.ensures.ran.made c.note-2.ensures.ran.made) in
-    let make = λ (n : ℕ) (s : Stop). let k : Clock = record clock { learner = c.saw.new.self; last = n;
-        stop = Some s } in k in
+    let make = λ (n : ℕ) (s : Stop). let k : Clock = record clock {
+      learner = c.saw.new.self;
+      last = n;
+      stop = Some s;
+    } in k in
     let is = c.stop_at-in-Err-read_path.ensures.clock ∙ ap (λ n. make n c.stop_of-stop.result) c.ended-last.ensures
     ∙ ap (λ s. make c.read_path.new.self.ended s) c.stop_of-stop.ensures in
     subst (λ (x : Stop). Stopped clock.config c.stop_at-in-Err-read_path.new.self.clock x
     (t c.read_path.new.bus.tap.now).log) (sym c.stop_of-stop.ensures)
     (read_stopped m t c.note-2.new.self c.read_path.new.bus c.leaf-leaf.result.0 c.saw.new.self c.in-Err-read_path.stop
-        c.room.new.self c.read_path.new.self
+    c.room.new.self c.read_path.new.self
     c.stop_at-in-Err-read_path.new.self.clock b (c.room.ensures.same.shape ∙ c.requires.rests.is_for.shape)
     c.in-Err-read_path.ensures.ran c.in-Err-read_path.ensures.ended is)
 

@@ -98,7 +98,7 @@ returns-in-Err-clause-stopped g c =
     (sym c.stop_of-stop.ensures)
     (write_stopped m t c.args.bus.now c.write_path.new.bus c.args.slot c.in-Err.stop c.args.self.now.tree
     c.write_path.new.self c.stop_at.new.self.clock c.requires.opens c.in-Err.ensures.ran
-        (ended_of (c.write_path.new.self.ended ≡ c.args.self.now.tree.ended)
+    (ended_of (c.write_path.new.self.ended ≡ c.args.self.now.tree.ended)
     (c.write_path.new.self.ended ≡ reads_end c.args.self.now.tree.shape.levels c.args.slot.start)
     (c.write_path.new.self.seed ≡ c.args.self.now.tree.seed) c.in-Err.stop c.in-Err.ensures.refused) is)
 
@@ -106,8 +106,11 @@ pub returns-in-Ok-clause-written : goal.returns-in-Ok-clause-written
 returns-in-Ok-clause-written g c =
     let t = g.W.Watch.state in
     let tree = c.args.self.now.tree in
-    ap (λ b. let d : Contents = record { hand = c.write_path.new.self.hand; mirror = b;
-        seed = c.write_path.new.self.seed } in d)
+    ap (λ b. let d : Contents = record {
+      hand = c.write_path.new.self.hand;
+      mirror = b;
+      seed = c.write_path.new.self.seed;
+    } in d)
     c.end_slot.ensures.mirror
     ∙ write_is (keys_of tree [] (λ _. 0)) (t c.args.bus.now.tap.now) (t c.write_path.new.bus.tap.now) tree
     c.write_path.new.self c.args.slot.leaf.0 refl refl c.in-Ok.ensures.hand c.in-Ok.ensures.mirror c.in-Ok.ensures.seed

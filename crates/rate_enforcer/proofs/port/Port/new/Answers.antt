@@ -10,8 +10,14 @@ returns-clause-rests g c notes left memory tap events moves enough room =
     let config = c.args.config.now in
     let r = c.requires in
     let next = c.from.ensures ∙ c.rate.ensures.value ∙ ap (λ (x : Learner). x.rate) c.new-learner.ensures.start in
-    let make = λ (x : Learner) (n : ℕ). let k : Clock = record { config = config; learner = x; next = n; last = 0;
-        dummies = 0; stop = None } in k in
+    let make = λ (x : Learner) (n : ℕ). let k : Clock = record {
+      config = config;
+      learner = x;
+      next = n;
+      last = 0;
+      dummies = 0;
+      stop = None;
+    } in k in
     fresh notes left _ config _ c.args.tree memory tap r.config
     (ap (λ x. make x c.from.result) c.new-learner.ensures.start ∙ ap (λ n. make (learner_at_start config) n) next)
     events moves enough room r.shape r.stash r.hand r.seed r.path r.levels

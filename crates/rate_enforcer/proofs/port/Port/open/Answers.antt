@@ -91,8 +91,12 @@ returns-clause-read g c tags =
     let d0 = c.args.self.now.clock.dummies in
     let keys : Keys = keys_of old tags (leaf c.args.self.now.leaves) in
     let same : keys_of now tags (leaf c.pass_until.new.self.leaves) ≡ keys =
-    (λ i. record { shape = kept.shape i; pads = kept.key i; tags = tags;
-        leaf_of = leaf (c.pass_until.ensures.leaves i) }) in
+    (λ i. record {
+      shape = kept.shape i;
+      pads = kept.key i;
+      tags = tags;
+      leaf_of = leaf (c.pass_until.ensures.leaves i);
+    }) in
     let t1 = t c.pass_until.new.bus.tap.now in
     let t2 = t c.begin.new.bus.tap.now in
     record {
@@ -105,7 +109,7 @@ returns-clause-read g c tags =
       read = subst (λ n. IsRead keys t1.log t2.log (contents_of now t1) n c.args.point c.begin.new.self.tree.hand)
           (sym c.begin.ensures.next)
           (subst (λ (k : Keys). IsRead k t1.log t2.log (contents_of now t1)
-              c.pass_until.new.self.clock.next c.args.point
+          c.pass_until.new.self.clock.next c.args.point
           c.begin.new.self.tree.hand) same (c.in-Ok-begin.ensures.read tags));
       noted = c.in-Ok-begin.ensures.noted
           ∙ ap (λ n. t1.log.events ++ begin_events n (Some c.args.asked) c.args.point
@@ -113,8 +117,11 @@ returns-clause-read g c tags =
           ∙ ap (λ x. t1.log.events ++ begin_events c.begin.new.self.clock.next (Some c.args.asked) c.args.point
           (leaf x c.args.point)) c.pass_until.ensures.leaves;
       after_is =
-          ap (λ b. let d : Contents = record { hand = c.begin.new.self.tree.hand; mirror = b;
-              seed = c.begin.new.self.tree.seed } in d)
+          ap (λ b. let d : Contents = record {
+            hand = c.begin.new.self.tree.hand;
+            mirror = b;
+            seed = c.begin.new.self.tree.seed;
+          } in d)
           c.begin.ensures.mirror
           ∙ ap (λ b. let d : Contents = record { hand = c.begin.new.self.tree.hand; mirror = t1.mirror; seed = b } in d)
           c.begin.ensures.seed;

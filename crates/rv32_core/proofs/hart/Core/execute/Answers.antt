@@ -11,4 +11,4 @@ pub returns-in-Some-clause-fine : goal.returns-in-Some-clause-fine
 returns-in-Some-clause-fine c =
     let machine = machine_of c.args.self.now c.args.files.now in
     subst (λ (e : Effect). IsEffect machine e) (sym c.effect.ensures)
-        (effect_of-fine machine _ (subst (λ (i : Option Instr). IfSome i Fits) c.in-Some.is c.requires))
+    (effect_of-fine machine _ (subst (λ (i : Option Instr). IfSome i Fits) c.in-Some.is c.requires))
