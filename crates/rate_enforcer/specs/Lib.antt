@@ -1,4 +1,6 @@
+pub mod Breaks
 pub mod Clock
+pub mod PortStep
 pub mod Served
 pub mod State
 pub mod Stops

@@ -27,8 +27,10 @@ pub struct Clock {
     pub next: u64,
     /// The end of the last slot, or the end that a stop left.
     pub last: u64,
-    /// How many dummies are done.
+    /// How many dummies have started.
     pub dummies: u64,
+    /// How many slots that were asked for have started.
+    pub real: u64,
     /// The stop, which stays.
     pub stop: Option<Stop>,
 }

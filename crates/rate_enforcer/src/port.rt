@@ -81,6 +81,7 @@ impl<L: LeafFn> Port<L> {
             next: u64::from(learner.rate()),
             last: 0,
             dummies: 0,
+            real: 0,
             stop: None,
         };
         Port {
