@@ -1,0 +1,10 @@
+//! The front end of an encrypted memory: lines are fetched and stored by walks over position-map blocks, each access in
+//! a slot of a port, and whatever is found is judged by its tag.
+#![tactic(auto)]
+
+mod access;
+mod judge;
+mod oram;
+mod slots;
+
+pub use oram::Oram;
