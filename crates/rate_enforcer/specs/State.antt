@@ -32,7 +32,8 @@ pub record Rests (notes : ℕ) (clock : Clock) (tree : TreeState) (levels : ℕ)
   pub done : ℕ
   pub stands : Stands clock.config done clock.last clock.next clock.learner tap.log
   pub in_time : clock.last < clock.config.time + olat_of clock.config.shape.levels
-  pub dummies : clock.dummies ≤ clock.next
+  pub dummies : clock.dummies < clock.next
+  pub real : clock.real < clock.next
   pub left : ℕ
   pub enough : clock.config.time ≤ clock.next + left * olat_of clock.config.shape.levels
   pub room : IsReady clock.config.shape.buckets (2 * (clock.config.shape.levels + 1) * left) (6 * left + notes)
@@ -59,6 +60,7 @@ pub record Opens (notes : ℕ) (clock : Clock) (slot : OpenSlot) (tree : TreeSta
   pub stands : StandsIn clock.config done clock.next slot.leaf.0
       (reads clock.config.shape.levels clock.next slot.leaf.0) clock.learner tap.log
   pub dummies : clock.dummies ≤ clock.next
+  pub real : clock.real ≤ clock.next
   pub left : ℕ
   pub enough : clock.config.time ≤ clock.next + (left * olat_of clock.config.shape.levels
       + olat_of clock.config.shape.levels)
