@@ -22,6 +22,10 @@ use Rattle.bus_watch.specs.declared.log.Event.{Event}
 use Rattle.bus_watch.specs.declared.log.Event.TheVariants.{Chosen}
 use Rattle.oram_contents.specs.Contents.{Contents}
 use Rattle.unified_tree.proofs.Slots.{write_is}
+use Rattle.unified_tree.specs.Slot.{contents_of}
+use Rattle.unified_tree.specs.Tree.{TreeState}
+use Rattle.rate_enforcer.specs.Breaks.{WriteStops}
+use Rattle.rate_enforcer.proofs.Breaks.{write_breaks}
 use Rattle.rate_enforcer.specs.Served.{keys_of}
 use Rattle.rate_enforcer.proofs.port.Port.close.Goals as goal
 
@@ -141,3 +145,19 @@ pub returns-in-Err-clause-full : goal.returns-in-Err-clause-full
 returns-in-Err-clause-full g c held is =
     full_of c.in-Err.stop held _ _ _ _ _ _ _ (sym c.stop_of-stop.ensures ∙ is) c.in-Err.ensures.full
     c.in-Err.ensures.ran
+
+pub returns-in-Err-clause-breaks : goal.returns-in-Err-clause-breaks
+returns-in-Err-clause-breaks g c tags =
+    let t = g.W.Watch.state in
+    let old = c.args.self.now.tree in
+    let leaf_of = g.L.LeafFn.leaf_of c.args.self.now.leaves in
+    let before = t c.args.bus.now.tap.now in
+    let tap = t c.write_path.new.bus.tap.now in
+    subst (λ (x : TreeState). WriteStops (keys_of old tags leaf_of) old.stash c.stop_of-stop.result before.log tap.log
+    (contents_of old before) (contents_of x tap) c.args.slot.start c.args.slot.leaf.0) (sym c.stop_at.ensures.tree)
+    (subst (λ (x : Stop). WriteStops (keys_of old tags leaf_of) old.stash x before.log tap.log
+    (contents_of old before) (contents_of c.write_path.new.self tap) c.args.slot.start c.args.slot.leaf.0)
+    (sym c.stop_of-stop.ensures)
+    (write_breaks g.M.UntrustedMemory.state t c.args.bus.now c.write_path.new.bus tags leaf_of old
+    c.write_path.new.self c.args.slot.start c.args.slot.leaf.0 c.in-Err.stop c.write_path.ensures.altered
+    c.in-Err.ensures.hand_err c.in-Err.ensures.ran c.in-Err.ensures.full c.in-Err.ensures.refused))

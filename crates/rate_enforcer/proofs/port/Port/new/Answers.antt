@@ -16,6 +16,7 @@ returns-clause-rests g c notes left memory tap events moves enough room =
       next = n;
       last = 0;
       dummies = 0;
+      real = 0;
       stop = None;
     } in k in
     fresh notes left _ config _ c.args.tree memory tap r.config

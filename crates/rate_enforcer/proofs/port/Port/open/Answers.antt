@@ -102,9 +102,9 @@ returns-clause-read g c tags =
     record {
       mid = t1.log;
       between = contents_of now t1;
-      more = omega (arith, c.in-Ok.ensures.more, c.begin.ensures.dummies);
+      more = omega (arith, c.in-Ok.ensures.more, c.in-Ok-begin.ensures.dummies);
       passed = subst (λ n. ArePasses keys (n - d0) (t c.args.bus.now.tap.now).log t1.log
-          (contents_of old (t c.args.bus.now.tap.now)) (contents_of now t1) d0) (sym c.begin.ensures.dummies)
+          (contents_of old (t c.args.bus.now.tap.now)) (contents_of now t1) d0) (sym c.in-Ok-begin.ensures.dummies)
           (c.in-Ok.ensures.passed tags);
       read = subst (λ n. IsRead keys t1.log t2.log (contents_of now t1) n c.args.point c.begin.new.self.tree.hand)
           (sym c.begin.ensures.next)
