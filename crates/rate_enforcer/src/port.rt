@@ -222,6 +222,14 @@ impl<L: LeafFn> Port<L> {
             (W.state bus.old.tap.now).log (W.state bus.new.tap.now).log
             (contents_of self.old.tree (W.state bus.old.tap.now)) (contents_of self.new.tree (W.state bus.new.tap.now))
             slot.start slot.leaf.0) }
+        ensures step { MatchResult result (λ end. PortStep (L.leaf_of self.old.leaves) (L.levels self.old.leaves)
+            (port_of self.old.clock self.old.tree (M.state bus.old.memory.now) (W.state bus.old.tap.now))
+            Close (Ok (told end))
+            (port_of self.new.clock self.new.tree (M.state bus.new.memory.now) (W.state bus.new.tap.now)))
+            (λ stop. PortStep (L.leaf_of self.old.leaves) (L.levels self.old.leaves)
+            (port_of self.old.clock self.old.tree (M.state bus.old.memory.now) (W.state bus.old.tap.now))
+            Close (Err stop)
+            (port_of self.new.clock self.new.tree (M.state bus.new.memory.now) (W.state bus.new.tap.now))) }
     {
         let OpenSlot { start, leaf } = slot;
         let end = start + self.clock.config.shape.olat();
@@ -372,6 +380,19 @@ impl<L: LeafFn> Port<L> {
         ensures stopped { self.old.clock.stop ≡ None
             → IfErr result (λ stop. Stopped self.old.clock.config self.new.clock stop
             (W.state bus.new.tap.now).log) }
+        ensures real { OnOk result (self.new.clock.real ≡ self.old.clock.real + 1) }
+        ensures breaks { self.old.clock.stop ≡ None → (tags : List ℕ) → IfErr result (λ stop. OpenBreaks
+            (L.leaf_of self.old.leaves) (L.levels self.old.leaves) asked point stop
+            (port_of self.old.clock self.old.tree (M.state bus.old.memory.now) (W.state bus.old.tap.now))
+            (port_of self.new.clock self.new.tree (M.state bus.new.memory.now) (W.state bus.new.tap.now)) tags) }
+        ensures step { MatchResult result (λ _. PortStep (L.leaf_of self.old.leaves) (L.levels self.old.leaves)
+            (port_of self.old.clock self.old.tree (M.state bus.old.memory.now) (W.state bus.old.tap.now))
+            (Open asked point) (Ok silent)
+            (port_of self.new.clock self.new.tree (M.state bus.new.memory.now) (W.state bus.new.tap.now)))
+            (λ stop. PortStep (L.leaf_of self.old.leaves) (L.levels self.old.leaves)
+            (port_of self.old.clock self.old.tree (M.state bus.old.memory.now) (W.state bus.old.tap.now))
+            (Open asked point) (Err stop)
+            (port_of self.new.clock self.new.tree (M.state bus.new.memory.now) (W.state bus.new.tap.now))) }
     {
         if let Some(stop) = self.clock.stop {
             return Err(stop);
@@ -432,6 +453,20 @@ impl<L: LeafFn> Port<L> {
         ensures stopped { self.old.clock.stop ≡ None
             → IfErr result (λ stop. Stopped self.old.clock.config self.new.clock stop
             (W.state bus.new.tap.now).log) }
+        ensures real { self.new.clock.real ≡ self.old.clock.real }
+        ensures breaks { self.old.clock.stop ≡ None → (tags : List ℕ) → IfErr result (λ stop. PassesStop
+            (keys_of self.old.tree tags (L.leaf_of self.old.leaves)) self.old.tree.stash stop
+            (W.state bus.old.tap.now).log (W.state bus.new.tap.now).log
+            (contents_of self.old.tree (W.state bus.old.tap.now)) (contents_of self.new.tree (W.state bus.new.tap.now))
+            self.new.clock.next self.old.clock.dummies) }
+        ensures step { MatchResult result (λ end. PortStep (L.leaf_of self.old.leaves) (L.levels self.old.leaves)
+            (port_of self.old.clock self.old.tree (M.state bus.old.memory.now) (W.state bus.old.tap.now))
+            (Idle time) (Ok (told end))
+            (port_of self.new.clock self.new.tree (M.state bus.new.memory.now) (W.state bus.new.tap.now)))
+            (λ stop. PortStep (L.leaf_of self.old.leaves) (L.levels self.old.leaves)
+            (port_of self.old.clock self.old.tree (M.state bus.old.memory.now) (W.state bus.old.tap.now))
+            (Idle time) (Err stop)
+            (port_of self.new.clock self.new.tree (M.state bus.new.memory.now) (W.state bus.new.tap.now))) }
     {
         if let Some(stop) = self.clock.stop {
             return Err(stop);
@@ -481,6 +516,9 @@ impl<L: LeafFn> Port<L> {
         ensures opens { (notes : ℕ) (memory : MemoryState) (tap : TapState)
             → Opens notes self.old.clock slot.now self.old.tree (L.levels self.old.leaves) memory tap
             → Opens notes self.new.clock slot.now self.new.tree (L.levels self.new.leaves) memory tap }
+        ensures step { (memory : MemoryState) (tap : TapState) → PortStep (L.leaf_of self.old.leaves) (L.levels self.old.leaves)
+            (port_of self.old.clock self.old.tree memory tap) (Put entry) (Ok silent)
+            (port_of self.new.clock self.new.tree memory tap) }
     {
         match self.tree.put(entry) {
             Ok(()) => {}
@@ -500,6 +538,9 @@ impl<L: LeafFn> Port<L> {
         ensures pace { (notes : ℕ) (memory : MemoryState) (tap : TapState)
             → Opens notes self.old.clock slot self.old.tree (L.levels self.old.leaves) memory tap
             → KeepsPace self.old.clock.config result tap.log }
+        ensures step { (memory : MemoryState) (tap : TapState) → PortStep (L.leaf_of self.old.leaves) (L.levels self.old.leaves)
+            (port_of self.old.clock self.old.tree memory tap) (Abort stop) (Ok (told result))
+            (port_of self.new.clock self.new.tree memory tap) }
     {
         let OpenSlot { start, leaf: _ } = slot;
         let end = start + MOVE_CYCLES * (u64::from(self.clock.config.shape.levels) + 1);
@@ -533,6 +574,13 @@ impl<L: LeafFn> Port<L> {
             → OnOk result (Rests notes self.new.clock self.new.tree (L.levels self.new.leaves) memory tap) }
         ensures sticky { (stop : StopValue) → self.old.clock.stop ≡ Some stop
             → (result ≡ Err stop) × (self.new ≡ self.old) }
+        ensures step { (memory : MemoryState) (tap : TapState) → MatchResult result (λ _. PortStep
+            (L.leaf_of self.old.leaves) (L.levels self.old.leaves)
+            (port_of self.old.clock self.old.tree memory tap) (Join entry) (Ok silent)
+            (port_of self.new.clock self.new.tree memory tap))
+            (λ stop. PortStep (L.leaf_of self.old.leaves) (L.levels self.old.leaves)
+            (port_of self.old.clock self.old.tree memory tap) (Join entry) (Err stop)
+            (port_of self.new.clock self.new.tree memory tap)) }
     {
         if let Some(stop) = self.clock.stop {
             return Err(stop);

@@ -13,7 +13,7 @@ use Rattle.rate_enforcer.specs.Clock.{with_dummy, with_real}
 use Rattle.rate_enforcer.specs.State.{Opens, Stopped}
 use Rattle.rate_enforcer.specs.Stops.{RanStop, stop_after}
 use Rattle.rate_enforcer.specs.declared.clock.Clock.{Clock}
-use Rattle.rate_enforcer.proofs.Laws.{begun, ready_begun, opened, no_room, read_stops, read_stopped, few_dummies, few_real}
+use Rattle.rate_enforcer.proofs.StateLaws.{begun, ready_begun, opened, no_room, read_stops, read_stopped, few_dummies, few_real}
 use Rattle.rate_enforcer.proofs.Breaks.{moves_read, read_breaks, same_contents}
 use Rattle.rate_enforcer.proofs.Contents.{two_events, slot_read}
 use Rattle.rate_enforcer.proofs.port.Port.begin.Goals as goal

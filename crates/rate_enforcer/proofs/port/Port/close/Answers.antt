@@ -15,7 +15,7 @@ use Rattle.rate_enforcer.specs.Clock.{chosen_events}
 use Rattle.rate_enforcer.specs.State.{Stopped}
 use Rattle.rate_enforcer.specs.Stops.{RanStop, stop_after}
 use Rattle.rate_enforcer.specs.declared.clock.Clock.{Clock}
-use Rattle.rate_enforcer.proofs.Laws.{ready_open, at_end, rested, write_stops, write_stopped}
+use Rattle.rate_enforcer.proofs.StateLaws.{ready_open, at_end, rested, write_stops, write_stopped}
 use Rattle.asc_base.specs.declared.stop.Stop.TheVariants.{StashFull}
 use Rattle.bus_watch.specs.declared.bus.BusStop.{BusStop}
 use Rattle.bus_watch.specs.declared.log.Event.{Event}
@@ -27,6 +27,7 @@ use Rattle.unified_tree.specs.Tree.{TreeState}
 use Rattle.rate_enforcer.specs.Breaks.{WriteStops}
 use Rattle.rate_enforcer.proofs.Breaks.{write_breaks}
 use Rattle.rate_enforcer.specs.Served.{keys_of}
+use Rattle.rate_enforcer.proofs.Steps.{of_slot, used_so, kept_as}
 use Rattle.rate_enforcer.proofs.port.Port.close.Goals as goal
 
 one_choice : (choice : Option ℕ) → length (chosen_events choice) ≤ 1
@@ -161,3 +162,46 @@ returns-in-Err-clause-breaks g c tags =
     (write_breaks g.M.UntrustedMemory.state t c.args.bus.now c.write_path.new.bus tags leaf_of old
     c.write_path.new.self c.args.slot.start c.args.slot.leaf.0 c.in-Err.stop c.write_path.ensures.altered
     c.in-Err.ensures.hand_err c.in-Err.ensures.ran c.in-Err.ensures.full c.in-Err.ensures.refused))
+
+pub returns-in-Ok-clause-step : goal.returns-in-Ok-clause-step
+returns-in-Ok-clause-step g c =
+    let clock = c.args.self.now.clock in
+    let now = c.end_slot.new.self in
+    let is = c.end_slot.ensures.clock in
+    let path = c.requires.opens.is_open.path in
+    (refl, record {
+      path = record { start = c.args.slot.start; leaf = c.args.slot.leaf };
+      on = path;
+      same = record { config = ap (λ (x : Clock). x.config) is; tree = c.write_path.ensures.kept };
+      used = used_so g.M.UntrustedMemory.state g.W.Watch.state c.args.bus.now c.end_slot.new.bus clock now
+          c.args.self.now.tree c.write_path.new.self (returns-in-Ok-clause-ran g c);
+      rests = λ notes leaf o. returns-in-Ok-clause-rests g c notes (of_slot c.args.slot o.slot path o.opens);
+      end_is = omega (arith, c.olat.ensures);
+      last = ap (λ (x : Clock). x.last) is;
+      dummies = ap (λ (x : Clock). x.dummies) is;
+      real = ap (λ (x : Clock). x.real) is;
+      written = returns-in-Ok-clause-written g c;
+      ends = returns-in-Ok-clause-ended g c;
+    })
+
+pub returns-in-Err-clause-step : goal.returns-in-Err-clause-step
+returns-in-Err-clause-step g c =
+    let is = c.stop_at.ensures.clock in
+    let ran = returns-in-Err-clause-ran_err g c in
+    record {
+      path = record { start = c.args.slot.start; leaf = c.args.slot.leaf };
+      on = c.requires.opens.is_open.path;
+      same = record {
+        config = ap (λ (x : Clock). x.config) is;
+        tree = kept_as c.args.self.now.tree c.write_path.new.self c.stop_at.new.self.tree c.write_path.ensures.kept
+            c.stop_at.ensures.tree;
+      };
+      end = ran.end;
+      is_end = ran.is_end;
+      used = used_so g.M.UntrustedMemory.state g.W.Watch.state c.args.bus.now c.write_path.new.bus
+          c.args.self.now.clock c.stop_at.new.self.clock c.args.self.now.tree c.stop_at.new.self.tree ran.ran;
+      stopped = returns-in-Err-clause-stopped g c;
+      dummies = ap (λ (x : Clock). x.dummies) is;
+      real = ap (λ (x : Clock). x.real) is;
+      breaks = returns-in-Err-clause-breaks g c;
+    }

@@ -1,5 +1,5 @@
 use Rattle.std.proofs.Common.{◌≡◌, ◌≤◌, ◌∙◌, ◌+◌, ◌*◌, ℕ, refl, ap, sym, subst, inr, arith}
-use Rattle.rate_enforcer.proofs.Laws.{opens_less, ran_on, stops_on}
+use Rattle.rate_enforcer.proofs.StateLaws.{opens_less, ran_on, stops_on}
 use Rattle.unified_tree.specs.Slot.{contents_of}
 use Rattle.rate_enforcer.specs.Breaks.{WriteStops}
 use Rattle.rate_enforcer.specs.Served.{keys_of}

@@ -2,7 +2,7 @@ use Rattle.std.proofs.Common.{◌≡◌, ◌∙◌, ◌+◌, ◌*◌, ℕ, None,
 use Rattle.epoch_learner.specs.Learner.{learner_at_start}
 use Rattle.epoch_learner.specs.declared.Learner.{Learner}
 use Rattle.rate_enforcer.specs.declared.clock.Clock.{Clock}
-use Rattle.rate_enforcer.proofs.Laws.{fresh}
+use Rattle.rate_enforcer.proofs.StateLaws.{fresh}
 use Rattle.rate_enforcer.proofs.port.Port.new.Goals as goal
 
 pub returns-clause-rests : goal.returns-clause-rests

@@ -9,7 +9,7 @@ use Rattle.rate_enforcer.specs.Breaks.{DummyStops}
 use Rattle.rate_enforcer.proofs.Breaks.{passes_stop}
 use Rattle.rate_enforcer.proofs.Contents.{dummies_more}
 use Rattle.rate_enforcer.specs.State.{Stopped}
-use Rattle.rate_enforcer.proofs.Laws.{ran_on, stops_on}
+use Rattle.rate_enforcer.proofs.StateLaws.{ran_on, stops_on}
 use Rattle.rate_enforcer.proofs.port.Port.pass_until.Goals as goal
 
 pub loop-self-init : goal.loop-self-init

@@ -495,6 +495,26 @@ opens_less {notes} {levels} {clock} {slot} {tree} {m} {t} fewer less o =
       is_for = o.is_for;
     }
 
+pub rests_less : {notes levels : ℕ} {clock : Clock} {tree : TreeState} {m : MemoryState} {t : TapState} (fewer : ℕ)
+    → fewer ≤ notes → Rests notes clock tree levels m t → Rests fewer clock tree levels m t
+rests_less {notes} {levels} {clock} {tree} {m} {t} fewer less r =
+    let l = clock.config.shape.levels in
+    record {
+      going = r.going;
+      done = r.done;
+      stands = r.stands;
+      in_time = r.in_time;
+      dummies = r.dummies;
+      real = r.real;
+      left = r.left;
+      enough = r.enough;
+      room = ready_less clock.config.shape.buckets (2 * (l + 1) * r.left) (6 * r.left + notes) (2 * (l + 1) * r.left)
+          (6 * r.left + fewer) r.room (omega arith) (omega (arith, less));
+      is_for = r.is_for;
+      path = r.path;
+      few = r.few;
+    }
+
 -- before the first slot
 pub fresh : (notes left levels : ℕ) (config : Config) (clock : Clock) (tree : TreeState) (m : MemoryState)
     (t : TapState) → IsConfig config
