@@ -1,6 +1,6 @@
 -- How a slot that stops leaves log and contents, over plain trees, taps and buses.
-use Rattle.std.proofs.Common.{◌≡◌, ◌<◌, ◌≤◌, ◌+◌, ◌-◌, ◌*◌, ◌^◌, ◌++◌, ℕ, suc, List, [], ◌∷◌, length, Option, None, Some}
-use Rattle.std.proofs.Common.{Ok, Err, refl, sym, ap, subst, ◌∙◌, arith, append-nil, length-append, ◌⊎◌, inl, inr, true, false}
+use Rattle.std.proofs.Common.{◌≡◌, ◌<◌, ◌≤◌, ◌+◌, ◌-◌, ◌++◌, ℕ, List, [], length, Option, None}
+use Rattle.std.proofs.Common.{Err, refl, sym, ap, subst, ◌∙◌, arith, append-nil, length-append, inr, false}
 use Rattle.std.specs.List.{All}
 use Rattle.std.specs.Prelude.{⊤}
 use Rattle.asc_base.specs.declared.block.Leaf.{Leaf}
@@ -16,9 +16,8 @@ use Rattle.bus_watch.specs.declared.log.Altered.{Altered}
 use Rattle.bus_watch.specs.declared.log.Event.TheVariants.{Access, Drawn}
 use Rattle.bus_watch.specs.Log.{LogLists, TapState, with_event}
 use Rattle.bus_watch.specs.Made.{Ran}
-use Rattle.bus_watch.specs.Path.{along, reads, reads_end, writes, writes_start}
+use Rattle.bus_watch.specs.Path.{along, reads, reads_end, writes}
 use Rattle.bus_watch.specs.RunEnd.{RunEnd, Whole, end_at}
-use Rattle.oram_contents.specs.Contents.{Contents}
 use Rattle.oram_contents.specs.Entries.{Keys}
 use Rattle.oram_contents.specs.PathRead.{path_read, replies}
 use Rattle.oram_contents.specs.PathWritten.{rest_of}
@@ -30,8 +29,8 @@ use Rattle.unified_tree.specs.Tree.{TreeState, IsSameTree}
 use Rattle.unified_tree.specs.declared.stop.TreeStop.{TreeStop}
 use Rattle.unified_tree.specs.declared.stop.TreeStop.TheVariants as tree
 use Rattle.rate_enforcer.proofs.Contents.{two_events}
-use Rattle.rate_enforcer.specs.Breaks.{Begins, ReadsBreak, IsRefused, ReadStops, IsOverfull, WritesBreak, WriteStops}
-use Rattle.rate_enforcer.specs.Breaks.{WritesOfDummyStop, DummyStops, PassesStop, AskedStops}
+use Rattle.rate_enforcer.specs.Breaks.{Begins, ReadsBreak, IsRefused, ReadStops, WritesBreak, WriteStops}
+use Rattle.rate_enforcer.specs.Breaks.{WritesOfDummyStop, DummyStops, PassesStop}
 use Rattle.rate_enforcer.specs.Served.{keys_of, begin_events}
 use Rattle.rate_enforcer.specs.Stops.{stop_after}
 

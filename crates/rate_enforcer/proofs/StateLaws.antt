@@ -1,6 +1,6 @@
 -- How a port's states follow from each other, over plain clocks, trees and logs.
-use Rattle.std.proofs.Common.{◌≡◌, ◌<◌, ◌≤◌, ◌+◌, ◌*◌, ◌^◌, ◌++◌, ℕ, zero, suc, List, [], ◌∷◌, length, Option, None, Some}
-use Rattle.std.proofs.Common.{Err, refl, sym, ap, subst, ◌∙◌, arith, inl, inr, min, max, false, true}
+use Rattle.std.proofs.Common.{◌≡◌, ◌<◌, ◌≤◌, ◌+◌, ◌*◌, ◌^◌, ◌++◌, ℕ, zero, suc, List, [], ◌∷◌, length, Option}
+use Rattle.std.proofs.Common.{None, Some, Err, refl, sym, ap, subst, ◌∙◌, arith, inl, inr, min, max, false, true}
 use Rattle.std.specs.Prelude.{⊤}
 use Rattle.asc_base.specs.Settings.{IsConfig}
 use Rattle.asc_base.specs.TreeShape.{olat_of}
@@ -17,7 +17,6 @@ use Rattle.bus_watch.proofs.PathLaws.{length-along}
 use Rattle.bus_watch.specs.declared.bus.Bus.{Bus}
 use Rattle.bus_watch.specs.declared.log.Event.{Event}
 use Rattle.bus_watch.specs.declared.log.Event.TheVariants.{Access, Drawn}
-use Rattle.bus_watch.specs.declared.log.Move.{Move}
 use Rattle.bus_watch.specs.Log.{LogLists, TapState, with_event}
 use Rattle.bus_watch.specs.Made.{Made, Ran}
 use Rattle.bus_watch.specs.Path.{along, reads, reads_end, writes, writes_start, slot_moves}
@@ -34,7 +33,7 @@ use Rattle.unified_tree.specs.Tree.{TreeState, IsSameTree}
 use Rattle.unified_tree.specs.declared.stop.TreeStop.{TreeStop}
 use Rattle.unified_tree.specs.declared.stop.TreeStop.TheVariants as tree
 use Rattle.rate_enforcer.specs.Clock.{with_dummy, with_real}
-use Rattle.rate_enforcer.specs.State.{Rests, IsFor, IsOpen, Opens, Stopped, IsUp}
+use Rattle.rate_enforcer.specs.State.{Rests, Opens, Stopped, IsUp}
 use Rattle.rate_enforcer.specs.Stops.{stop_after, RanTo, RanStop}
 use Rattle.rate_enforcer.specs.declared.clock.Clock.{Clock}
 use Rattle.rate_enforcer.specs.declared.port.OpenSlot.{OpenSlot}

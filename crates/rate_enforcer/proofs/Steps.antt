@@ -1,16 +1,15 @@
 -- Calls of a port as steps, over plain states.
-use Rattle.std.proofs.Common.{◌≡◌, ◌<◌, ◌≤◌, ◌+◌, ◌-◌, ◌*◌, ◌⊎◌, ℕ, List, [], ◌∷◌, Option, None, Some, Err, refl, sym, ap, subst}
-use Rattle.std.proofs.Common.{◌∙◌, arith, append-nil}
+use Rattle.std.proofs.Common.{◌≡◌, ◌+◌, ◌-◌, ◌*◌, ◌⊎◌, ℕ, List, [], ◌∷◌, Option, Some, refl, sym, subst}
+use Rattle.std.proofs.Common.{arith, append-nil}
 use Rattle.asc_base.specs.declared.block.Point.{Point}
-use Rattle.asc_base.specs.declared.stop.Evidence.{Evidence}
 use Rattle.asc_base.specs.declared.stop.Stop.{Stop}
 use Rattle.asc_base.specs.declared.stop.Stop.TheVariants.{Integrity, StashFull, TimeUp, Device, NoMemory}
 use Rattle.asc_outside.specs.Memory.{MemoryState}
-use Rattle.bus_watch.proofs.MadeLaws.{ready_after, ready_less}
+use Rattle.bus_watch.proofs.MadeLaws.{ready_after}
 use Rattle.bus_watch.specs.declared.bus.Bus.{Bus}
 use Rattle.bus_watch.specs.declared.log.Event.{Event}
 use Rattle.bus_watch.specs.declared.log.Event.TheVariants.{Access, Drawn, Tagged, Accepted, Chosen, Answered}
-use Rattle.bus_watch.specs.Log.{LogLists, TapState, with_event}
+use Rattle.bus_watch.specs.Log.{TapState}
 use Rattle.bus_watch.specs.Made.{Made}
 use Rattle.bus_watch.specs.Path.{reads}
 use Rattle.bus_watch.specs.RunEnd.{RunEnd, Whole}

@@ -1,5 +1,5 @@
 -- When a port can serve, and what its calls leave.
-use Rattle.std.specs.Prelude.{◌≡◌, ◌+◌, ◌*◌, ◌^◌, ◌<◌, ◌≤◌, ℕ, None, Some, List, length, min}
+use Rattle.std.specs.Prelude.{◌≡◌, ◌+◌, ◌*◌, ◌^◌, ◌<◌, ◌≤◌, ℕ, None, Some, length, min}
 use Rattle.asc_base.specs.Settings.{IsConfig}
 use Rattle.asc_base.specs.TreeShape.{olat_of}
 use Rattle.asc_base.specs.declared.settings.Config.{Config}
@@ -8,7 +8,7 @@ use Rattle.asc_outside.specs.Memory.{MemoryState}
 use Rattle.bus_schedule.specs.Scheduled.{log_code}
 use Rattle.bus_schedule.specs.Timetable.{public_of, first_from}
 use Rattle.bus_watch.specs.Log.{TapState, LogLists}
-use Rattle.bus_watch.specs.Path.{reads, slot_moves}
+use Rattle.bus_watch.specs.Path.{reads}
 use Rattle.bus_watch.specs.Ready.{IsReady}
 use Rattle.epoch_learner.specs.Stands.{Stands, StandsIn, KeepsPace}
 use Rattle.unified_tree.specs.Tree.{TreeState}

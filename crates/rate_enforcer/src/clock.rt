@@ -54,8 +54,10 @@ impl Clock {
     pub(crate) fn count(&mut self, asked: Option<u64>)
         requires dummies { self.old.dummies < 2 ^ 63 }
         requires real { self.old.real < 2 ^ 63 }
-        ensures { self.new ≡ record self.old { dummies = with_dummy asked self.old.dummies;
-            real = with_real asked self.old.real } }
+        ensures { self.new ≡ record self.old {
+          dummies = with_dummy asked self.old.dummies;
+          real = with_real asked self.old.real;
+        } }
     {
         match asked {
             Some(_) => self.real += 1,

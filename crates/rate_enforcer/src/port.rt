@@ -1,5 +1,5 @@
-ghost use Rattle.std.specs.Prelude.{◌≡◌, ◌<◌, ◌≤◌, ◌+◌, ◌-◌, ◌*◌, ◌^◌, ◌++◌, ◌∷◌, [], ℕ, None, Some, Err, max, min, length, List};
-ghost use Rattle.std.specs.Prelude.{OnOk, OnErr, IfOk, IfErr, OnSome, IfNone, MatchResult, Ok};
+ghost use Rattle.std.specs.Prelude.{◌≡◌, ◌<◌, ◌≤◌, ◌+◌, ◌-◌, ◌*◌, ◌^◌, ◌++◌, ◌∷◌, [], ℕ, None, Some, Err};
+ghost use Rattle.std.specs.Prelude.{max, min, length, List, OnOk, OnErr, IfOk, IfErr, OnSome, IfNone, MatchResult, Ok};
 ghost use Rattle.asc_base.specs.Settings.{IsConfig};
 ghost use Rattle.asc_base.specs.TreeShape.{olat_of};
 ghost use Rattle.asc_base.specs.declared.stop.Stop.{Stop as StopValue};
@@ -19,8 +19,8 @@ ghost use Rattle.unified_tree.specs.Slot.{contents_of};
 ghost use Rattle.unified_tree.specs.Tree.{IsSameTree};
 ghost use Rattle.rate_enforcer.specs.Breaks.{ReadStops, WriteStops, DummyStops, PassesStop};
 ghost use Rattle.rate_enforcer.specs.Clock.{with_dummy, with_real};
-ghost use Rattle.rate_enforcer.specs.PortStep.{PortStep, OpenBreaks, port_of, silent, told, took, Open, Take, Put, Close};
-ghost use Rattle.rate_enforcer.specs.PortStep.{Abort, Join, Idle};
+ghost use Rattle.rate_enforcer.specs.PortStep.{PortStep, OpenBreaks, port_of, silent, told, took};
+ghost use Rattle.rate_enforcer.specs.PortStep.{Open, Take, Put, Close, Abort, Join, Idle};
 ghost use Rattle.rate_enforcer.specs.Served.{keys_of, begin_events, IsServed};
 ghost use Rattle.rate_enforcer.specs.State.{Rests, IsOpen, Opens, Stopped, IsUp};
 ghost use Rattle.rate_enforcer.specs.Stops.{RanTo, RanStop, Judges, first_stop};
@@ -148,7 +148,8 @@ impl<L: LeafFn> Port<L> {
         ensures never { IfErr result (λ stop. (at : ℕ) → stop ≡ TimeUp at → ⊥) }
         ensures stopped { IfErr result (λ stop. Stopped self.old.clock.config self.new.clock stop
             (W.state bus.new.tap.now).log) }
-        ensures breaks { (tags : List ℕ) → IfErr result (λ stop. ReadStops (keys_of self.old.tree tags (L.leaf_of self.old.leaves)) stop
+        ensures breaks { (tags : List ℕ) → IfErr result (λ stop. ReadStops
+            (keys_of self.old.tree tags (L.leaf_of self.old.leaves)) stop
             (W.state bus.old.tap.now).log (W.state bus.new.tap.now).log
             (contents_of self.old.tree (W.state bus.old.tap.now)) (contents_of self.new.tree (W.state bus.new.tap.now))
             self.old.clock.next asked point) }
@@ -217,8 +218,8 @@ impl<L: LeafFn> Port<L> {
         ensures never { IfErr result (λ stop. (at : ℕ) → stop ≡ TimeUp at → ⊥) }
         ensures stopped { IfErr result (λ stop. Stopped self.old.clock.config self.new.clock stop
             (W.state bus.new.tap.now).log) }
-        ensures breaks { (tags : List ℕ) → IfErr result (λ stop. WriteStops (keys_of self.old.tree tags (L.leaf_of self.old.leaves)) self.old.tree.stash
-            stop
+        ensures breaks { (tags : List ℕ) → IfErr result (λ stop. WriteStops
+            (keys_of self.old.tree tags (L.leaf_of self.old.leaves)) self.old.tree.stash stop
             (W.state bus.old.tap.now).log (W.state bus.new.tap.now).log
             (contents_of self.old.tree (W.state bus.old.tap.now)) (contents_of self.new.tree (W.state bus.new.tap.now))
             slot.start slot.leaf.0) }
@@ -274,8 +275,8 @@ impl<L: LeafFn> Port<L> {
         ensures never { IfErr result (λ stop. (at : ℕ) → stop ≡ TimeUp at → ⊥) }
         ensures stopped { IfErr result (λ stop. Stopped self.old.clock.config self.new.clock stop
             (W.state bus.new.tap.now).log) }
-        ensures breaks { (tags : List ℕ) → IfErr result (λ stop. DummyStops (keys_of self.old.tree tags (L.leaf_of self.old.leaves)) self.old.tree.stash
-            stop
+        ensures breaks { (tags : List ℕ) → IfErr result (λ stop. DummyStops
+            (keys_of self.old.tree tags (L.leaf_of self.old.leaves)) self.old.tree.stash stop
             (W.state bus.old.tap.now).log (W.state bus.new.tap.now).log
             (contents_of self.old.tree (W.state bus.old.tap.now)) (contents_of self.new.tree (W.state bus.new.tap.now))
             self.old.clock.next self.old.clock.dummies) }
@@ -308,8 +309,8 @@ impl<L: LeafFn> Port<L> {
             (M.state bus.old.memory.now) (W.state bus.old.tap.now)
             → OnOk result (Rests notes self.new.clock self.new.tree (L.levels self.new.leaves)
             (M.state bus.new.memory.now) (W.state bus.new.tap.now)) }
-        ensures passed { (tags : List ℕ) → OnOk result (ArePasses (keys_of self.old.tree tags (L.leaf_of self.old.leaves))
-            (self.new.clock.dummies - self.old.clock.dummies)
+        ensures passed { (tags : List ℕ) → OnOk result (ArePasses
+            (keys_of self.old.tree tags (L.leaf_of self.old.leaves)) (self.new.clock.dummies - self.old.clock.dummies)
             (W.state bus.old.tap.now).log (W.state bus.new.tap.now).log
             (contents_of self.old.tree (W.state bus.old.tap.now)) (contents_of self.new.tree (W.state bus.new.tap.now))
             self.old.clock.dummies) }
@@ -323,8 +324,8 @@ impl<L: LeafFn> Port<L> {
         ensures never { IfErr result (λ stop. (at : ℕ) → stop ≡ TimeUp at → ⊥) }
         ensures stopped { IfErr result (λ stop. Stopped self.old.clock.config self.new.clock stop
             (W.state bus.new.tap.now).log) }
-        ensures breaks { (tags : List ℕ) → IfErr result (λ stop. PassesStop (keys_of self.old.tree tags (L.leaf_of self.old.leaves)) self.old.tree.stash
-            stop
+        ensures breaks { (tags : List ℕ) → IfErr result (λ stop. PassesStop
+            (keys_of self.old.tree tags (L.leaf_of self.old.leaves)) self.old.tree.stash stop
             (W.state bus.old.tap.now).log (W.state bus.new.tap.now).log
             (contents_of self.old.tree (W.state bus.old.tap.now)) (contents_of self.new.tree (W.state bus.new.tap.now))
             self.new.clock.next self.old.clock.dummies) }
@@ -437,8 +438,8 @@ impl<L: LeafFn> Port<L> {
             → OnOk result (Rests notes self.new.clock self.new.tree (L.levels self.new.leaves)
             (M.state bus.new.memory.now) (W.state bus.new.tap.now)) }
         ensures end { IfOk result (λ end. end ≡ max time self.new.clock.last) }
-        ensures passed { (tags : List ℕ) → OnOk result (ArePasses (keys_of self.old.tree tags (L.leaf_of self.old.leaves))
-            (self.new.clock.dummies - self.old.clock.dummies)
+        ensures passed { (tags : List ℕ) → OnOk result (ArePasses
+            (keys_of self.old.tree tags (L.leaf_of self.old.leaves)) (self.new.clock.dummies - self.old.clock.dummies)
             (W.state bus.old.tap.now).log (W.state bus.new.tap.now).log
             (contents_of self.old.tree (W.state bus.old.tap.now)) (contents_of self.new.tree (W.state bus.new.tap.now))
             self.old.clock.dummies) }
@@ -516,7 +517,8 @@ impl<L: LeafFn> Port<L> {
         ensures opens { (notes : ℕ) (memory : MemoryState) (tap : TapState)
             → Opens notes self.old.clock slot.now self.old.tree (L.levels self.old.leaves) memory tap
             → Opens notes self.new.clock slot.now self.new.tree (L.levels self.new.leaves) memory tap }
-        ensures step { (memory : MemoryState) (tap : TapState) → PortStep (L.leaf_of self.old.leaves) (L.levels self.old.leaves)
+        ensures step { (memory : MemoryState) (tap : TapState) → PortStep
+            (L.leaf_of self.old.leaves) (L.levels self.old.leaves)
             (port_of self.old.clock self.old.tree memory tap) (Put entry) (Ok silent)
             (port_of self.new.clock self.new.tree memory tap) }
     {
@@ -538,7 +540,8 @@ impl<L: LeafFn> Port<L> {
         ensures pace { (notes : ℕ) (memory : MemoryState) (tap : TapState)
             → Opens notes self.old.clock slot self.old.tree (L.levels self.old.leaves) memory tap
             → KeepsPace self.old.clock.config result tap.log }
-        ensures step { (memory : MemoryState) (tap : TapState) → PortStep (L.leaf_of self.old.leaves) (L.levels self.old.leaves)
+        ensures step { (memory : MemoryState) (tap : TapState) → PortStep
+            (L.leaf_of self.old.leaves) (L.levels self.old.leaves)
             (port_of self.old.clock self.old.tree memory tap) (Abort stop) (Ok (told result))
             (port_of self.new.clock self.new.tree memory tap) }
     {

@@ -1,4 +1,4 @@
-use Rattle.std.proofs.Common.{◌≡◌, ◌∙◌, ◌+◌, ◌*◌, ◌++◌, suc, ap, sym, subst, arith}
+use Rattle.std.proofs.Common.{◌∙◌, ◌+◌, suc, ap, sym, subst}
 use Rattle.epoch_learner.specs.Learner.{after_end}
 use Rattle.epoch_learner.specs.Stands.{Stands}
 use Rattle.epoch_learner.specs.declared.Learner.{Learner}

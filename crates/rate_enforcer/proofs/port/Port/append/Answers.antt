@@ -1,4 +1,4 @@
-use Rattle.std.proofs.Common.{◌≡◌, ◌≤◌, ◌+◌, ◌*◌, arith}
+use Rattle.std.proofs.Common.{arith}
 use Rattle.rate_enforcer.proofs.StateLaws.{hand_grown}
 use Rattle.rate_enforcer.proofs.port.Port.append.Goals as goal
 

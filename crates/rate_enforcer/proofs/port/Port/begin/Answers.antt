@@ -1,4 +1,4 @@
-use Rattle.std.proofs.Common.{◌≡◌, ◌∙◌, ◌+◌, ◌*◌, ◌++◌, ◌∷◌, [], Some, ℕ, Err, refl, ap, sym, subst, inl, arith}
+use Rattle.std.proofs.Common.{◌≡◌, ◌∙◌, ◌+◌, ◌∷◌, [], Some, ℕ, refl, ap, sym, subst, inl}
 use Rattle.asc_base.specs.declared.shape.Shape.{Shape}
 use Rattle.asc_base.specs.declared.stop.Stop.{Stop}
 use Rattle.bus_watch.specs.RunEnd.{Whole}
@@ -11,9 +11,10 @@ use Rattle.rate_enforcer.specs.Breaks.{ReadStops}
 use Rattle.rate_enforcer.specs.Served.{keys_of}
 use Rattle.rate_enforcer.specs.Clock.{with_dummy, with_real}
 use Rattle.rate_enforcer.specs.State.{Opens, Stopped}
-use Rattle.rate_enforcer.specs.Stops.{RanStop, stop_after}
+use Rattle.rate_enforcer.specs.Stops.{RanStop}
 use Rattle.rate_enforcer.specs.declared.clock.Clock.{Clock}
-use Rattle.rate_enforcer.proofs.StateLaws.{begun, ready_begun, opened, no_room, read_stops, read_stopped, few_dummies, few_real}
+use Rattle.rate_enforcer.proofs.StateLaws.{begun, ready_begun, opened, no_room, read_stops, read_stopped}
+use Rattle.rate_enforcer.proofs.StateLaws.{few_dummies, few_real}
 use Rattle.rate_enforcer.proofs.Breaks.{moves_read, read_breaks, same_contents}
 use Rattle.rate_enforcer.proofs.Contents.{two_events, slot_read}
 use Rattle.rate_enforcer.proofs.port.Port.begin.Goals as goal
@@ -107,8 +108,8 @@ returns-in-Err-read_path-clause-stopped g c =
     c.stop_of-stop.ensures in
     subst (λ (x : Stop). Stopped clock.config c.stop_at-in-Err-read_path.new.self.clock x
     (t c.read_path.new.bus.tap.now).log) (sym c.stop_of-stop.ensures)
-    (read_stopped m t c.note-2.new.self c.read_path.new.bus c.leaf-leaf.result.0 c.saw.new.self d r c.in-Err-read_path.stop
-    c.room.new.self c.read_path.new.self
+    (read_stopped m t c.note-2.new.self c.read_path.new.bus c.leaf-leaf.result.0 c.saw.new.self d r
+    c.in-Err-read_path.stop c.room.new.self c.read_path.new.self
     c.stop_at-in-Err-read_path.new.self.clock b (c.room.ensures.same.shape ∙ c.requires.rests.is_for.shape)
     c.in-Err-read_path.ensures.ran c.in-Err-read_path.ensures.ended is)
 
@@ -134,8 +135,8 @@ returns-in-Ok-read_path-clause-read g c tags =
 pub returns-in-Ok-read_path-clause-moves : goal.returns-in-Ok-read_path-clause-moves
 returns-in-Ok-read_path-clause-moves g c =
     moves_read g.M.UntrustedMemory.state g.W.Watch.state c.note-2.new.self c.read_path.new.bus
-    c.room.new.self.shape.levels c.args.self.now.tree.shape.levels c.args.self.now.clock.next _ c.args.asked c.args.point
-    c.leaf-leaf.result (g.W.Watch.state c.args.bus.now.tap.now) (g.W.Watch.state c.note.new.self.tap.now)
+    c.room.new.self.shape.levels c.args.self.now.tree.shape.levels c.args.self.now.clock.next _ c.args.asked
+    c.args.point c.leaf-leaf.result (g.W.Watch.state c.args.bus.now.tap.now) (g.W.Watch.state c.note.new.self.tap.now)
     c.note.ensures.log c.note-2.ensures.log (ap (λ (s : Shape). s.levels) c.room.ensures.same.shape)
     c.leaf-leaf.ensures.value c.in-Ok-read_path.ensures.ran
 
@@ -144,8 +145,11 @@ returns-in-Err-clause-breaks g c tags =
     let t = g.W.Watch.state c.args.bus.now.tap.now in
     let now = c.stop_at.new.self.tree in
     let same : now ≡ c.room.new.self = c.stop_at.ensures.tree in
-    inl (refl, same_contents c.args.self.now.tree now t t (ap (λ (x : TreeState). x.hand) same ∙ c.room.ensures.hand)
-    refl (ap (λ (x : TreeState). x.seed) same ∙ c.room.ensures.seed))
+    inl (
+      refl,
+      same_contents c.args.self.now.tree now t t (ap (λ (x : TreeState). x.hand) same ∙ c.room.ensures.hand)
+          refl (ap (λ (x : TreeState). x.seed) same ∙ c.room.ensures.seed),
+    )
 
 pub returns-in-Err-read_path-clause-breaks : goal.returns-in-Err-read_path-clause-breaks
 returns-in-Err-read_path-clause-breaks g c tags =

@@ -1,12 +1,11 @@
-use Rattle.std.proofs.Common.{◌≡◌, ◌≤◌, ◌∙◌, ◌+◌, ◌*◌, ◌++◌, ◌∷◌, [], ℕ, suc, Option, Some, None, Err, length, refl, ap, sym}
-use Rattle.std.proofs.Common.{subst, inl, arith, List, ◌⊎◌, ◌<◌}
+use Rattle.std.proofs.Common.{◌≡◌, ◌≤◌, ◌∙◌, ◌+◌, ◌++◌, ◌∷◌, [], ℕ, Option, Some, None, Err, length, refl, ap, sym}
+use Rattle.std.proofs.Common.{subst, arith, List, ◌⊎◌, ◌<◌}
 use Rattle.std.specs.Prelude.{⊤}
 use Rattle.unified_tree.specs.Stops.{IfWritten}
 use Rattle.unified_tree.specs.declared.stop.TreeStop.{TreeStop}
 use Rattle.unified_tree.specs.declared.stop.TreeStop.TheVariants as tree
 use Rattle.asc_base.specs.declared.stop.Stop.{Stop}
 use Rattle.asc_base.specs.TreeShape.{olat_of}
-use Rattle.bus_watch.specs.RunEnd.{Whole}
 use Rattle.bus_watch.specs.Path.{writes, reads_end}
 use Rattle.bus_watch.proofs.MadeLaws.{ran_none, ran_then, silent_events}
 use Rattle.epoch_learner.specs.Learner.{choice_by_sums}
@@ -15,7 +14,7 @@ use Rattle.rate_enforcer.specs.Clock.{chosen_events}
 use Rattle.rate_enforcer.specs.State.{Stopped}
 use Rattle.rate_enforcer.specs.Stops.{RanStop, stop_after}
 use Rattle.rate_enforcer.specs.declared.clock.Clock.{Clock}
-use Rattle.rate_enforcer.proofs.StateLaws.{ready_open, at_end, rested, write_stops, write_stopped}
+use Rattle.rate_enforcer.proofs.StateLaws.{at_end, rested, write_stops, write_stopped}
 use Rattle.asc_base.specs.declared.stop.Stop.TheVariants.{StashFull}
 use Rattle.bus_watch.specs.declared.bus.BusStop.{BusStop}
 use Rattle.bus_watch.specs.declared.log.Event.{Event}
@@ -168,21 +167,23 @@ returns-in-Ok-clause-step g c =
     let clock = c.args.self.now.clock in
     let now = c.end_slot.new.self in
     let is = c.end_slot.ensures.clock in
-    let path = c.requires.opens.is_open.path in
-    (refl, record {
-      path = record { start = c.args.slot.start; leaf = c.args.slot.leaf };
-      on = path;
-      same = record { config = ap (λ (x : Clock). x.config) is; tree = c.write_path.ensures.kept };
-      used = used_so g.M.UntrustedMemory.state g.W.Watch.state c.args.bus.now c.end_slot.new.bus clock now
-          c.args.self.now.tree c.write_path.new.self (returns-in-Ok-clause-ran g c);
-      rests = λ notes leaf o. returns-in-Ok-clause-rests g c notes (of_slot c.args.slot o.slot path o.opens);
-      end_is = omega (arith, c.olat.ensures);
-      last = ap (λ (x : Clock). x.last) is;
-      dummies = ap (λ (x : Clock). x.dummies) is;
-      real = ap (λ (x : Clock). x.real) is;
-      written = returns-in-Ok-clause-written g c;
-      ends = returns-in-Ok-clause-ended g c;
-    })
+    let path = c.requires.opens.is_open.path in (
+      refl,
+      record {
+        path = record { start = c.args.slot.start; leaf = c.args.slot.leaf };
+        on = path;
+        same = record { config = ap (λ (x : Clock). x.config) is; tree = c.write_path.ensures.kept };
+        used = used_so g.M.UntrustedMemory.state g.W.Watch.state c.args.bus.now c.end_slot.new.bus clock now
+            c.args.self.now.tree c.write_path.new.self (returns-in-Ok-clause-ran g c);
+        rests = λ notes leaf o. returns-in-Ok-clause-rests g c notes (of_slot c.args.slot o.slot path o.opens);
+        end_is = omega (arith, c.olat.ensures);
+        last = ap (λ (x : Clock). x.last) is;
+        dummies = ap (λ (x : Clock). x.dummies) is;
+        real = ap (λ (x : Clock). x.real) is;
+        written = returns-in-Ok-clause-written g c;
+        ends = returns-in-Ok-clause-ended g c;
+      },
+    )
 
 pub returns-in-Err-clause-step : goal.returns-in-Err-clause-step
 returns-in-Err-clause-step g c =

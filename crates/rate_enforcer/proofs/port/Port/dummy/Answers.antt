@@ -1,4 +1,4 @@
-use Rattle.std.proofs.Common.{◌≡◌, ◌≤◌, ◌∙◌, ◌+◌, ◌*◌, ℕ, refl, ap, sym, subst, inr, arith}
+use Rattle.std.proofs.Common.{subst, inr, arith}
 use Rattle.rate_enforcer.proofs.StateLaws.{opens_less, ran_on, stops_on}
 use Rattle.unified_tree.specs.Slot.{contents_of}
 use Rattle.rate_enforcer.specs.Breaks.{WriteStops}

@@ -1,4 +1,4 @@
-use Rattle.std.proofs.Common.{◌≡◌, ◌<◌, ◌≤◌, ◌∙◌, ◌+◌, ◌*◌, ℕ, max, refl, ap, sym, subst, arith, rules}
+use Rattle.std.proofs.Common.{◌≡◌, max, refl, subst, arith, rules}
 use Rattle.asc_base.specs.declared.settings.Config.{Config}
 use Rattle.epoch_learner.specs.Stands.{KeepsPace}
 use Rattle.rate_enforcer.proofs.StateLaws.{pace_between, rests_apart}
@@ -35,18 +35,20 @@ returns-in-Err-clause-step g c =
 pub returns-clause-step : goal.returns-clause-step
 returns-clause-step g c =
     let now = c.pass_until.new.self in
-    let is : c.max.result ≡ max c.args.time now.clock.last = grind arith in
-    (refl, record {
-      going = search rules;
-      same = record { config = c.pass_until.ensures.config; tree = c.pass_until.ensures.kept };
-      used = used_so g.M.UntrustedMemory.state g.W.Watch.state c.args.bus.now c.pass_until.new.bus
-          c.args.self.now.clock now.clock c.args.self.now.tree now.tree c.in-Ok.ensures.ran;
-      rests = λ notes r. subst (λ x. Rests notes now.clock now.tree (g.L.LeafFn.levels x)
-          (g.M.UntrustedMemory.state c.pass_until.new.bus.memory.now) (g.W.Watch.state c.pass_until.new.bus.tap.now))
-          c.pass_until.ensures.leaves (c.in-Ok.ensures.rests notes r);
-      end_is = is;
-      reached = c.in-Ok.ensures.reached;
-      real = c.pass_until.ensures.real;
-      passed = c.in-Ok.ensures.passed;
-      pace = returns-clause-pace g c;
-    })
+    let is : c.max.result ≡ max c.args.time now.clock.last = grind arith in (
+      refl,
+      record {
+        going = search rules;
+        same = record { config = c.pass_until.ensures.config; tree = c.pass_until.ensures.kept };
+        used = used_so g.M.UntrustedMemory.state g.W.Watch.state c.args.bus.now c.pass_until.new.bus
+            c.args.self.now.clock now.clock c.args.self.now.tree now.tree c.in-Ok.ensures.ran;
+        rests = λ notes r. subst (λ x. Rests notes now.clock now.tree (g.L.LeafFn.levels x)
+            (g.M.UntrustedMemory.state c.pass_until.new.bus.memory.now) (g.W.Watch.state c.pass_until.new.bus.tap.now))
+            c.pass_until.ensures.leaves (c.in-Ok.ensures.rests notes r);
+        end_is = is;
+        reached = c.in-Ok.ensures.reached;
+        real = c.pass_until.ensures.real;
+        passed = c.in-Ok.ensures.passed;
+        pace = returns-clause-pace g c;
+      },
+    )

@@ -1,4 +1,4 @@
-use Rattle.std.proofs.Common.{◌≡◌, ◌∙◌, ◌+◌, ◌*◌, ℕ, None, ap, sym, subst, arith}
+use Rattle.std.proofs.Common.{◌∙◌, ℕ, None, ap}
 use Rattle.epoch_learner.specs.Learner.{learner_at_start}
 use Rattle.epoch_learner.specs.declared.Learner.{Learner}
 use Rattle.rate_enforcer.specs.declared.clock.Clock.{Clock}

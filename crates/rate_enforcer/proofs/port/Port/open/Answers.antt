@@ -1,4 +1,5 @@
-use Rattle.std.proofs.Common.{◌≡◌, ◌<◌, ◌≤◌, ◌∙◌, ◌+◌, ◌*◌, ◌-◌, ◌++◌, ℕ, min, max, Some, None, refl, ap, sym, subst, arith, rules}
+use Rattle.std.proofs.Common.{◌≡◌, ◌<◌, ◌≤◌, ◌∙◌, ◌+◌, ◌-◌, ◌++◌, min, max, Some, None, refl}
+use Rattle.std.proofs.Common.{ap, sym, subst, arith, rules}
 use Rattle.asc_base.specs.TreeShape.{olat_of}
 use Rattle.asc_base.specs.declared.settings.Config.{Config}
 use Rattle.asc_base.specs.declared.stop.Stop.TheVariants.{TimeUp}
@@ -191,7 +192,8 @@ returns-in-Err-begin-clause-breaks g c none tags =
     (contents_of mid.tree (t c.pass_until.new.bus.tap.now)) (contents_of now.tree (t c.begin.new.bus.tap.now))
     mid.clock.next (Some c.args.asked) c.args.point) c.pass_until.ensures.leaves (c.in-Err-begin.ensures.breaks tags) in
     open_breaks (leaf_of old.leaves) (g.L.LeafFn.levels old.leaves) c.args.asked
-    c.args.point c.in-Err-begin.stop (port_of old.clock old.tree (m c.args.bus.now.memory.now) (t c.args.bus.now.tap.now))
+    c.args.point c.in-Err-begin.stop
+    (port_of old.clock old.tree (m c.args.bus.now.memory.now) (t c.args.bus.now.tap.now))
     (port_of now.clock now.tree (m c.begin.new.bus.memory.now) (t c.begin.new.bus.tap.now)) tags
     c.in-Err-begin.ensures.never
     (inr (asked_stops old.tree mid.tree now.tree tags (leaf_of old.leaves) c.in-Err-begin.stop mid.clock.next
@@ -231,28 +233,30 @@ returns-clause-step g c =
     let now = c.begin.new.self in
     let one = c.pass_until.ensures.kept in
     let two = c.begin.ensures.kept in
-    let leaves = c.begin.ensures.leaves ∙ c.pass_until.ensures.leaves in
-    (refl, record {
-      going = search rules;
-      same = record {
-        config = c.begin.ensures.config ∙ c.pass_until.ensures.config;
-        tree = record {
-          shape = two.shape ∙ one.shape;
-          stash = two.stash ∙ one.stash;
-          key = two.key ∙ one.key;
+    let leaves = c.begin.ensures.leaves ∙ c.pass_until.ensures.leaves in (
+      refl,
+      record {
+        going = search rules;
+        same = record {
+          config = c.begin.ensures.config ∙ c.pass_until.ensures.config;
+          tree = record {
+            shape = two.shape ∙ one.shape;
+            stash = two.stash ∙ one.stash;
+            key = two.key ∙ one.key;
+          };
         };
-      };
-      used = used_so g.M.UntrustedMemory.state g.W.Watch.state c.args.bus.now c.begin.new.bus
-          old.clock now.clock old.tree now.tree (returns-clause-ran g c);
-      in_slot = λ notes r. record {
-        slot = c.in-Ok-begin.slot;
-        opens = subst (λ x. Opens (notes + 3) now.clock c.in-Ok-begin.slot now.tree (g.L.LeafFn.levels x)
-            (g.M.UntrustedMemory.state c.begin.new.bus.memory.now) (g.W.Watch.state c.begin.new.bus.tap.now)) leaves
-            (returns-clause-opens g c notes r);
-        leaf_is = c.in-Ok-begin.ensures.leaf
-            ∙ ap (λ x. g.L.LeafFn.leaf_of x c.args.point) c.pass_until.ensures.leaves;
-      };
-      first = returns-clause-asked g c;
-      served = returns-clause-read g c;
-      real = c.in-Ok-begin.ensures.real ∙ ap (λ n. n + 1) c.pass_until.ensures.real;
-    })
+        used = used_so g.M.UntrustedMemory.state g.W.Watch.state c.args.bus.now c.begin.new.bus
+            old.clock now.clock old.tree now.tree (returns-clause-ran g c);
+        in_slot = λ notes r. record {
+          slot = c.in-Ok-begin.slot;
+          opens = subst (λ x. Opens (notes + 3) now.clock c.in-Ok-begin.slot now.tree (g.L.LeafFn.levels x)
+              (g.M.UntrustedMemory.state c.begin.new.bus.memory.now) (g.W.Watch.state c.begin.new.bus.tap.now)) leaves
+              (returns-clause-opens g c notes r);
+          leaf_is = c.in-Ok-begin.ensures.leaf
+              ∙ ap (λ x. g.L.LeafFn.leaf_of x c.args.point) c.pass_until.ensures.leaves;
+        };
+        first = returns-clause-asked g c;
+        served = returns-clause-read g c;
+        real = c.in-Ok-begin.ensures.real ∙ ap (λ n. n + 1) c.pass_until.ensures.real;
+      },
+    )

@@ -1,5 +1,4 @@
-use Rattle.std.proofs.Common.{◌≡◌, ◌<◌, ◌≤◌, ◌∙◌, ◌+◌, ◌*◌, ◌-◌, ◌^◌, [], ℕ, max, refl, ap, sym, subst, arith}
-use Rattle.asc_base.specs.TreeShape.{olat_of}
+use Rattle.std.proofs.Common.{◌≡◌, ◌<◌, ◌∙◌, ◌-◌, ◌^◌, [], refl, ap, subst, arith}
 use Rattle.asc_base.specs.declared.settings.Config.{Config}
 use Rattle.bus_watch.proofs.MadeLaws.{ran_none}
 use Rattle.oram_contents.specs.Slots.{ArePasses, IsDummy}
