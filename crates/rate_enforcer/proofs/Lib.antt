@@ -1,2 +1,4 @@
+pub mod Breaks
 pub mod Contents
-pub mod Laws
+pub mod StateLaws
+pub mod Steps

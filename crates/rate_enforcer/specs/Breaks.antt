@@ -1,5 +1,6 @@
 -- How a slot stops: in its reads or in its writes, by what it leaves in the log and in the contents.
-use Rattle.std.specs.Prelude.{◌≡◌, ◌<◌, ◌≤◌, ◌+◌, ◌⊎◌, ℕ, false, true, List, [], ◌++◌, length, All, Option, None, Some, Err}
+use Rattle.std.specs.Prelude.{◌≡◌, ◌<◌, ◌≤◌, ◌+◌, ◌⊎◌, ℕ, false, true, List, [], ◌++◌, length}
+use Rattle.std.specs.Prelude.{All, Option, None, Some, Err}
 use Rattle.asc_base.specs.declared.block.Point.{Point}
 use Rattle.asc_base.specs.declared.block.Point.TheVariants.{Dummy}
 use Rattle.asc_base.specs.declared.stop.Evidence.{Evidence}
@@ -12,7 +13,7 @@ use Rattle.oram_contents.specs.Contents.{Contents}
 use Rattle.oram_contents.specs.Entries.{Keys}
 use Rattle.oram_contents.specs.PathRead.{path_read, replies}
 use Rattle.oram_contents.specs.PathWritten.{sealed, rest_of}
-use Rattle.oram_contents.specs.Slots.{IsRead, ArePasses, HasSeeds, drawn_events}
+use Rattle.oram_contents.specs.Slots.{IsRead, ArePasses, drawn_events}
 use Rattle.oram_contents.specs.Steps.{Adds}
 
 -- The slot of a point began, which was asked for at this time or by nobody: its start and its leaf were noted, and

@@ -13,6 +13,16 @@ abbrev pub chosen_events : Option ℕ → List Event
 chosen_events None = []
 chosen_events (Some index) = Chosen index ∷ []
 
+-- how many dummies have started after one more slot, which was asked for at a time or by nobody
+abbrev pub with_dummy : Option ℕ → ℕ → ℕ
+with_dummy None dummies = dummies + 1
+with_dummy (Some asked) dummies = dummies
+
+-- and how many slots that were asked for
+abbrev pub with_real : Option ℕ → ℕ → ℕ
+with_real None real = real
+with_real (Some asked) real = real + 1
+
 -- The slot that started next has made all its moves, and ends at this time.
 pub record IsAtEnd (clock : Clock) (end : ℕ) (log : LogLists) : Type 0 where
   pub done : ℕ

@@ -12,6 +12,7 @@ use Rattle.bus_watch.specs.Made.{Made}
 use Rattle.bus_watch.specs.Path.{reads_end}
 use Rattle.bus_watch.specs.RunEnd.{RunEnd, Whole}
 use Rattle.bus_watch.specs.declared.log.Event.{Event}
+use Rattle.bus_watch.specs.declared.log.Event.TheVariants.{Access, Drawn, Tagged, Accepted, Chosen, Answered}
 use Rattle.bus_watch.specs.declared.log.Move.{Move}
 use Rattle.epoch_learner.specs.Stands.{IsFirstFor, KeepsPace}
 use Rattle.oram_contents.specs.Contents.{Contents, after_write}
@@ -35,6 +36,10 @@ pub record PortState : Type 0 where
   pub tree : TreeState
   pub memory : MemoryState
   pub tap : TapState
+
+-- a port of this clock and this tree, over this memory and this tap
+abbrev pub port_of : Clock → TreeState → MemoryState → TapState → PortState
+port_of clock tree memory tap = record { clock = clock; tree = tree; memory = memory; tap = tap }
 
 -- what a port is asked for
 pub data PortRequest : Type 0 where
@@ -68,6 +73,15 @@ took found = record { found = found; end = 0 }
 
 abbrev pub told : ℕ → Said
 told end = record { found = None; end = end }
+
+-- an event that begins no slot and is no choice
+abbrev pub IsNote : Event → Type 0
+IsNote (Access start asked) = ⊥
+IsNote (Drawn point leaf) = ⊥
+IsNote (Tagged message) = Unit {0}
+IsNote (Accepted message tag) = Unit {0}
+IsNote (Chosen index) = ⊥
+IsNote (Answered line value) = Unit {0}
 
 -- the contents of a port
 abbrev pub contents : PortState → Contents

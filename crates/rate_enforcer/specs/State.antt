@@ -1,5 +1,5 @@
 -- When a port can serve, and what its calls leave.
-use Rattle.std.specs.Prelude.{◌≡◌, ◌+◌, ◌*◌, ◌^◌, ◌<◌, ◌≤◌, ℕ, None, Some, List, length, min}
+use Rattle.std.specs.Prelude.{◌≡◌, ◌+◌, ◌*◌, ◌^◌, ◌<◌, ◌≤◌, ℕ, None, Some, length, min}
 use Rattle.asc_base.specs.Settings.{IsConfig}
 use Rattle.asc_base.specs.TreeShape.{olat_of}
 use Rattle.asc_base.specs.declared.settings.Config.{Config}
@@ -8,7 +8,7 @@ use Rattle.asc_outside.specs.Memory.{MemoryState}
 use Rattle.bus_schedule.specs.Scheduled.{log_code}
 use Rattle.bus_schedule.specs.Timetable.{public_of, first_from}
 use Rattle.bus_watch.specs.Log.{TapState, LogLists}
-use Rattle.bus_watch.specs.Path.{reads, slot_moves}
+use Rattle.bus_watch.specs.Path.{reads}
 use Rattle.bus_watch.specs.Ready.{IsReady}
 use Rattle.epoch_learner.specs.Stands.{Stands, StandsIn, KeepsPace}
 use Rattle.unified_tree.specs.Tree.{TreeState}
@@ -32,7 +32,8 @@ pub record Rests (notes : ℕ) (clock : Clock) (tree : TreeState) (levels : ℕ)
   pub done : ℕ
   pub stands : Stands clock.config done clock.last clock.next clock.learner tap.log
   pub in_time : clock.last < clock.config.time + olat_of clock.config.shape.levels
-  pub dummies : clock.dummies ≤ clock.next
+  pub dummies : clock.dummies < clock.next
+  pub real : clock.real < clock.next
   pub left : ℕ
   pub enough : clock.config.time ≤ clock.next + left * olat_of clock.config.shape.levels
   pub room : IsReady clock.config.shape.buckets (2 * (clock.config.shape.levels + 1) * left) (6 * left + notes)
@@ -59,6 +60,7 @@ pub record Opens (notes : ℕ) (clock : Clock) (slot : OpenSlot) (tree : TreeSta
   pub stands : StandsIn clock.config done clock.next slot.leaf.0
       (reads clock.config.shape.levels clock.next slot.leaf.0) clock.learner tap.log
   pub dummies : clock.dummies ≤ clock.next
+  pub real : clock.real ≤ clock.next
   pub left : ℕ
   pub enough : clock.config.time ≤ clock.next + (left * olat_of clock.config.shape.levels
       + olat_of clock.config.shape.levels)

@@ -1,4 +1,4 @@
-ghost use Rattle.std.specs.Prelude.{◌≡◌, ◌+◌, ◌<◌, ◌≤◌, ℕ, suc, List, [], ◌∷◌, length};
+ghost use Rattle.std.specs.Prelude.{◌≡◌, ◌+◌, ◌^◌, ◌<◌, ◌≤◌, ℕ, suc, List, [], ◌∷◌, length};
 ghost use Rattle.asc_base.specs.TreeShape.{olat_of};
 ghost use Rattle.bus_watch.specs.Made.{Ran};
 ghost use Rattle.bus_watch.specs.Path.{slot_moves};
@@ -6,7 +6,7 @@ ghost use Rattle.bus_watch.specs.RunEnd.{Whole};
 ghost use Rattle.epoch_learner.specs.Learner.{choice_by_sums};
 ghost use Rattle.epoch_learner.specs.Stands.{Stands, StandsIn, noted};
 ghost use Rattle.oram_contents.specs.Slots.{IsEnd};
-ghost use Rattle.rate_enforcer.specs.Clock.{chosen_events, IsAtEnd};
+ghost use Rattle.rate_enforcer.specs.Clock.{chosen_events, with_dummy, with_real, IsAtEnd};
 
 use asc_base::{Config, Stop};
 use asc_outside::UntrustedMemory;
@@ -50,6 +50,21 @@ fn note_choice<M: UntrustedMemory, W: Watch>(bus: &mut Bus<'_, M, W>, choice: Op
 }
 
 impl Clock {
+    /// Counts a slot that starts.
+    pub(crate) fn count(&mut self, asked: Option<u64>)
+        requires dummies { self.old.dummies < 2 ^ 63 }
+        requires real { self.old.real < 2 ^ 63 }
+        ensures { self.new ≡ record self.old {
+          dummies = with_dummy asked self.old.dummies;
+          real = with_real asked self.old.real;
+        } }
+    {
+        match asked {
+            Some(_) => self.real += 1,
+            None => self.dummies += 1,
+        }
+    }
+
     /// Ends the slot whose moves are all made, with the choice at its end if one falls.
     pub(crate) fn end_slot<M: UntrustedMemory, W: Watch>(
         &mut self,

@@ -2,8 +2,10 @@
 #![tactic(auto)]
 
 mod clock;
+mod laws;
 mod port;
 mod stop;
 
 pub use clock::Clock;
+pub use laws::{fewer_notes_fit, notes_are_steps};
 pub use port::{OpenSlot, Port};

@@ -1,12 +1,12 @@
-ghost use Rattle.std.specs.Prelude.{◌≡◌, ◌<◌, ◌≤◌, ◌+◌, ◌-◌, ◌*◌, ◌^◌, ◌++◌, ◌∷◌, [], ℕ, None, Some, Err, max, min, length, List};
-ghost use Rattle.std.specs.Prelude.{OnOk, OnErr, IfOk, IfErr, OnSome, IfNone};
+ghost use Rattle.std.specs.Prelude.{◌≡◌, ◌<◌, ◌≤◌, ◌+◌, ◌-◌, ◌*◌, ◌^◌, ◌++◌, ◌∷◌, [], ℕ, None, Some, Err};
+ghost use Rattle.std.specs.Prelude.{max, min, length, List, OnOk, OnErr, IfOk, IfErr, OnSome, IfNone, MatchResult, Ok};
 ghost use Rattle.asc_base.specs.Settings.{IsConfig};
 ghost use Rattle.asc_base.specs.TreeShape.{olat_of};
 ghost use Rattle.asc_base.specs.declared.stop.Stop.{Stop as StopValue};
 ghost use Rattle.asc_base.specs.declared.stop.Stop.TheVariants.{TimeUp, StashFull};
 ghost use Rattle.asc_outside.specs.Memory.{MemoryState};
 ghost use Rattle.bus_watch.specs.Log.{TapState};
-ghost use Rattle.bus_watch.specs.Path.{reads_end};
+ghost use Rattle.bus_watch.specs.Path.{reads, reads_end};
 ghost use Rattle.bus_watch.specs.Ready.{IsReady};
 ghost use Rattle.bus_watch.specs.RunEnd.{Whole};
 ghost use Rattle.epoch_learner.specs.Stands.{IsFirstFor, KeepsPace};
@@ -17,6 +17,10 @@ ghost use Rattle.oram_contents.specs.Verdict.{append_verdict};
 ghost use Rattle.oram_stash.specs.Entries.{held, without};
 ghost use Rattle.unified_tree.specs.Slot.{contents_of};
 ghost use Rattle.unified_tree.specs.Tree.{IsSameTree};
+ghost use Rattle.rate_enforcer.specs.Breaks.{ReadStops, WriteStops, DummyStops, PassesStop};
+ghost use Rattle.rate_enforcer.specs.Clock.{with_dummy, with_real};
+ghost use Rattle.rate_enforcer.specs.PortStep.{PortStep, OpenBreaks, port_of, silent, told, took};
+ghost use Rattle.rate_enforcer.specs.PortStep.{Open, Take, Put, Close, Abort, Join, Idle};
 ghost use Rattle.rate_enforcer.specs.Served.{keys_of, begin_events, IsServed};
 ghost use Rattle.rate_enforcer.specs.State.{Rests, IsOpen, Opens, Stopped, IsUp};
 ghost use Rattle.rate_enforcer.specs.Stops.{RanTo, RanStop, Judges, first_stop};
@@ -118,7 +122,9 @@ impl<L: LeafFn> Port<L> {
         ensures config { self.new.clock.config ≡ self.old.clock.config }
         ensures next { self.new.clock.next ≡ self.old.clock.next }
         ensures last { OnOk result (self.new.clock.last ≡ self.old.clock.last) }
-        ensures dummies { self.new.clock.dummies ≡ self.old.clock.dummies }
+        ensures dummies { OnOk result (self.new.clock.dummies ≡ with_dummy asked self.old.clock.dummies) }
+        ensures real { OnOk result (self.new.clock.real ≡ with_real asked self.old.clock.real) }
+        ensures unasked { asked ≡ None → self.new.clock.real ≡ self.old.clock.real }
         ensures opens { (notes : ℕ) → Rests notes self.old.clock self.old.tree (L.levels self.old.leaves)
             (M.state bus.old.memory.now) (W.state bus.old.tap.now)
             → IfOk result (λ slot. Opens (notes + 3) self.new.clock slot self.new.tree (L.levels self.new.leaves)
@@ -129,6 +135,8 @@ impl<L: LeafFn> Port<L> {
         ensures mirror { (W.state bus.new.tap.now).mirror ≡ (W.state bus.old.tap.now).mirror }
         ensures noted { OnOk result ((W.state bus.new.tap.now).log.events ≡ (W.state bus.old.tap.now).log.events
             ++ begin_events self.old.clock.next asked point (L.leaf_of self.old.leaves point)) }
+        ensures moves { OnOk result ((W.state bus.new.tap.now).log.moves ≡ (W.state bus.old.tap.now).log.moves
+            ++ reads self.old.tree.shape.levels self.old.clock.next (L.leaf_of self.old.leaves point)) }
         ensures read { (tags : List ℕ) → OnOk result (IsRead (keys_of self.old.tree tags (L.leaf_of self.old.leaves))
             (W.state bus.old.tap.now).log (W.state bus.new.tap.now).log
             (contents_of self.old.tree (W.state bus.old.tap.now)) self.old.clock.next point self.new.tree.hand) }
@@ -140,6 +148,11 @@ impl<L: LeafFn> Port<L> {
         ensures never { IfErr result (λ stop. (at : ℕ) → stop ≡ TimeUp at → ⊥) }
         ensures stopped { IfErr result (λ stop. Stopped self.old.clock.config self.new.clock stop
             (W.state bus.new.tap.now).log) }
+        ensures breaks { (tags : List ℕ) → IfErr result (λ stop. ReadStops
+            (keys_of self.old.tree tags (L.leaf_of self.old.leaves)) stop
+            (W.state bus.old.tap.now).log (W.state bus.new.tap.now).log
+            (contents_of self.old.tree (W.state bus.old.tap.now)) (contents_of self.new.tree (W.state bus.new.tap.now))
+            self.old.clock.next asked point) }
     {
         match self.tree.room() {
             Ok(()) => {}
@@ -153,6 +166,7 @@ impl<L: LeafFn> Port<L> {
         let start = self.clock.next;
         bus.note(Event::Access { start, asked });
         self.clock.learner.saw(start, asked);
+        self.clock.count(asked);
         bus.note(Event::Drawn { point, leaf });
         match self.tree.read_path(bus, start, leaf) {
             Ok(()) => Ok(OpenSlot { start, leaf }),
@@ -180,6 +194,7 @@ impl<L: LeafFn> Port<L> {
         ensures kept { IsSameTree self.old.tree self.new.tree }
         ensures config { self.new.clock.config ≡ self.old.clock.config }
         ensures dummies { self.new.clock.dummies ≡ self.old.clock.dummies }
+        ensures real { self.new.clock.real ≡ self.old.clock.real }
         ensures rests { (notes : ℕ) → Opens notes self.old.clock slot self.old.tree (L.levels self.old.leaves)
             (M.state bus.old.memory.now) (W.state bus.old.tap.now)
             → OnOk result (Rests notes self.new.clock self.new.tree (L.levels self.new.leaves)
@@ -187,6 +202,7 @@ impl<L: LeafFn> Port<L> {
         ensures end { IfOk result (λ end. (end ≡ self.new.clock.last)
             × (end ≡ slot.start + olat_of self.old.clock.config.shape.levels)) }
         ensures next { OnOk result (self.old.clock.next < self.new.clock.next) }
+        ensures next_err { OnErr result (self.new.clock.next ≡ self.old.clock.next) }
         ensures spare { self.old.tree.spare ≤ self.new.tree.spare }
         ensures written { OnOk result (contents_of self.new.tree (W.state bus.new.tap.now)
             ≡ after_write self.old.tree.key self.old.tree.shape.levels slot.leaf.0
@@ -202,6 +218,19 @@ impl<L: LeafFn> Port<L> {
         ensures never { IfErr result (λ stop. (at : ℕ) → stop ≡ TimeUp at → ⊥) }
         ensures stopped { IfErr result (λ stop. Stopped self.old.clock.config self.new.clock stop
             (W.state bus.new.tap.now).log) }
+        ensures breaks { (tags : List ℕ) → IfErr result (λ stop. WriteStops
+            (keys_of self.old.tree tags (L.leaf_of self.old.leaves)) self.old.tree.stash stop
+            (W.state bus.old.tap.now).log (W.state bus.new.tap.now).log
+            (contents_of self.old.tree (W.state bus.old.tap.now)) (contents_of self.new.tree (W.state bus.new.tap.now))
+            slot.start slot.leaf.0) }
+        ensures step { MatchResult result (λ end. PortStep (L.leaf_of self.old.leaves) (L.levels self.old.leaves)
+            (port_of self.old.clock self.old.tree (M.state bus.old.memory.now) (W.state bus.old.tap.now))
+            Close (Ok (told end))
+            (port_of self.new.clock self.new.tree (M.state bus.new.memory.now) (W.state bus.new.tap.now)))
+            (λ stop. PortStep (L.leaf_of self.old.leaves) (L.levels self.old.leaves)
+            (port_of self.old.clock self.old.tree (M.state bus.old.memory.now) (W.state bus.old.tap.now))
+            Close (Err stop)
+            (port_of self.new.clock self.new.tree (M.state bus.new.memory.now) (W.state bus.new.tap.now))) }
     {
         let OpenSlot { start, leaf } = slot;
         let end = start + self.clock.config.shape.olat();
@@ -228,6 +257,7 @@ impl<L: LeafFn> Port<L> {
         ensures kept { IsSameTree self.old.tree self.new.tree }
         ensures config { self.new.clock.config ≡ self.old.clock.config }
         ensures dummies { OnOk result (self.new.clock.dummies ≡ self.old.clock.dummies + 1) }
+        ensures real { self.new.clock.real ≡ self.old.clock.real }
         ensures rests { (notes : ℕ) → Rests notes self.old.clock self.old.tree (L.levels self.old.leaves)
             (M.state bus.old.memory.now) (W.state bus.old.tap.now)
             → OnOk result (Rests notes self.new.clock self.new.tree (L.levels self.new.leaves)
@@ -235,6 +265,7 @@ impl<L: LeafFn> Port<L> {
         ensures last { OnOk result (self.new.clock.last
             ≡ self.old.clock.next + olat_of self.old.clock.config.shape.levels) }
         ensures next { OnOk result (self.old.clock.next < self.new.clock.next) }
+        ensures next_err { OnErr result (self.new.clock.next ≡ self.old.clock.next) }
         ensures passed { (tags : List ℕ) → OnOk result (IsDummy (keys_of self.old.tree tags (L.leaf_of self.old.leaves))
             (W.state bus.old.tap.now).log (W.state bus.new.tap.now).log
             (contents_of self.old.tree (W.state bus.old.tap.now)) (contents_of self.new.tree (W.state bus.new.tap.now))
@@ -244,6 +275,11 @@ impl<L: LeafFn> Port<L> {
         ensures never { IfErr result (λ stop. (at : ℕ) → stop ≡ TimeUp at → ⊥) }
         ensures stopped { IfErr result (λ stop. Stopped self.old.clock.config self.new.clock stop
             (W.state bus.new.tap.now).log) }
+        ensures breaks { (tags : List ℕ) → IfErr result (λ stop. DummyStops
+            (keys_of self.old.tree tags (L.leaf_of self.old.leaves)) self.old.tree.stash stop
+            (W.state bus.old.tap.now).log (W.state bus.new.tap.now).log
+            (contents_of self.old.tree (W.state bus.old.tap.now)) (contents_of self.new.tree (W.state bus.new.tap.now))
+            self.old.clock.next self.old.clock.dummies) }
     {
         let point = Point::Dummy(self.clock.dummies);
         let slot = match self.begin(bus, None, point) {
@@ -254,7 +290,6 @@ impl<L: LeafFn> Port<L> {
             Ok(_) => {}
             Err(stop) => return Err(stop),
         }
-        self.clock.dummies += 1;
         Ok(())
     }
 
@@ -274,12 +309,13 @@ impl<L: LeafFn> Port<L> {
             (M.state bus.old.memory.now) (W.state bus.old.tap.now)
             → OnOk result (Rests notes self.new.clock self.new.tree (L.levels self.new.leaves)
             (M.state bus.new.memory.now) (W.state bus.new.tap.now)) }
-        ensures passed { (tags : List ℕ) → OnOk result (ArePasses (keys_of self.old.tree tags (L.leaf_of self.old.leaves))
-            (self.new.clock.dummies - self.old.clock.dummies)
+        ensures passed { (tags : List ℕ) → OnOk result (ArePasses
+            (keys_of self.old.tree tags (L.leaf_of self.old.leaves)) (self.new.clock.dummies - self.old.clock.dummies)
             (W.state bus.old.tap.now).log (W.state bus.new.tap.now).log
             (contents_of self.old.tree (W.state bus.old.tap.now)) (contents_of self.new.tree (W.state bus.new.tap.now))
             self.old.clock.dummies) }
         ensures more { OnOk result (self.old.clock.dummies ≤ self.new.clock.dummies) }
+        ensures real { self.new.clock.real ≡ self.old.clock.real }
         ensures reached { OnOk result (time ≤ self.new.clock.next) }
         ensures last { OnOk result (self.new.clock.last
             < max self.old.clock.last time + olat_of self.old.clock.config.shape.levels) }
@@ -288,6 +324,11 @@ impl<L: LeafFn> Port<L> {
         ensures never { IfErr result (λ stop. (at : ℕ) → stop ≡ TimeUp at → ⊥) }
         ensures stopped { IfErr result (λ stop. Stopped self.old.clock.config self.new.clock stop
             (W.state bus.new.tap.now).log) }
+        ensures breaks { (tags : List ℕ) → IfErr result (λ stop. PassesStop
+            (keys_of self.old.tree tags (L.leaf_of self.old.leaves)) self.old.tree.stash stop
+            (W.state bus.old.tap.now).log (W.state bus.new.tap.now).log
+            (contents_of self.old.tree (W.state bus.old.tap.now)) (contents_of self.new.tree (W.state bus.new.tap.now))
+            self.new.clock.next self.old.clock.dummies) }
     {
         while self.clock.next < time {
             match self.dummy(bus) {
@@ -340,6 +381,19 @@ impl<L: LeafFn> Port<L> {
         ensures stopped { self.old.clock.stop ≡ None
             → IfErr result (λ stop. Stopped self.old.clock.config self.new.clock stop
             (W.state bus.new.tap.now).log) }
+        ensures real { OnOk result (self.new.clock.real ≡ self.old.clock.real + 1) }
+        ensures breaks { self.old.clock.stop ≡ None → (tags : List ℕ) → IfErr result (λ stop. OpenBreaks
+            (L.leaf_of self.old.leaves) (L.levels self.old.leaves) asked point stop
+            (port_of self.old.clock self.old.tree (M.state bus.old.memory.now) (W.state bus.old.tap.now))
+            (port_of self.new.clock self.new.tree (M.state bus.new.memory.now) (W.state bus.new.tap.now)) tags) }
+        ensures step { MatchResult result (λ _. PortStep (L.leaf_of self.old.leaves) (L.levels self.old.leaves)
+            (port_of self.old.clock self.old.tree (M.state bus.old.memory.now) (W.state bus.old.tap.now))
+            (Open asked point) (Ok silent)
+            (port_of self.new.clock self.new.tree (M.state bus.new.memory.now) (W.state bus.new.tap.now)))
+            (λ stop. PortStep (L.leaf_of self.old.leaves) (L.levels self.old.leaves)
+            (port_of self.old.clock self.old.tree (M.state bus.old.memory.now) (W.state bus.old.tap.now))
+            (Open asked point) (Err stop)
+            (port_of self.new.clock self.new.tree (M.state bus.new.memory.now) (W.state bus.new.tap.now))) }
     {
         if let Some(stop) = self.clock.stop {
             return Err(stop);
@@ -384,8 +438,8 @@ impl<L: LeafFn> Port<L> {
             → OnOk result (Rests notes self.new.clock self.new.tree (L.levels self.new.leaves)
             (M.state bus.new.memory.now) (W.state bus.new.tap.now)) }
         ensures end { IfOk result (λ end. end ≡ max time self.new.clock.last) }
-        ensures passed { (tags : List ℕ) → OnOk result (ArePasses (keys_of self.old.tree tags (L.leaf_of self.old.leaves))
-            (self.new.clock.dummies - self.old.clock.dummies)
+        ensures passed { (tags : List ℕ) → OnOk result (ArePasses
+            (keys_of self.old.tree tags (L.leaf_of self.old.leaves)) (self.new.clock.dummies - self.old.clock.dummies)
             (W.state bus.old.tap.now).log (W.state bus.new.tap.now).log
             (contents_of self.old.tree (W.state bus.old.tap.now)) (contents_of self.new.tree (W.state bus.new.tap.now))
             self.old.clock.dummies) }
@@ -400,6 +454,20 @@ impl<L: LeafFn> Port<L> {
         ensures stopped { self.old.clock.stop ≡ None
             → IfErr result (λ stop. Stopped self.old.clock.config self.new.clock stop
             (W.state bus.new.tap.now).log) }
+        ensures real { self.new.clock.real ≡ self.old.clock.real }
+        ensures breaks { self.old.clock.stop ≡ None → (tags : List ℕ) → IfErr result (λ stop. PassesStop
+            (keys_of self.old.tree tags (L.leaf_of self.old.leaves)) self.old.tree.stash stop
+            (W.state bus.old.tap.now).log (W.state bus.new.tap.now).log
+            (contents_of self.old.tree (W.state bus.old.tap.now)) (contents_of self.new.tree (W.state bus.new.tap.now))
+            self.new.clock.next self.old.clock.dummies) }
+        ensures step { MatchResult result (λ end. PortStep (L.leaf_of self.old.leaves) (L.levels self.old.leaves)
+            (port_of self.old.clock self.old.tree (M.state bus.old.memory.now) (W.state bus.old.tap.now))
+            (Idle time) (Ok (told end))
+            (port_of self.new.clock self.new.tree (M.state bus.new.memory.now) (W.state bus.new.tap.now)))
+            (λ stop. PortStep (L.leaf_of self.old.leaves) (L.levels self.old.leaves)
+            (port_of self.old.clock self.old.tree (M.state bus.old.memory.now) (W.state bus.old.tap.now))
+            (Idle time) (Err stop)
+            (port_of self.new.clock self.new.tree (M.state bus.new.memory.now) (W.state bus.new.tap.now))) }
     {
         if let Some(stop) = self.clock.stop {
             return Err(stop);
@@ -425,6 +493,9 @@ impl<L: LeafFn> Port<L> {
         ensures opens { (notes : ℕ) (memory : MemoryState) (tap : TapState)
             → Opens notes self.old.clock slot.now self.old.tree (L.levels self.old.leaves) memory tap
             → Opens notes self.new.clock slot.now self.new.tree (L.levels self.new.leaves) memory tap }
+        ensures step { (memory : MemoryState) (tap : TapState) → PortStep (L.leaf_of self.old.leaves)
+            (L.levels self.old.leaves) (port_of self.old.clock self.old.tree memory tap) (Take address)
+            (Ok (took result)) (port_of self.new.clock self.new.tree memory tap) }
     {
         self.tree.take(address)
     }
@@ -446,6 +517,10 @@ impl<L: LeafFn> Port<L> {
         ensures opens { (notes : ℕ) (memory : MemoryState) (tap : TapState)
             → Opens notes self.old.clock slot.now self.old.tree (L.levels self.old.leaves) memory tap
             → Opens notes self.new.clock slot.now self.new.tree (L.levels self.new.leaves) memory tap }
+        ensures step { (memory : MemoryState) (tap : TapState) → PortStep
+            (L.leaf_of self.old.leaves) (L.levels self.old.leaves)
+            (port_of self.old.clock self.old.tree memory tap) (Put entry) (Ok silent)
+            (port_of self.new.clock self.new.tree memory tap) }
     {
         match self.tree.put(entry) {
             Ok(()) => {}
@@ -465,6 +540,10 @@ impl<L: LeafFn> Port<L> {
         ensures pace { (notes : ℕ) (memory : MemoryState) (tap : TapState)
             → Opens notes self.old.clock slot self.old.tree (L.levels self.old.leaves) memory tap
             → KeepsPace self.old.clock.config result tap.log }
+        ensures step { (memory : MemoryState) (tap : TapState) → PortStep
+            (L.leaf_of self.old.leaves) (L.levels self.old.leaves)
+            (port_of self.old.clock self.old.tree memory tap) (Abort stop) (Ok (told result))
+            (port_of self.new.clock self.new.tree memory tap) }
     {
         let OpenSlot { start, leaf: _ } = slot;
         let end = start + MOVE_CYCLES * (u64::from(self.clock.config.shape.levels) + 1);
@@ -498,6 +577,13 @@ impl<L: LeafFn> Port<L> {
             → OnOk result (Rests notes self.new.clock self.new.tree (L.levels self.new.leaves) memory tap) }
         ensures sticky { (stop : StopValue) → self.old.clock.stop ≡ Some stop
             → (result ≡ Err stop) × (self.new ≡ self.old) }
+        ensures step { (memory : MemoryState) (tap : TapState) → MatchResult result (λ _. PortStep
+            (L.leaf_of self.old.leaves) (L.levels self.old.leaves)
+            (port_of self.old.clock self.old.tree memory tap) (Join entry) (Ok silent)
+            (port_of self.new.clock self.new.tree memory tap))
+            (λ stop. PortStep (L.leaf_of self.old.leaves) (L.levels self.old.leaves)
+            (port_of self.old.clock self.old.tree memory tap) (Join entry) (Err stop)
+            (port_of self.new.clock self.new.tree memory tap)) }
     {
         if let Some(stop) = self.clock.stop {
             return Err(stop);
@@ -543,7 +629,7 @@ impl<L: LeafFn> Port<L> {
         &self.clock.learner
     }
 
-    /// How many dummies are done.
+    /// How many dummies have started.
     pub fn dummies(&self) -> u64
         ensures { result ≡ self.now.clock.dummies }
     {

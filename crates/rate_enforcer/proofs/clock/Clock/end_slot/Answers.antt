@@ -1,8 +1,8 @@
-use Rattle.std.proofs.Common.{◌≡◌, ◌∙◌, ◌+◌, ◌*◌, ◌++◌, suc, ap, sym, subst, arith}
+use Rattle.std.proofs.Common.{◌∙◌, ◌+◌, suc, ap, sym, subst}
 use Rattle.epoch_learner.specs.Learner.{after_end}
 use Rattle.epoch_learner.specs.Stands.{Stands}
 use Rattle.epoch_learner.specs.declared.Learner.{Learner}
-use Rattle.rate_enforcer.proofs.Laws.{stands_ended}
+use Rattle.rate_enforcer.proofs.StateLaws.{stands_ended}
 use Rattle.rate_enforcer.proofs.clock.Clock.end_slot.Goals as goal
 
 pub returns-clause-stands : goal.returns-clause-stands

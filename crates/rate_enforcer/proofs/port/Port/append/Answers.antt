@@ -1,5 +1,5 @@
-use Rattle.std.proofs.Common.{◌≡◌, ◌≤◌, ◌+◌, ◌*◌, arith}
-use Rattle.rate_enforcer.proofs.Laws.{hand_grown}
+use Rattle.std.proofs.Common.{arith}
+use Rattle.rate_enforcer.proofs.StateLaws.{hand_grown}
 use Rattle.rate_enforcer.proofs.port.Port.append.Goals as goal
 
 pub returns-clause-rests : goal.returns-clause-rests

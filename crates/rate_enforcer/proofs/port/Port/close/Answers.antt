@@ -1,12 +1,11 @@
-use Rattle.std.proofs.Common.{◌≡◌, ◌≤◌, ◌∙◌, ◌+◌, ◌*◌, ◌++◌, ◌∷◌, [], ℕ, suc, Option, Some, None, Err, length, refl, ap, sym}
-use Rattle.std.proofs.Common.{subst, inl, arith, List, ◌⊎◌, ◌<◌}
+use Rattle.std.proofs.Common.{◌≡◌, ◌≤◌, ◌∙◌, ◌+◌, ◌++◌, ◌∷◌, [], ℕ, Option, Some, None, Err, length, refl, ap, sym}
+use Rattle.std.proofs.Common.{subst, arith, List, ◌⊎◌, ◌<◌}
 use Rattle.std.specs.Prelude.{⊤}
 use Rattle.unified_tree.specs.Stops.{IfWritten}
 use Rattle.unified_tree.specs.declared.stop.TreeStop.{TreeStop}
 use Rattle.unified_tree.specs.declared.stop.TreeStop.TheVariants as tree
 use Rattle.asc_base.specs.declared.stop.Stop.{Stop}
 use Rattle.asc_base.specs.TreeShape.{olat_of}
-use Rattle.bus_watch.specs.RunEnd.{Whole}
 use Rattle.bus_watch.specs.Path.{writes, reads_end}
 use Rattle.bus_watch.proofs.MadeLaws.{ran_none, ran_then, silent_events}
 use Rattle.epoch_learner.specs.Learner.{choice_by_sums}
@@ -15,14 +14,19 @@ use Rattle.rate_enforcer.specs.Clock.{chosen_events}
 use Rattle.rate_enforcer.specs.State.{Stopped}
 use Rattle.rate_enforcer.specs.Stops.{RanStop, stop_after}
 use Rattle.rate_enforcer.specs.declared.clock.Clock.{Clock}
-use Rattle.rate_enforcer.proofs.Laws.{ready_open, at_end, rested, write_stops, write_stopped}
+use Rattle.rate_enforcer.proofs.StateLaws.{at_end, rested, write_stops, write_stopped}
 use Rattle.asc_base.specs.declared.stop.Stop.TheVariants.{StashFull}
 use Rattle.bus_watch.specs.declared.bus.BusStop.{BusStop}
 use Rattle.bus_watch.specs.declared.log.Event.{Event}
 use Rattle.bus_watch.specs.declared.log.Event.TheVariants.{Chosen}
 use Rattle.oram_contents.specs.Contents.{Contents}
 use Rattle.unified_tree.proofs.Slots.{write_is}
+use Rattle.unified_tree.specs.Slot.{contents_of}
+use Rattle.unified_tree.specs.Tree.{TreeState}
+use Rattle.rate_enforcer.specs.Breaks.{WriteStops}
+use Rattle.rate_enforcer.proofs.Breaks.{write_breaks}
 use Rattle.rate_enforcer.specs.Served.{keys_of}
+use Rattle.rate_enforcer.proofs.Steps.{of_slot, used_so, kept_as}
 use Rattle.rate_enforcer.proofs.port.Port.close.Goals as goal
 
 one_choice : (choice : Option ℕ) → length (chosen_events choice) ≤ 1
@@ -141,3 +145,64 @@ pub returns-in-Err-clause-full : goal.returns-in-Err-clause-full
 returns-in-Err-clause-full g c held is =
     full_of c.in-Err.stop held _ _ _ _ _ _ _ (sym c.stop_of-stop.ensures ∙ is) c.in-Err.ensures.full
     c.in-Err.ensures.ran
+
+pub returns-in-Err-clause-breaks : goal.returns-in-Err-clause-breaks
+returns-in-Err-clause-breaks g c tags =
+    let t = g.W.Watch.state in
+    let old = c.args.self.now.tree in
+    let leaf_of = g.L.LeafFn.leaf_of c.args.self.now.leaves in
+    let before = t c.args.bus.now.tap.now in
+    let tap = t c.write_path.new.bus.tap.now in
+    subst (λ (x : TreeState). WriteStops (keys_of old tags leaf_of) old.stash c.stop_of-stop.result before.log tap.log
+    (contents_of old before) (contents_of x tap) c.args.slot.start c.args.slot.leaf.0) (sym c.stop_at.ensures.tree)
+    (subst (λ (x : Stop). WriteStops (keys_of old tags leaf_of) old.stash x before.log tap.log
+    (contents_of old before) (contents_of c.write_path.new.self tap) c.args.slot.start c.args.slot.leaf.0)
+    (sym c.stop_of-stop.ensures)
+    (write_breaks g.M.UntrustedMemory.state t c.args.bus.now c.write_path.new.bus tags leaf_of old
+    c.write_path.new.self c.args.slot.start c.args.slot.leaf.0 c.in-Err.stop c.write_path.ensures.altered
+    c.in-Err.ensures.hand_err c.in-Err.ensures.ran c.in-Err.ensures.full c.in-Err.ensures.refused))
+
+pub returns-in-Ok-clause-step : goal.returns-in-Ok-clause-step
+returns-in-Ok-clause-step g c =
+    let clock = c.args.self.now.clock in
+    let now = c.end_slot.new.self in
+    let is = c.end_slot.ensures.clock in
+    let path = c.requires.opens.is_open.path in (
+      refl,
+      record {
+        path = record { start = c.args.slot.start; leaf = c.args.slot.leaf };
+        on = path;
+        same = record { config = ap (λ (x : Clock). x.config) is; tree = c.write_path.ensures.kept };
+        used = used_so g.M.UntrustedMemory.state g.W.Watch.state c.args.bus.now c.end_slot.new.bus clock now
+            c.args.self.now.tree c.write_path.new.self (returns-in-Ok-clause-ran g c);
+        rests = λ notes leaf o. returns-in-Ok-clause-rests g c notes (of_slot c.args.slot o.slot path o.opens);
+        end_is = omega (arith, c.olat.ensures);
+        last = ap (λ (x : Clock). x.last) is;
+        dummies = ap (λ (x : Clock). x.dummies) is;
+        real = ap (λ (x : Clock). x.real) is;
+        written = returns-in-Ok-clause-written g c;
+        ends = returns-in-Ok-clause-ended g c;
+      },
+    )
+
+pub returns-in-Err-clause-step : goal.returns-in-Err-clause-step
+returns-in-Err-clause-step g c =
+    let is = c.stop_at.ensures.clock in
+    let ran = returns-in-Err-clause-ran_err g c in
+    record {
+      path = record { start = c.args.slot.start; leaf = c.args.slot.leaf };
+      on = c.requires.opens.is_open.path;
+      same = record {
+        config = ap (λ (x : Clock). x.config) is;
+        tree = kept_as c.args.self.now.tree c.write_path.new.self c.stop_at.new.self.tree c.write_path.ensures.kept
+            c.stop_at.ensures.tree;
+      };
+      end = ran.end;
+      is_end = ran.is_end;
+      used = used_so g.M.UntrustedMemory.state g.W.Watch.state c.args.bus.now c.write_path.new.bus
+          c.args.self.now.clock c.stop_at.new.self.clock c.args.self.now.tree c.stop_at.new.self.tree ran.ran;
+      stopped = returns-in-Err-clause-stopped g c;
+      dummies = ap (λ (x : Clock). x.dummies) is;
+      real = ap (λ (x : Clock). x.real) is;
+      breaks = returns-in-Err-clause-breaks g c;
+    }

@@ -1,5 +1,9 @@
-use Rattle.std.proofs.Common.{◌≡◌, ◌≤◌, ◌∙◌, ◌+◌, ◌*◌, ℕ, refl, ap, sym, arith}
-use Rattle.rate_enforcer.proofs.Laws.{opens_less, counted, ran_on, stops_on}
+use Rattle.std.proofs.Common.{subst, inr, arith}
+use Rattle.rate_enforcer.proofs.StateLaws.{opens_less, ran_on, stops_on}
+use Rattle.unified_tree.specs.Slot.{contents_of}
+use Rattle.rate_enforcer.specs.Breaks.{WriteStops}
+use Rattle.rate_enforcer.specs.Served.{keys_of}
+use Rattle.rate_enforcer.proofs.Breaks.{dummy_stops}
 use Rattle.rate_enforcer.proofs.Contents.{dummy_of}
 use Rattle.rate_enforcer.proofs.port.Port.dummy.Goals as goal
 
@@ -10,25 +14,9 @@ pub returns-in-Err-close-clause-ran_err : goal.returns-in-Err-close-clause-ran_e
 returns-in-Err-close-clause-ran_err g c =
     stops_on g.M.UntrustedMemory.state g.W.Watch.state c.in-Ok.ensures.ran c.in-Err-close.ensures.ran_err
 
-pub overflow_add-self : goal.overflow_add-self
-overflow_add-self g c =
-    let r = c.requires.rests in
-    let time = r.stands.step.follows.is_of.is_config.time.1 in
-    omega (arith, c.close.ensures.dummies, c.begin.ensures.dummies, r.dummies, c.requires.early, time)
-
 pub returns-clause-rests : goal.returns-clause-rests
 returns-clause-rests g c notes r =
-    let o = opens_less notes (omega arith) (c.in-Ok.ensures.opens notes r) in
-    let fewer : c.close.new.self.clock.dummies + 1 ≤ c.close.new.self.clock.next =
-    omega (
-      arith,
-      c.close.ensures.dummies,
-      c.begin.ensures.dummies,
-      r.dummies,
-      c.in-Ok-close.ensures.next,
-      c.begin.ensures.next,
-    ) in
-    counted (c.close.new.self.clock.dummies + 1) fewer (c.in-Ok-close.ensures.rests notes o)
+    c.in-Ok-close.ensures.rests notes (opens_less notes (omega arith) (c.in-Ok.ensures.opens notes r))
 
 pub returns-clause-ran : goal.returns-clause-ran
 returns-clause-ran g c =
@@ -42,3 +30,22 @@ returns-clause-passed g c tags =
     c.in-Ok.slot.leaf.0 (t c.args.bus.now.tap.now) (t c.begin.new.bus.tap.now) (t c.close.new.bus.tap.now)
     c.begin.ensures.kept c.in-Ok.ensures.leaf c.begin.ensures.seed c.begin.ensures.mirror (c.in-Ok.ensures.read tags)
     c.in-Ok.ensures.noted c.in-Ok-close.ensures.written c.in-Ok-close.ensures.ended
+
+pub returns-in-Err-close-clause-breaks : goal.returns-in-Err-close-clause-breaks
+returns-in-Err-close-clause-breaks g c tags =
+    let t = g.W.Watch.state in
+    let leaf_of = g.L.LeafFn.leaf_of in
+    let w = subst (λ x. WriteStops (keys_of c.begin.new.self.tree tags (leaf_of x)) c.begin.new.self.tree.stash
+    c.in-Err-close.stop (t c.begin.new.bus.tap.now).log (t c.close.new.bus.tap.now).log
+    (contents_of c.begin.new.self.tree (t c.begin.new.bus.tap.now))
+    (contents_of c.close.new.self.tree (t c.close.new.bus.tap.now)) c.in-Ok.slot.start c.in-Ok.slot.leaf.0)
+    c.begin.ensures.leaves (c.in-Err-close.ensures.breaks tags) in
+    let w2 = subst (λ n. WriteStops (keys_of c.begin.new.self.tree tags (leaf_of c.args.self.now.leaves))
+    c.begin.new.self.tree.stash c.in-Err-close.stop (t c.begin.new.bus.tap.now).log (t c.close.new.bus.tap.now).log
+    (contents_of c.begin.new.self.tree (t c.begin.new.bus.tap.now))
+    (contents_of c.close.new.self.tree (t c.close.new.bus.tap.now)) n c.in-Ok.slot.leaf.0) c.in-Ok.ensures.start w in
+    inr (dummy_stops c.args.self.now.tree c.begin.new.self.tree c.close.new.self.tree tags
+    (leaf_of c.args.self.now.leaves) c.in-Err-close.stop c.args.self.now.clock.next c.args.self.now.clock.dummies
+    c.in-Ok.slot.leaf.0 (t c.args.bus.now.tap.now) (t c.begin.new.bus.tap.now) (t c.close.new.bus.tap.now)
+    c.begin.ensures.kept c.in-Ok.ensures.leaf c.begin.ensures.seed c.begin.ensures.mirror (c.in-Ok.ensures.read tags)
+    c.in-Ok.ensures.noted c.in-Ok.ensures.moves w2)

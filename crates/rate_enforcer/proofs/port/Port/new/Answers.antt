@@ -1,8 +1,8 @@
-use Rattle.std.proofs.Common.{◌≡◌, ◌∙◌, ◌+◌, ◌*◌, ℕ, None, ap, sym, subst, arith}
+use Rattle.std.proofs.Common.{◌∙◌, ℕ, None, ap}
 use Rattle.epoch_learner.specs.Learner.{learner_at_start}
 use Rattle.epoch_learner.specs.declared.Learner.{Learner}
 use Rattle.rate_enforcer.specs.declared.clock.Clock.{Clock}
-use Rattle.rate_enforcer.proofs.Laws.{fresh}
+use Rattle.rate_enforcer.proofs.StateLaws.{fresh}
 use Rattle.rate_enforcer.proofs.port.Port.new.Goals as goal
 
 pub returns-clause-rests : goal.returns-clause-rests
@@ -16,6 +16,7 @@ returns-clause-rests g c notes left memory tap events moves enough room =
       next = n;
       last = 0;
       dummies = 0;
+      real = 0;
       stop = None;
     } in k in
     fresh notes left _ config _ c.args.tree memory tap r.config

@@ -1,13 +1,14 @@
-use Rattle.std.proofs.Common.{◌≡◌, ◌<◌, ◌≤◌, ◌∙◌, ◌+◌, ◌*◌, ◌-◌, ◌^◌, [], ℕ, max, refl, ap, sym, subst, arith}
-use Rattle.asc_base.specs.TreeShape.{olat_of}
+use Rattle.std.proofs.Common.{◌≡◌, ◌<◌, ◌∙◌, ◌-◌, ◌^◌, [], refl, ap, subst, arith}
 use Rattle.asc_base.specs.declared.settings.Config.{Config}
 use Rattle.bus_watch.proofs.MadeLaws.{ran_none}
 use Rattle.oram_contents.specs.Slots.{ArePasses, IsDummy}
 use Rattle.unified_tree.specs.Slot.{contents_of}
 use Rattle.rate_enforcer.specs.Served.{keys_of}
+use Rattle.rate_enforcer.specs.Breaks.{DummyStops}
+use Rattle.rate_enforcer.proofs.Breaks.{passes_stop}
 use Rattle.rate_enforcer.proofs.Contents.{dummies_more}
 use Rattle.rate_enforcer.specs.State.{Stopped}
-use Rattle.rate_enforcer.proofs.Laws.{ran_on, stops_on}
+use Rattle.rate_enforcer.proofs.StateLaws.{ran_on, stops_on}
 use Rattle.rate_enforcer.proofs.port.Port.pass_until.Goals as goal
 
 pub loop-self-init : goal.loop-self-init
@@ -18,6 +19,7 @@ loop-self-init g c = record {
   rests = λ notes r. r;
   last = omega arith;
   more = omega arith;
+  real = refl;
   passed = λ tags. subst (λ k. ArePasses (keys_of c.args.self.now.tree tags (g.L.LeafFn.leaf_of c.args.self.now.leaves))
       k (g.W.Watch.state c.args.bus.now.tap.now).log (g.W.Watch.state c.args.bus.now.tap.now).log
       (contents_of c.args.self.now.tree (g.W.Watch.state c.args.bus.now.tap.now))
@@ -50,6 +52,7 @@ loop-self-preserved g c =
     ) in
     record {
       more = omega (arith, i.more, o.dummies);
+      real = d.real ∙ i.real;
       passed = λ tags. dummies_more c.args.self.now.tree c.loop-self.self.tree c.dummy.new.self.tree tags
           (g.L.LeafFn.leaf_of c.args.self.now.leaves) c.loop-self.self.clock.next c.args.self.now.clock.dummies
           c.loop-self.self.clock.dummies c.dummy.new.self.clock.dummies (t c.args.bus.now.tap.now)
@@ -79,3 +82,19 @@ pub returns-in-Err-clause-stopped : goal.returns-in-Err-clause-stopped
 returns-in-Err-clause-stopped g c =
     subst (λ (x : Config). Stopped x c.dummy.new.self.clock c.in-Err.stop
     (g.W.Watch.state c.dummy.new.bus.tap.now).log) c.loop-self.invariant.config c.in-Err.ensures.stopped
+
+pub returns-in-Err-clause-breaks : goal.returns-in-Err-clause-breaks
+returns-in-Err-clause-breaks g c tags =
+    let t = g.W.Watch.state in
+    let leaf_of = g.L.LeafFn.leaf_of in
+    let i = c.loop-self.invariant in
+    let now = c.loop-self.self in
+    let stops = subst (λ x. DummyStops (keys_of now.tree tags (leaf_of x)) now.tree.stash c.in-Err.stop
+    (t c.loop-self.bus.tap.now).log (t c.dummy.new.bus.tap.now).log
+    (contents_of now.tree (t c.loop-self.bus.tap.now))
+    (contents_of c.dummy.new.self.tree (t c.dummy.new.bus.tap.now)) now.clock.next now.clock.dummies)
+    i.leaves (c.in-Err.ensures.breaks tags) in
+    passes_stop c.args.self.now.tree now.tree c.dummy.new.self.tree tags (leaf_of c.args.self.now.leaves)
+    c.in-Err.stop now.clock.next c.dummy.new.self.clock.next c.args.self.now.clock.dummies now.clock.dummies
+    (t c.args.bus.now.tap.now) (t c.loop-self.bus.tap.now) (t c.dummy.new.bus.tap.now) i.kept i.more
+    c.in-Err.ensures.next_err (i.passed tags) stops

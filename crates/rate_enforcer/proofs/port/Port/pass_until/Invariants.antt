@@ -22,6 +22,7 @@ invariant-loop-self g l =
           (g.L.LeafFn.levels l.self.leaves) (m l.bus.memory.now) (t l.bus.tap.now);
       last : l.self.clock.last < max l.fn.self.clock.last l.time + olat_of l.fn.self.clock.config.shape.levels;
       more : l.fn.self.clock.dummies ≤ l.self.clock.dummies;
+      real : l.self.clock.real ≡ l.fn.self.clock.real;
       passed : (tags : List ℕ) → ArePasses (keys_of l.fn.self.tree tags (g.L.LeafFn.leaf_of l.fn.self.leaves))
           (l.self.clock.dummies - l.fn.self.clock.dummies) (t l.fn.bus.tap.now).log (t l.bus.tap.now).log
           (contents_of l.fn.self.tree (t l.fn.bus.tap.now)) (contents_of l.self.tree (t l.bus.tap.now))

@@ -1,4 +1,4 @@
-use Rattle.rate_enforcer.proofs.Laws.{hand_changed}
+use Rattle.rate_enforcer.proofs.StateLaws.{hand_changed}
 use Rattle.rate_enforcer.proofs.port.Port.put.Goals as goal
 
 pub returns-clause-opens : goal.returns-clause-opens

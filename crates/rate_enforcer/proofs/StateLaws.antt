@@ -1,6 +1,6 @@
 -- How a port's states follow from each other, over plain clocks, trees and logs.
-use Rattle.std.proofs.Common.{◌≡◌, ◌<◌, ◌≤◌, ◌+◌, ◌*◌, ◌^◌, ◌++◌, ℕ, zero, suc, List, [], ◌∷◌, length, Option, None, Some}
-use Rattle.std.proofs.Common.{Err, refl, sym, ap, subst, ◌∙◌, arith, inl, inr, min, max, false, true}
+use Rattle.std.proofs.Common.{◌≡◌, ◌<◌, ◌≤◌, ◌+◌, ◌*◌, ◌^◌, ◌++◌, ℕ, zero, suc, List, [], ◌∷◌, length, Option}
+use Rattle.std.proofs.Common.{None, Some, Err, refl, sym, ap, subst, ◌∙◌, arith, inl, inr, min, max, false, true}
 use Rattle.std.specs.Prelude.{⊤}
 use Rattle.asc_base.specs.Settings.{IsConfig}
 use Rattle.asc_base.specs.TreeShape.{olat_of}
@@ -17,7 +17,6 @@ use Rattle.bus_watch.proofs.PathLaws.{length-along}
 use Rattle.bus_watch.specs.declared.bus.Bus.{Bus}
 use Rattle.bus_watch.specs.declared.log.Event.{Event}
 use Rattle.bus_watch.specs.declared.log.Event.TheVariants.{Access, Drawn}
-use Rattle.bus_watch.specs.declared.log.Move.{Move}
 use Rattle.bus_watch.specs.Log.{LogLists, TapState, with_event}
 use Rattle.bus_watch.specs.Made.{Made, Ran}
 use Rattle.bus_watch.specs.Path.{along, reads, reads_end, writes, writes_start, slot_moves}
@@ -33,7 +32,8 @@ use Rattle.unified_tree.specs.Stops.{IfRead, IfWritten}
 use Rattle.unified_tree.specs.Tree.{TreeState, IsSameTree}
 use Rattle.unified_tree.specs.declared.stop.TreeStop.{TreeStop}
 use Rattle.unified_tree.specs.declared.stop.TreeStop.TheVariants as tree
-use Rattle.rate_enforcer.specs.State.{Rests, IsFor, IsOpen, Opens, Stopped, IsUp}
+use Rattle.rate_enforcer.specs.Clock.{with_dummy, with_real}
+use Rattle.rate_enforcer.specs.State.{Rests, Opens, Stopped, IsUp}
 use Rattle.rate_enforcer.specs.Stops.{stop_after, RanTo, RanStop}
 use Rattle.rate_enforcer.specs.declared.clock.Clock.{Clock}
 use Rattle.rate_enforcer.specs.declared.port.OpenSlot.{OpenSlot}
@@ -111,16 +111,18 @@ ready_begun {notes} {clock} {asked} {leaf} {m} {t} shape b is =
 
 -- the path is read
 pub opened : {notes : ℕ} {clock : Clock} {asked : Option ℕ} {m0 m m' : MemoryState} {t0 t t' : TapState}
-    {tree : TreeState} {levels : ℕ} (tree' : TreeState) (leaf : Leaf) (learner : Learner) (shape : Shape)
+    {tree : TreeState} {levels : ℕ} (tree' : TreeState) (leaf : Leaf) (learner : Learner) (dummies real : ℕ)
+    (shape : Shape)
     → Rests notes clock tree levels m0 t0 → clock.next < clock.config.time
     → learner ≡ after_access clock.learner clock.next asked → Begun notes clock asked leaf.0 m t
     → leaf.0 < 2 ^ levels → shape ≡ clock.config.shape
     → Made Whole (reads shape.levels clock.next leaf.0) [] m m' t t' → IsSameTree tree tree'
     → tree'.seed ≡ tree.seed → tree'.path ≡ Some (record { start = clock.next; leaf = leaf })
-    → Opens (notes + 3) (record clock { learner = learner }) (record { start = clock.next; leaf = leaf }) tree' levels
-    m' t'
-opened {notes} {clock} {asked} {m0} {m} {m'} {t0} {t} {t'} {tree} {levels} tree' leaf learner shape r early is b inside
-    shape_is made kept seed path =
+    → dummies ≤ clock.next → real ≤ clock.next
+    → Opens (notes + 3) (record clock { learner = learner; dummies = dummies; real = real })
+    (record { start = clock.next; leaf = leaf }) tree' levels m' t'
+opened {notes} {clock} {asked} {m0} {m} {m'} {t0} {t} {t'} {tree} {levels} tree' leaf learner dummies real shape r early
+    is b inside shape_is made kept seed path few_dummies few_real =
     let l = clock.config.shape.levels in
     let read = subst (λ (s : Shape). Made Whole (reads s.levels clock.next leaf.0) [] m m' t t') shape_is made in
     record {
@@ -135,7 +137,8 @@ opened {notes} {clock} {asked} {m0} {m} {m'} {t0} {t} {t'} {tree} {levels} tree'
       done = b.done;
       stands = subst (λ (x : Learner). StandsIn clock.config b.done clock.next leaf.0 (reads l clock.next leaf.0) x
           t'.log) (sym is) (inside_ran b.stands none_silent read);
-      dummies = r.dummies;
+      dummies = few_dummies;
+      real = few_real;
       left = b.left;
       enough = b.enough;
       room = ready_after clock.config.shape.buckets (2 * (l + 1) * b.left + 2 * (l + 1)) (6 * b.left + (notes + 4))
@@ -279,15 +282,21 @@ module _ {M W : Type 0} (memory_of : M → MemoryState) (tap_of : W → TapState
       )
 
   pub read_stopped : (b c : Bus M W) {notes : ℕ} {clock : Clock} {asked : Option ℕ} (leaf : ℕ) (learner : Learner)
-      (stop : TreeStop) (tree tree' : TreeState) (clock' : Clock)
+      (dummies real : ℕ) (stop : TreeStop) (tree tree' : TreeState) (clock' : Clock)
       → Begun notes clock asked leaf (memory_of b.memory.now) (tap_of b.tap.now) → tree.shape ≡ clock.config.shape
       → IfRead (Err stop) (Ran memory_of tap_of Whole (reads tree.shape.levels clock.next leaf) [] b c)
       (λ s. CutRead memory_of tap_of (end_at s) clock.next leaf tree tree' b c)
       → IfRead (Err stop) (tree'.ended ≡ reads_end tree.shape.levels clock.next)
       (λ _. tree'.ended ≤ reads_end tree.shape.levels clock.next)
-      → clock' ≡ record clock { learner = learner; last = tree'.ended; stop = Some (stop_after stop) }
+      → clock' ≡ record clock {
+        learner = learner;
+        dummies = dummies;
+        real = real;
+        last = tree'.ended;
+        stop = Some (stop_after stop);
+      }
       → Stopped clock.config clock' (stop_after stop) (tap_of c.tap.now).log
-  read_stopped b c {notes} {clock} leaf learner stop before after clock' g shape_is read ended is =
+  read_stopped b c {notes} {clock} leaf learner dummies real stop before after clock' g shape_is read ended is =
       subst (λ (x : Clock). Stopped clock.config x (stop_after stop) (tap_of c.tap.now).log) (sym is)
       (by stop read ended)
     where
@@ -300,8 +309,13 @@ module _ {M W : Type 0} (memory_of : M → MemoryState) (tap_of : W → TapState
           → IfRead (Err stop) (after.ended ≡ reads_end before.shape.levels clock.next)
           (λ _. after.ended ≤ reads_end before.shape.levels clock.next)
           → Stopped clock.config
-          (record clock { learner = learner; last = after.ended; stop = Some (stop_after stop) }) (stop_after stop)
-          (tap_of c.tap.now).log
+          (record clock {
+            learner = learner;
+            dummies = dummies;
+            real = real;
+            last = after.ended;
+            stop = Some (stop_after stop);
+          }) (stop_after stop) (tap_of c.tap.now).log
       by (tree.BadSlot bucket slot) read ended =
           let p = read_pace leaf before.shape.levels after.ended g levels_are read ended in
           record { kept = refl; same = refl; ends = p.0; pace = p.1 }
@@ -435,6 +449,7 @@ rested {notes} {levels} {clock} {m} {m'} {m''} {t} {t'} {t''} slot tree tree' cl
       stands = stands;
       in_time = omega (arith, end_is, o.is_open.starts, o.is_open.early);
       dummies = omega (arith, o.dummies, end_is, o.is_open.starts, apart);
+      real = omega (arith, o.real, end_is, o.is_open.starts, apart);
       left = o.left;
       enough = omega (arith, o.enough, end_is, o.is_open.starts, apart);
       room = ready_after clock.config.shape.buckets (2 * (l + 1) * o.left) (6 * o.left + (notes + 1))
@@ -449,6 +464,15 @@ rested {notes} {levels} {clock} {m} {m'} {m''} {t} {t'} {t''} slot tree tree' cl
       few = omega (arith, few, o.is_for.stash);
     })
 
+-- one more slot starts
+pub few_dummies : (asked : Option ℕ) (n next : ℕ) → n < next → with_dummy asked n ≤ next
+few_dummies None n next less = omega arith
+few_dummies (Some time) n next less = omega arith
+
+pub few_real : (asked : Option ℕ) (n next : ℕ) → n < next → with_real asked n ≤ next
+few_real None n next less = omega arith
+few_real (Some time) n next less = omega arith
+
 -- room for fewer events
 pub opens_less : {notes levels : ℕ} {clock : Clock} {slot : OpenSlot} {tree : TreeState} {m : MemoryState}
     {t : TapState} (fewer : ℕ) → fewer ≤ notes → Opens notes clock slot tree levels m t
@@ -462,6 +486,7 @@ opens_less {notes} {levels} {clock} {slot} {tree} {m} {t} fewer less o =
       done = o.done;
       stands = o.stands;
       dummies = o.dummies;
+      real = o.real;
       left = o.left;
       enough = o.enough;
       room = ready_less clock.config.shape.buckets (2 * (l + 1) * o.left + (l + 1)) (6 * o.left + (notes + 1))
@@ -469,28 +494,25 @@ opens_less {notes} {levels} {clock} {slot} {tree} {m} {t} fewer less o =
       is_for = o.is_for;
     }
 
--- another number of dummies
-pub counted : {notes levels : ℕ} {clock : Clock} {tree : TreeState} {m : MemoryState} {t : TapState} (dummies : ℕ)
-    → dummies ≤ clock.next → Rests notes clock tree levels m t
-    → Rests notes (record clock { dummies = dummies }) tree levels m t
-counted dummies less r = record {
-  going = r.going;
-  done = r.done;
-  stands = r.stands;
-  in_time = r.in_time;
-  dummies = less;
-  left = r.left;
-  enough = r.enough;
-  room = r.room;
-  is_for = record {
-    shape = r.is_for.shape;
-    stash = r.is_for.stash;
-    levels_are = r.is_for.levels_are;
-    seed = r.is_for.seed;
-  };
-  path = r.path;
-  few = r.few;
-}
+pub rests_less : {notes levels : ℕ} {clock : Clock} {tree : TreeState} {m : MemoryState} {t : TapState} (fewer : ℕ)
+    → fewer ≤ notes → Rests notes clock tree levels m t → Rests fewer clock tree levels m t
+rests_less {notes} {levels} {clock} {tree} {m} {t} fewer less r =
+    let l = clock.config.shape.levels in
+    record {
+      going = r.going;
+      done = r.done;
+      stands = r.stands;
+      in_time = r.in_time;
+      dummies = r.dummies;
+      real = r.real;
+      left = r.left;
+      enough = r.enough;
+      room = ready_less clock.config.shape.buckets (2 * (l + 1) * r.left) (6 * r.left + notes) (2 * (l + 1) * r.left)
+          (6 * r.left + fewer) r.room (omega arith) (omega (arith, less));
+      is_for = r.is_for;
+      path = r.path;
+      few = r.few;
+    }
 
 -- before the first slot
 pub fresh : (notes left levels : ℕ) (config : Config) (clock : Clock) (tree : TreeState) (m : MemoryState)
@@ -501,6 +523,7 @@ pub fresh : (notes left levels : ℕ) (config : Config) (clock : Clock) (tree : 
       next = (learner_at_start config).rate;
       last = 0;
       dummies = 0;
+      real = 0;
       stop = None;
     }
     → t.log.events ≡ [] → t.log.moves ≡ [] → config.time ≤ 64 + left * olat_of config.shape.levels
@@ -516,7 +539,8 @@ fresh notes left levels config clock tree m t is_config is events moves enough r
       done = 0;
       stands = s;
       in_time = omega arith;
-      dummies = omega arith;
+      dummies = omega (arith, apart);
+      real = omega (arith, apart);
       left = left;
       enough = omega (arith, enough, apart);
       room = room;
@@ -556,6 +580,7 @@ hand_changed tree' kept seed path o = record {
   done = o.done;
   stands = o.stands;
   dummies = o.dummies;
+  real = o.real;
   left = o.left;
   enough = o.enough;
   room = o.room;
@@ -577,6 +602,7 @@ hand_grown tree' kept seed path few r = record {
   stands = r.stands;
   in_time = r.in_time;
   dummies = r.dummies;
+  real = r.real;
   left = r.left;
   enough = r.enough;
   room = r.room;
