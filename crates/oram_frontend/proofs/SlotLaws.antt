@@ -23,7 +23,7 @@ use Rattle.oram_contents.specs.Contents.{Contents, IsReadTo, after_write}
 use Rattle.oram_contents.specs.Entries.{Keys, real, message_of, entry_of}
 use Rattle.oram_contents.specs.Fold.{with_entry, tagged_entry}
 use Rattle.oram_contents.specs.Shapes.{AreOfShape}
-use Rattle.oram_contents.specs.Slots.{ArePasses, IsRead, IsAccess, IsRefill, IsEnd, drawn_events}
+use Rattle.oram_contents.specs.Slots.{ArePasses, IsRead, IsAccess, IsRefill, IsEnd, HasSeeds, drawn_events}
 use Rattle.oram_contents.specs.Steps.{accepted}
 use Rattle.oram_contents.specs.Verdict.{judged, line_found, append_verdict}
 use Rattle.oram_stash.specs.Entries.{held, without}
@@ -51,6 +51,7 @@ pub record Under (keys : Keys) (levels : ℕ) (access : Access) (found : Option 
   pub mid : LogLists
   pub between : Contents
   pub passes : ArePasses keys passed old.tap.log mid (contents old) between old.clock.dummies
+  pub seeds : HasSeeds between
   pub start : ℕ
   pub altered : List Altered
   pub joined : List Entry
@@ -91,11 +92,14 @@ pub taken : (keys : Keys) (levels notes : ℕ) (access : Access) (found : Option
 taken keys levels notes access found old one two fits rests opened took right =
     let served = subst (λ k. IsServed k old.tap.log one.tap.log (contents old) (contents one) old.clock.dummies one.clock
         access.asked (Real access.address access.counter)) (keys_fit keys old fits) (opened.served keys.tags) in
+    let slot = opened.in_slot notes rests in
+    let seed : one.tree.seed ≡ served.between.seed = ap (λ (k : Contents). k.seed) served.after_is in
     record {
       passed = one.clock.dummies - old.clock.dummies;
       mid = served.mid;
       between = served.between;
       passes = served.passed;
+      seeds = omega (arith, slot.opens.is_for.seed, slot.opens.is_open.early, slot.opens.is_open.is_config.time.1, seed);
       start = one.clock.next;
       altered = served.read.altered;
       joined = one.tree.hand;
@@ -134,6 +138,7 @@ noted_on keys levels access found old s t later back event note u = record {
   mid = u.mid;
   between = u.between;
   passes = u.passes;
+  seeds = u.seeds;
   start = u.start;
   altered = u.altered;
   joined = u.joined;
@@ -173,6 +178,7 @@ put_on keys levels access found old s t later entry put u = record {
   mid = u.mid;
   between = u.between;
   passes = u.passes;
+  seeds = u.seeds;
   start = u.start;
   altered = u.altered;
   joined = u.joined;
@@ -297,6 +303,7 @@ module _ (keys : Keys) (levels : ℕ) (access : Access) (seen : Seen) (found : O
     mid = u.mid;
     between = u.between;
     passes = u.passes;
+    seeds = u.seeds;
     start = u.start;
     found = found;
     log = s.tap.log;

@@ -1,3 +1,4 @@
 pub mod Access
 pub mod Oram
 pub mod Slots
+pub mod Standing

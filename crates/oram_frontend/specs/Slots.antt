@@ -12,7 +12,7 @@ use Rattle.epoch_learner.specs.Stands.{IsFirstFor}
 use Rattle.oram_contents.specs.Contents.{Contents}
 use Rattle.oram_contents.specs.Entries.{Keys}
 use Rattle.oram_contents.specs.Fold.{with_entry, tagged_entry}
-use Rattle.oram_contents.specs.Slots.{drawn_events, IsAccess, IsRefill, IsEnd, ArePasses}
+use Rattle.oram_contents.specs.Slots.{drawn_events, IsAccess, IsRefill, IsEnd, ArePasses, HasSeeds}
 use Rattle.oram_contents.specs.Verdict.{append_verdict, line_found}
 use Rattle.oram_walk.specs.declared.slots.Access.{Access}
 use Rattle.oram_walk.specs.declared.slots.Purpose.{Purpose}
@@ -55,6 +55,7 @@ pub record IsServedSlot (keys : Keys) (access : Access) (seen : Seen) (old new :
   pub mid : LogLists
   pub between : Contents
   pub passes : ArePasses keys passed old.tap.log mid (contents old) between old.clock.dummies
+  pub seeds : HasSeeds between
   pub start : ℕ
   pub found : Option Entry
   pub log : LogLists
