@@ -1,0 +1,6 @@
+pub mod Fronts
+pub mod Roots
+pub mod Sequence
+pub mod Parts
+pub mod Held
+pub mod Fresh

@@ -1,0 +1,5 @@
+pub mod Request
+pub mod Front
+pub mod Plans
+pub mod Memory
+pub mod Rows

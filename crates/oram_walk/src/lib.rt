@@ -1,0 +1,11 @@
+//! The walk of an ORAM's front end, over any slots in which its accesses are served.
+#![tactic(auto)]
+
+mod front;
+mod laws;
+mod slots;
+mod walk;
+
+pub use front::Front;
+pub use laws::plans_have_rows;
+pub use slots::{Access, Purpose, Seen, Slots};
