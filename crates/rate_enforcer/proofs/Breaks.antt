@@ -157,6 +157,18 @@ module _ {M W : Type 0} (memory_of : M → MemoryState) (tap_of : W → TapState
     read_breaks tree.Device gains ran was = broke _ gains ran was
     read_breaks tree.NoMemory gains ran was = inr (broke _ gains ran was)
 
+  -- a path that wasn't read notes no event
+  pub read_silent : (b c : Bus M W) (start leaf : ℕ) (old new : TreeState) (stop : TreeStop)
+      → IfRead (Err stop) (Ran memory_of tap_of Whole (reads old.shape.levels start leaf) [] b c)
+      (λ s. CutRead memory_of tap_of (end_at s) start leaf old new b c)
+      → (tap_of c.tap.now).log.events ≡ (tap_of b.tap.now).log.events
+  read_silent b c start leaf old new (tree.BadSlot bucket slot) ran = silent_events ran.made
+  read_silent b c start leaf old new (tree.OffPath bucket slot) ran = silent_events ran.made
+  read_silent b c start leaf old new (tree.Doubled address) ran = silent_events ran.made
+  read_silent b c start leaf old new (tree.Full held) ran = absurd ran
+  read_silent b c start leaf old new tree.Device ran = silent_events ran.ran.made
+  read_silent b c start leaf old new tree.NoMemory ran = silent_events ran.ran.made
+
   -- a path that wasn't written, or not to its end
   writes_broke : (b c : Bus M W) (tags : List ℕ) (leaf_of : Point → ℕ) (old new : TreeState) (start leaf : ℕ)
       (end : RunEnd) → (tap_of c.tap.now).log.altered ≡ (tap_of b.tap.now).log.altered → new.hand ≡ old.hand

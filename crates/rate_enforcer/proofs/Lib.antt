@@ -1,4 +1,5 @@
 pub mod Breaks
 pub mod Contents
+pub mod Counted
 pub mod StateLaws
 pub mod Steps

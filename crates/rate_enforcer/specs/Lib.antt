@@ -1,5 +1,6 @@
 pub mod Breaks
 pub mod Clock
+pub mod Counts
 pub mod PortStep
 pub mod Served
 pub mod State

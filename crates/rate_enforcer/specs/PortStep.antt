@@ -23,6 +23,7 @@ use Rattle.oram_stash.specs.Entries.{held, without}
 use Rattle.unified_tree.specs.Slot.{contents_of}
 use Rattle.unified_tree.specs.Tree.{TreeState, IsSameTree}
 use Rattle.unified_tree.specs.declared.stop.OpenPath.{OpenPath}
+use Rattle.rate_enforcer.specs.Counts.{IsCounted}
 use Rattle.rate_enforcer.specs.Breaks.{WriteStops, PassesStop, AskedStops}
 use Rattle.rate_enforcer.specs.Served.{keys_of, IsServed}
 use Rattle.rate_enforcer.specs.State.{Rests, Opens, Stopped, IsUp}
@@ -108,6 +109,10 @@ pub record InSlot (notes levels leaf : ℕ) (s : PortState) : Type 0 where
   pub opens : Opens notes s.clock slot s.tree levels s.memory s.tap
   pub leaf_is : slot.leaf.0 ≡ leaf
 
+-- The clock still counts the starts that the log notes.
+abbrev pub KeepsCount : PortState → PortState → Type 0
+KeepsCount old new = IsCounted old.clock old.tap.log → IsCounted new.clock new.tap.log
+
 -- the path that is open
 abbrev pub IsOn : OpenPath → PortState → Type 0
 IsOn path s = s.tree.path ≡ Some path
@@ -131,6 +136,7 @@ module _ (leaf_of : Point → ℕ) (levels : ℕ) where
     pub served : (tags : List ℕ) → IsServed (port_keys old tags) old.tap.log new.tap.log (contents old) (contents new)
         old.clock.dummies new.clock asked point
     pub real : new.clock.real ≡ old.clock.real + 1
+    pub counts : KeepsCount old new
 
   -- The log and the contents of a stop in `Open`: in a dummy before the slot, in the slot, or where no slot is left.
   abbrev pub OpenBreaks : ℕ → Point → Stop → PortState → PortState → List ℕ → Type 0
@@ -152,6 +158,7 @@ module _ (leaf_of : Point → ℕ) (levels : ℕ) where
     pub is_end : IsEndOf stop end
     pub used : Used end old new
     pub stopped : Stopped old.clock.config new.clock stop new.tap.log
+    pub counts : KeepsCount old new
     pub breaks : (tags : List ℕ) → OpenBreaks asked point stop old new tags
 
   -- The open path is written, and with it the slot ends.
@@ -167,6 +174,7 @@ module _ (leaf_of : Point → ℕ) (levels : ℕ) where
     pub real : new.clock.real ≡ old.clock.real
     pub written : contents new ≡ after_write old.tree.key old.tree.shape.levels path.leaf.0 (contents old)
     pub ends : IsEnd old.tap.log new.tap.log
+    pub counts : KeepsCount old new
 
   pub record CloseStopped (stop : Stop) (old new : PortState) : Type 0 where
     pub path : OpenPath
@@ -178,6 +186,7 @@ module _ (leaf_of : Point → ℕ) (levels : ℕ) where
     pub stopped : Stopped old.clock.config new.clock stop new.tap.log
     pub dummies : new.clock.dummies ≡ old.clock.dummies
     pub real : new.clock.real ≡ old.clock.real
+    pub counts : KeepsCount old new
     pub breaks : (tags : List ℕ) → WriteStops (port_keys old tags) old.tree.stash stop old.tap.log new.tap.log
         (contents old) (contents new) path.start path.leaf.0
 
@@ -208,6 +217,7 @@ module _ (leaf_of : Point → ℕ) (levels : ℕ) where
     pub made : Made Whole [] (event ∷ []) old.memory new.memory old.tap new.tap
     pub log : new.tap.log ≡ with_event old.tap.log event
     pub mirror : new.tap.mirror ≡ old.tap.mirror
+    pub counts : KeepsCount old new
     pub in_slot : (notes leaf : ℕ) → InSlot (notes + 1) levels leaf old → InSlot notes levels leaf new
     pub rests : (notes : ℕ) → Resting (notes + 1) levels old → Resting notes levels new
 
@@ -248,6 +258,7 @@ module _ (leaf_of : Point → ℕ) (levels : ℕ) where
     pub end_is : end ≡ max time new.clock.last
     pub reached : time ≤ new.clock.next
     pub real : new.clock.real ≡ old.clock.real
+    pub counts : KeepsCount old new
     pub passed : (tags : List ℕ) → ArePasses (port_keys old tags) (new.clock.dummies - old.clock.dummies)
         old.tap.log new.tap.log (contents old) (contents new) old.clock.dummies
     pub pace : KeepsPace old.clock.config end new.tap.log
@@ -260,6 +271,7 @@ module _ (leaf_of : Point → ℕ) (levels : ℕ) where
     pub used : Used end old new
     pub stopped : Stopped old.clock.config new.clock stop new.tap.log
     pub real : new.clock.real ≡ old.clock.real
+    pub counts : KeepsCount old new
     pub breaks : (tags : List ℕ) → PassesStop (port_keys old tags) old.tree.stash stop old.tap.log new.tap.log
         (contents old) (contents new) new.clock.next old.clock.dummies
 

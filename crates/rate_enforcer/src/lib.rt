@@ -9,3 +9,6 @@ mod stop;
 pub use clock::Clock;
 pub use laws::{fewer_notes_fit, notes_are_steps};
 pub use port::{OpenSlot, Port};
+
+#[cfg(test)]
+mod tests;

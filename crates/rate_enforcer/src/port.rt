@@ -5,7 +5,7 @@ ghost use Rattle.asc_base.specs.TreeShape.{olat_of};
 ghost use Rattle.asc_base.specs.declared.stop.Stop.{Stop as StopValue};
 ghost use Rattle.asc_base.specs.declared.stop.Stop.TheVariants.{TimeUp, StashFull};
 ghost use Rattle.asc_outside.specs.Memory.{MemoryState};
-ghost use Rattle.bus_watch.specs.Log.{TapState};
+ghost use Rattle.bus_watch.specs.Log.{TapState, LogLists};
 ghost use Rattle.bus_watch.specs.Path.{reads, reads_end};
 ghost use Rattle.bus_watch.specs.Ready.{IsReady};
 ghost use Rattle.bus_watch.specs.RunEnd.{Whole};
@@ -18,6 +18,7 @@ ghost use Rattle.oram_stash.specs.Entries.{held, without};
 ghost use Rattle.unified_tree.specs.Slot.{contents_of};
 ghost use Rattle.unified_tree.specs.Tree.{IsSameTree};
 ghost use Rattle.rate_enforcer.specs.Breaks.{ReadStops, WriteStops, DummyStops, PassesStop};
+ghost use Rattle.rate_enforcer.specs.Counts.{IsCounted};
 ghost use Rattle.rate_enforcer.specs.Clock.{with_dummy, with_real};
 ghost use Rattle.rate_enforcer.specs.PortStep.{PortStep, OpenBreaks, port_of, silent, told, took};
 ghost use Rattle.rate_enforcer.specs.PortStep.{Open, Take, Put, Close, Abort, Join, Idle};
@@ -76,6 +77,8 @@ impl<L: LeafFn> Port<L> {
         ensures config { result.clock.config ≡ config.now }
         ensures last { result.clock.last ≡ 0 }
         ensures dummies { result.clock.dummies ≡ 0 }
+        ensures real { result.clock.real ≡ 0 }
+        ensures counts { (log : LogLists) → log.events ≡ [] → IsCounted result.clock log }
         ensures stop { result.clock.stop ≡ None }
     {
         let learner = Learner::new(config);
@@ -120,6 +123,8 @@ impl<L: LeafFn> Port<L> {
         ensures leaves { self.new.leaves ≡ self.old.leaves }
         ensures kept { IsSameTree self.old.tree self.new.tree }
         ensures config { self.new.clock.config ≡ self.old.clock.config }
+        ensures counts { IsCounted self.old.clock (W.state bus.old.tap.now).log
+            → IsCounted self.new.clock (W.state bus.new.tap.now).log }
         ensures next { self.new.clock.next ≡ self.old.clock.next }
         ensures last { OnOk result (self.new.clock.last ≡ self.old.clock.last) }
         ensures dummies { OnOk result (self.new.clock.dummies ≡ with_dummy asked self.old.clock.dummies) }
@@ -193,6 +198,8 @@ impl<L: LeafFn> Port<L> {
         ensures leaves { self.new.leaves ≡ self.old.leaves }
         ensures kept { IsSameTree self.old.tree self.new.tree }
         ensures config { self.new.clock.config ≡ self.old.clock.config }
+        ensures counts { IsCounted self.old.clock (W.state bus.old.tap.now).log
+            → IsCounted self.new.clock (W.state bus.new.tap.now).log }
         ensures dummies { self.new.clock.dummies ≡ self.old.clock.dummies }
         ensures real { self.new.clock.real ≡ self.old.clock.real }
         ensures rests { (notes : ℕ) → Opens notes self.old.clock slot self.old.tree (L.levels self.old.leaves)
@@ -256,6 +263,8 @@ impl<L: LeafFn> Port<L> {
         ensures leaves { self.new.leaves ≡ self.old.leaves }
         ensures kept { IsSameTree self.old.tree self.new.tree }
         ensures config { self.new.clock.config ≡ self.old.clock.config }
+        ensures counts { IsCounted self.old.clock (W.state bus.old.tap.now).log
+            → IsCounted self.new.clock (W.state bus.new.tap.now).log }
         ensures dummies { OnOk result (self.new.clock.dummies ≡ self.old.clock.dummies + 1) }
         ensures real { self.new.clock.real ≡ self.old.clock.real }
         ensures rests { (notes : ℕ) → Rests notes self.old.clock self.old.tree (L.levels self.old.leaves)
@@ -305,6 +314,8 @@ impl<L: LeafFn> Port<L> {
         ensures leaves { self.new.leaves ≡ self.old.leaves }
         ensures kept { IsSameTree self.old.tree self.new.tree }
         ensures config { self.new.clock.config ≡ self.old.clock.config }
+        ensures counts { IsCounted self.old.clock (W.state bus.old.tap.now).log
+            → IsCounted self.new.clock (W.state bus.new.tap.now).log }
         ensures rests { (notes : ℕ) → Rests notes self.old.clock self.old.tree (L.levels self.old.leaves)
             (M.state bus.old.memory.now) (W.state bus.old.tap.now)
             → OnOk result (Rests notes self.new.clock self.new.tree (L.levels self.new.leaves)
@@ -357,6 +368,8 @@ impl<L: LeafFn> Port<L> {
         ensures leaves { self.new.leaves ≡ self.old.leaves }
         ensures kept { IsSameTree self.old.tree self.new.tree }
         ensures config { self.new.clock.config ≡ self.old.clock.config }
+        ensures counts { IsCounted self.old.clock (W.state bus.old.tap.now).log
+            → IsCounted self.new.clock (W.state bus.new.tap.now).log }
         ensures opens { (notes : ℕ) → Rests notes self.old.clock self.old.tree (L.levels self.old.leaves)
             (M.state bus.old.memory.now) (W.state bus.old.tap.now)
             → IfOk result (λ slot. Opens (notes + 3) self.new.clock slot self.new.tree (L.levels self.new.leaves)
@@ -433,6 +446,8 @@ impl<L: LeafFn> Port<L> {
         ensures leaves { self.new.leaves ≡ self.old.leaves }
         ensures kept { IsSameTree self.old.tree self.new.tree }
         ensures config { self.new.clock.config ≡ self.old.clock.config }
+        ensures counts { IsCounted self.old.clock (W.state bus.old.tap.now).log
+            → IsCounted self.new.clock (W.state bus.new.tap.now).log }
         ensures rests { (notes : ℕ) → Rests notes self.old.clock self.old.tree (L.levels self.old.leaves)
             (M.state bus.old.memory.now) (W.state bus.old.tap.now)
             → OnOk result (Rests notes self.new.clock self.new.tree (L.levels self.new.leaves)

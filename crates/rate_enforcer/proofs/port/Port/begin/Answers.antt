@@ -17,6 +17,8 @@ use Rattle.rate_enforcer.proofs.StateLaws.{begun, ready_begun, opened, no_room, 
 use Rattle.rate_enforcer.proofs.StateLaws.{few_dummies, few_real}
 use Rattle.rate_enforcer.proofs.Breaks.{moves_read, read_breaks, same_contents}
 use Rattle.rate_enforcer.proofs.Contents.{two_events, slot_read}
+use Rattle.rate_enforcer.proofs.Counted.{counted_begun}
+use Rattle.rate_enforcer.proofs.Breaks.{read_silent}
 use Rattle.rate_enforcer.proofs.port.Port.begin.Goals as goal
 
 pub returns-in-Err-clause-ran_err : goal.returns-in-Err-clause-ran_err
@@ -172,3 +174,28 @@ returns-in-Err-read_path-clause-breaks g c tags =
     c.note.ensures.log c.note-2.ensures.log (c.note-2.ensures.mirror ∙ c.note.ensures.mirror)
     c.read_path.ensures.mirror c.in-Err-read_path.stop c.read_path.ensures.gains c.in-Err-read_path.ensures.ran
     c.in-Err-read_path.ensures.read))
+
+pub returns-in-Err-read_path-clause-counts : goal.returns-in-Err-read_path-clause-counts
+returns-in-Err-read_path-clause-counts g c counted =
+    let t = g.W.Watch.state in
+    let clock = c.args.self.now.clock in
+    let is = c.stop_at-in-Err-read_path.ensures.clock in
+    counted_begun clock c.stop_at-in-Err-read_path.new.self.clock (t c.args.bus.now.tap.now).log
+    (t c.read_path.new.bus.tap.now).log clock.next (g.L.LeafFn.leaf_of c.args.self.now.leaves c.args.point) c.args.asked
+    c.args.point
+    (two_events (t c.args.bus.now.tap.now) (t c.note.new.self.tap.now) (t c.note-2.new.self.tap.now)
+    (t c.read_path.new.bus.tap.now) clock.next c.args.asked c.args.point c.leaf-leaf.result _
+    c.leaf-leaf.ensures.value c.note.ensures.log c.note-2.ensures.log
+    (read_silent g.M.UntrustedMemory.state t c.note-2.new.self c.read_path.new.bus clock.next c.leaf-leaf.result.0
+    c.room.new.self c.read_path.new.self c.in-Err-read_path.stop c.in-Err-read_path.ensures.ran))
+    (ap (λ (x : Clock). x.dummies) is ∙ ap (λ (x : Clock). x.dummies) c.count.ensures)
+    (ap (λ (x : Clock). x.real) is ∙ ap (λ (x : Clock). x.real) c.count.ensures) counted
+
+pub returns-in-Ok-read_path-clause-counts : goal.returns-in-Ok-read_path-clause-counts
+returns-in-Ok-read_path-clause-counts g c counted =
+    let t = g.W.Watch.state in
+    let clock = c.args.self.now.clock in
+    counted_begun clock c.count.new.self (t c.args.bus.now.tap.now).log (t c.read_path.new.bus.tap.now).log clock.next
+    (g.L.LeafFn.leaf_of c.args.self.now.leaves c.args.point) c.args.asked c.args.point
+    (returns-in-Ok-read_path-clause-noted g c) (ap (λ (x : Clock). x.dummies) c.count.ensures)
+    (ap (λ (x : Clock). x.real) c.count.ensures) counted

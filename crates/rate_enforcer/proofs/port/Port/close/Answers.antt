@@ -27,6 +27,7 @@ use Rattle.rate_enforcer.specs.Breaks.{WriteStops}
 use Rattle.rate_enforcer.proofs.Breaks.{write_breaks}
 use Rattle.rate_enforcer.specs.Served.{keys_of}
 use Rattle.rate_enforcer.proofs.Steps.{of_slot, used_so, kept_as}
+use Rattle.rate_enforcer.proofs.Counted.{counted_ended, counted_still, stop_silent}
 use Rattle.rate_enforcer.proofs.port.Port.close.Goals as goal
 
 one_choice : (choice : Option ℕ) → length (chosen_events choice) ≤ 1
@@ -162,6 +163,23 @@ returns-in-Err-clause-breaks g c tags =
     c.write_path.new.self c.args.slot.start c.args.slot.leaf.0 c.in-Err.stop c.write_path.ensures.altered
     c.in-Err.ensures.hand_err c.in-Err.ensures.ran c.in-Err.ensures.full c.in-Err.ensures.refused))
 
+pub returns-in-Ok-clause-counts : goal.returns-in-Ok-clause-counts
+returns-in-Ok-clause-counts g c counted =
+    let t = g.W.Watch.state in
+    let is = c.end_slot.ensures.clock in
+    counted_ended c.args.self.now.clock c.end_slot.new.self (t c.args.bus.now.tap.now).log
+    (t c.end_slot.new.bus.tap.now).log (returns-in-Ok-clause-ended g c) (ap (λ (x : Clock). x.dummies) is)
+    (ap (λ (x : Clock). x.real) is) counted
+
+pub returns-in-Err-clause-counts : goal.returns-in-Err-clause-counts
+returns-in-Err-clause-counts g c counted =
+    let t = g.W.Watch.state in
+    let is = c.stop_at.ensures.clock in
+    counted_still c.args.self.now.clock c.stop_at.new.self.clock (t c.args.bus.now.tap.now).log
+    (t c.write_path.new.bus.tap.now).log
+    (stop_silent _ _ c.stop_of-stop.result _ _ _ _ _ _ (returns-in-Err-clause-breaks g c []))
+    (ap (λ (x : Clock). x.dummies) is) (ap (λ (x : Clock). x.real) is) counted
+
 pub returns-in-Ok-clause-step : goal.returns-in-Ok-clause-step
 returns-in-Ok-clause-step g c =
     let clock = c.args.self.now.clock in
@@ -182,6 +200,7 @@ returns-in-Ok-clause-step g c =
         real = ap (λ (x : Clock). x.real) is;
         written = returns-in-Ok-clause-written g c;
         ends = returns-in-Ok-clause-ended g c;
+        counts = returns-in-Ok-clause-counts g c;
       },
     )
 
@@ -204,5 +223,6 @@ returns-in-Err-clause-step g c =
       stopped = returns-in-Err-clause-stopped g c;
       dummies = ap (λ (x : Clock). x.dummies) is;
       real = ap (λ (x : Clock). x.real) is;
+      counts = returns-in-Err-clause-counts g c;
       breaks = returns-in-Err-clause-breaks g c;
     }

@@ -29,6 +29,7 @@ returns-in-Err-clause-step g c =
           c.args.self.now.clock c.pass_until.new.self.clock c.args.self.now.tree c.pass_until.new.self.tree ran.ran;
       stopped = c.in-Err.ensures.stopped;
       real = c.pass_until.ensures.real;
+      counts = c.pass_until.ensures.counts;
       breaks = c.in-Err.ensures.breaks;
     })
 
@@ -48,6 +49,7 @@ returns-clause-step g c =
         end_is = is;
         reached = c.in-Ok.ensures.reached;
         real = c.pass_until.ensures.real;
+        counts = c.pass_until.ensures.counts;
         passed = c.in-Ok.ensures.passed;
         pace = returns-clause-pace g c;
       },

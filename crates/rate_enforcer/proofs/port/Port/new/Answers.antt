@@ -3,6 +3,9 @@ use Rattle.epoch_learner.specs.Learner.{learner_at_start}
 use Rattle.epoch_learner.specs.declared.Learner.{Learner}
 use Rattle.rate_enforcer.specs.declared.clock.Clock.{Clock}
 use Rattle.rate_enforcer.proofs.StateLaws.{fresh}
+use Rattle.std.proofs.Common.{sym}
+use Rattle.std.specs.List.{count_by}
+use Rattle.rate_enforcer.specs.Counts.{is_dummy, is_real}
 use Rattle.rate_enforcer.proofs.port.Port.new.Goals as goal
 
 pub returns-clause-rests : goal.returns-clause-rests
@@ -22,3 +25,9 @@ returns-clause-rests g c notes left memory tap events moves enough room =
     fresh notes left _ config _ c.args.tree memory tap r.config
     (ap (λ x. make x c.from.result) c.new-learner.ensures.start ∙ ap (λ n. make (learner_at_start config) n) next)
     events moves enough room r.shape r.stash r.hand r.seed r.path r.levels
+
+pub returns-clause-counts : goal.returns-clause-counts
+returns-clause-counts g c log none = record {
+  dummies = ap (count_by is_dummy) (sym none);
+  real = ap (count_by is_real) (sym none);
+}

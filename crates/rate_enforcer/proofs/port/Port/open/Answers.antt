@@ -156,6 +156,7 @@ returns-in-Err-clause-step g c =
       used = used_so g.M.UntrustedMemory.state g.W.Watch.state c.args.bus.now c.pass_until.new.bus
           c.args.self.now.clock c.pass_until.new.self.clock c.args.self.now.tree c.pass_until.new.self.tree ran.ran;
       stopped = c.in-Err.ensures.stopped;
+      counts = c.pass_until.ensures.counts;
       breaks = returns-in-Err-clause-breaks g c none;
     })
 
@@ -176,6 +177,9 @@ returns-then-self-clause-step g c =
           c.args.self.now.clock (record now.clock { stop = Some (TimeUp now.clock.next) }) c.args.self.now.tree
           now.tree c.in-Ok.ensures.ran;
       stopped = returns-then-self-clause-stopped g c none;
+      counts = λ counted.
+          let k = c.pass_until.ensures.counts counted in
+          record { dummies = k.dummies; real = k.real };
       breaks = returns-then-self-clause-breaks g c none;
     })
 
@@ -224,6 +228,7 @@ returns-in-Err-begin-clause-step g c =
           c.args.self.now.clock c.begin.new.self.clock c.args.self.now.tree c.begin.new.self.tree ran.ran;
       stopped = subst (λ (x : Config). Stopped x c.begin.new.self.clock c.in-Err-begin.stop
           (g.W.Watch.state c.begin.new.bus.tap.now).log) config c.in-Err-begin.ensures.stopped;
+      counts = λ counted. c.begin.ensures.counts (c.pass_until.ensures.counts counted);
       breaks = returns-in-Err-begin-clause-breaks g c none;
     })
 
@@ -257,6 +262,7 @@ returns-clause-step g c =
         };
         first = returns-clause-asked g c;
         served = returns-clause-read g c;
+        counts = λ counted. c.begin.ensures.counts (c.pass_until.ensures.counts counted);
         real = c.in-Ok-begin.ensures.real ∙ ap (λ n. n + 1) c.pass_until.ensures.real;
       },
     )

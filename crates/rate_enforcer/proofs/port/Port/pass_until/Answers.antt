@@ -19,6 +19,7 @@ loop-self-init g c = record {
   rests = λ notes r. r;
   last = omega arith;
   more = omega arith;
+  counts = λ counted. counted;
   real = refl;
   passed = λ tags. subst (λ k. ArePasses (keys_of c.args.self.now.tree tags (g.L.LeafFn.leaf_of c.args.self.now.leaves))
       k (g.W.Watch.state c.args.bus.now.tap.now).log (g.W.Watch.state c.args.bus.now.tap.now).log
@@ -52,6 +53,7 @@ loop-self-preserved g c =
     ) in
     record {
       more = omega (arith, i.more, o.dummies);
+      counts = λ counted. d.counts (i.counts counted);
       real = d.real ∙ i.real;
       passed = λ tags. dummies_more c.args.self.now.tree c.loop-self.self.tree c.dummy.new.self.tree tags
           (g.L.LeafFn.leaf_of c.args.self.now.leaves) c.loop-self.self.clock.next c.args.self.now.clock.dummies
@@ -98,3 +100,6 @@ returns-in-Err-clause-breaks g c tags =
     c.in-Err.stop now.clock.next c.dummy.new.self.clock.next c.args.self.now.clock.dummies now.clock.dummies
     (t c.args.bus.now.tap.now) (t c.loop-self.bus.tap.now) (t c.dummy.new.bus.tap.now) i.kept i.more
     c.in-Err.ensures.next_err (i.passed tags) stops
+
+pub returns-in-Err-clause-counts : goal.returns-in-Err-clause-counts
+returns-in-Err-clause-counts g c counted = c.dummy.ensures.counts (c.loop-self.invariant.counts counted)

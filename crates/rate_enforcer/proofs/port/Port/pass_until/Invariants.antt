@@ -5,6 +5,7 @@ use Rattle.oram_contents.specs.Slots.{ArePasses}
 use Rattle.unified_tree.specs.Slot.{contents_of}
 use Rattle.rate_enforcer.specs.Served.{keys_of}
 use Rattle.unified_tree.specs.Tree.{IsSameTree}
+use Rattle.rate_enforcer.specs.Counts.{IsCounted}
 use Rattle.rate_enforcer.specs.State.{Rests}
 use Rattle.rate_enforcer.specs.Stops.{RanTo}
 use Rattle.rate_enforcer.proofs.port.Port.pass_until.Given as goal
@@ -22,6 +23,7 @@ invariant-loop-self g l =
           (g.L.LeafFn.levels l.self.leaves) (m l.bus.memory.now) (t l.bus.tap.now);
       last : l.self.clock.last < max l.fn.self.clock.last l.time + olat_of l.fn.self.clock.config.shape.levels;
       more : l.fn.self.clock.dummies ≤ l.self.clock.dummies;
+      counts : IsCounted l.fn.self.clock (t l.fn.bus.tap.now).log → IsCounted l.self.clock (t l.bus.tap.now).log;
       real : l.self.clock.real ≡ l.fn.self.clock.real;
       passed : (tags : List ℕ) → ArePasses (keys_of l.fn.self.tree tags (g.L.LeafFn.leaf_of l.fn.self.leaves))
           (l.self.clock.dummies - l.fn.self.clock.dummies) (t l.fn.bus.tap.now).log (t l.bus.tap.now).log

@@ -1,0 +1,109 @@
+-- What a slot adds to the starts that are counted.
+use Rattle.std.proofs.Common.{◌≡◌, ◌+◌, ◌++◌, ◌⊎◌, ℕ, List, [], ◌∷◌, Option, None, Some, Bool, cond, sym}
+use Rattle.std.proofs.Common.{ap, ◌∙◌, inl, inr, arith, append-nil}
+use Rattle.std.proofs.lemmas.List.Sums.{sum_by-append}
+use Rattle.std.specs.List.{count_by}
+use Rattle.asc_base.specs.declared.block.Point.{Point}
+use Rattle.asc_base.specs.declared.stop.Evidence.{Evidence}
+use Rattle.asc_base.specs.declared.stop.Stop.{Stop}
+use Rattle.asc_base.specs.declared.stop.Stop.TheVariants.{Integrity, StashFull, TimeUp, Device, NoMemory}
+use Rattle.bus_watch.specs.declared.log.Event.{Event}
+use Rattle.bus_watch.specs.declared.log.Event.TheVariants.{Access, Drawn, Tagged, Accepted, Chosen, Answered}
+use Rattle.bus_watch.specs.Log.{LogLists, with_event}
+use Rattle.oram_contents.specs.Contents.{Contents}
+use Rattle.oram_contents.specs.Entries.{Keys}
+use Rattle.oram_contents.specs.Slots.{IsEnd}
+use Rattle.rate_enforcer.specs.Breaks.{WriteStops}
+use Rattle.rate_enforcer.specs.Clock.{with_dummy, with_real}
+use Rattle.rate_enforcer.specs.Counts.{is_dummy, is_real, IsCounted}
+use Rattle.rate_enforcer.specs.PortStep.{IsNote}
+use Rattle.rate_enforcer.specs.Served.{begin_events}
+use Rattle.rate_enforcer.specs.declared.clock.Clock.{Clock}
+
+count_more : (p : Event → Bool) (events more : List Event)
+    → count_by p (events ++ more) ≡ count_by p events + count_by p more
+count_more p events more = sum_by-append (λ x. cond (p x) 1 0) events more
+
+-- a slot that begins
+pub counted_begun : (clock clock' : Clock) (old new : LogLists) (start leaf : ℕ) (asked : Option ℕ) (point : Point)
+    → new.events ≡ old.events ++ begin_events start asked point leaf
+    → clock'.dummies ≡ with_dummy asked clock.dummies → clock'.real ≡ with_real asked clock.real
+    → IsCounted clock old → IsCounted clock' new
+counted_begun clock clock' old new start leaf None point events dummies real c =
+    let more = begin_events start None point leaf in
+    record {
+      dummies = dummies ∙ ap (λ n. n + 1) c.dummies ∙ sym (count_more is_dummy old.events more)
+          ∙ ap (count_by is_dummy) (sym events);
+      real = omega (arith, real, c.real, count_more is_real old.events more, ap (count_by is_real) events);
+    }
+counted_begun clock clock' old new start leaf (Some time) point events dummies real c =
+    let more = begin_events start (Some time) point leaf in
+    record {
+      dummies = omega (arith, dummies, c.dummies, count_more is_dummy old.events more, ap (count_by is_dummy) events);
+      real = omega (arith, real, c.real, count_more is_real old.events more, ap (count_by is_real) events);
+    }
+
+-- nothing is noted
+pub counted_still : (clock clock' : Clock) (old new : LogLists) → new.events ≡ old.events
+    → clock'.dummies ≡ clock.dummies → clock'.real ≡ clock.real → IsCounted clock old → IsCounted clock' new
+counted_still clock clock' old new events dummies real c = record {
+  dummies = dummies ∙ c.dummies ∙ ap (count_by is_dummy) (sym events);
+  real = real ∙ c.real ∙ ap (count_by is_real) (sym events);
+}
+
+-- or one event that begins no slot
+counted_other : (clock clock' : Clock) (old new : LogLists) (event : Event) → new.events ≡ old.events ++ event ∷ []
+    → count_by is_dummy (event ∷ []) ≡ 0 → count_by is_real (event ∷ []) ≡ 0
+    → clock'.dummies ≡ clock.dummies → clock'.real ≡ clock.real → IsCounted clock old → IsCounted clock' new
+counted_other clock clock' old new event events no_dummy no_real dummies real c = record {
+  dummies = omega (
+    arith,
+    dummies,
+    c.dummies,
+    count_more is_dummy old.events (event ∷ []),
+    ap (count_by is_dummy) events,
+    no_dummy,
+  );
+  real = omega (
+    arith,
+    real,
+    c.real,
+    count_more is_real old.events (event ∷ []),
+    ap (count_by is_real) events,
+    no_real,
+  );
+}
+
+pub counted_ended : (clock clock' : Clock) (old new : LogLists) → IsEnd old new → clock'.dummies ≡ clock.dummies
+    → clock'.real ≡ clock.real → IsCounted clock old → IsCounted clock' new
+counted_ended clock clock' old new ended dummies real c = elim ended.events [
+  | inl same ↦ counted_still clock clock' old new same dummies real c
+  | inr more ↦ counted_other clock clock' old new (Chosen more.0) more.1 (omega arith) (omega arith) dummies real c
+]
+
+pub counted_note : (clock : Clock) (old new : LogLists) (event : Event) → IsNote event → new ≡ with_event old event
+    → IsCounted clock old → IsCounted clock new
+counted_note clock old new event note is c = by event note (ap (λ (x : LogLists). x.events) is)
+  where
+    by : (event : Event) → IsNote event → new.events ≡ old.events ++ event ∷ [] → IsCounted clock new
+    by (Access start asked) note events = absurd note
+    by (Drawn point leaf) note events = absurd note
+    by (Tagged message) note events =
+        counted_other clock clock old new (Tagged message) events (omega arith) (omega arith) (omega arith)
+        (omega arith) c
+    by (Accepted message tag) note events =
+        counted_other clock clock old new (Accepted message tag) events (omega arith) (omega arith) (omega arith)
+        (omega arith) c
+    by (Chosen index) note events = absurd note
+    by (Answered line value) note events =
+        counted_other clock clock old new (Answered line value) events (omega arith) (omega arith) (omega arith)
+        (omega arith) c
+
+-- a write that stops notes nothing
+pub stop_silent : (keys : Keys) (stash : ℕ) (stop : Stop) (old new : LogLists) (now after : Contents)
+    (start leaf : ℕ) → WriteStops keys stash stop old new now after start leaf → new.events ≡ old.events
+stop_silent keys stash (Integrity evidence) old new now after start leaf w = absurd w
+stop_silent keys stash (StashFull held) old new now after start leaf w = ap (λ (x : LogLists). x.events) w.log
+stop_silent keys stash (TimeUp at) old new now after start leaf w = absurd w
+stop_silent keys stash Device old new now after start leaf w = w.adds.events_are ∙ append-nil old.events
+stop_silent keys stash NoMemory old new now after start leaf w = w.adds.events_are ∙ append-nil old.events
