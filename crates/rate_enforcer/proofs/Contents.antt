@@ -1,12 +1,20 @@
 -- What a port's slots make of the contents, over plain trees and taps.
-use Rattle.std.proofs.Common.{◌≡◌, ◌<◌, ◌≤◌, ◌+◌, ◌-◌, ◌^◌, ◌++◌, ℕ, suc, List, [], ◌∷◌, Option, None}
-use Rattle.std.proofs.Common.{Ok, refl, sym, ap, subst, ◌∙◌, arith, append_assoc, append-nil}
+use Rattle.std.proofs.Common.{◌≡◌, ◌<◌, ◌≤◌, ◌+◌, ◌-◌, ◌^◌, ◌++◌, ℕ, suc, List, [], ◌∷◌, Option, None, map}
+use Rattle.std.specs.Option.{IsSome}
+use Rattle.std.proofs.Common.{Some, ◌↔◌, length, length-append, nat_lt, false, Ok, refl, sym, ap, subst, ◌∙◌, arith, append_assoc, append-nil}
+use Rattle.asc_base.specs.declared.block.Entry.{Entry}
 use Rattle.asc_base.specs.declared.block.Leaf.{Leaf}
 use Rattle.asc_base.specs.declared.block.Point.{Point}
 use Rattle.asc_base.specs.declared.block.Point.TheVariants.{Dummy}
 use Rattle.asc_base.specs.declared.shape.Shape.{Shape}
 use Rattle.bus_watch.specs.declared.log.Event.TheVariants.{Access, Drawn}
 use Rattle.bus_watch.specs.Log.{LogLists, TapState, with_event}
+use Rattle.bucket_codec.specs.Bucket.{opened}
+use Rattle.oram_contents.proofs.Joined.{buckets-apart}
+use Rattle.oram_contents.specs.PathRead.{path_read}
+use Rattle.asc_base.specs.declared.block.Address.{Address}
+use Rattle.oram_contents.specs.Verdict.{append_verdict}
+use Rattle.oram_stash.specs.Entries.{AreApart, held}
 use Rattle.oram_contents.specs.Contents.{Contents, after_write}
 use Rattle.oram_contents.specs.Entries.{Keys}
 use Rattle.oram_contents.specs.Shapes.{AreOfShape}
@@ -99,3 +107,23 @@ dummies_more old mid new tags leaf_of start d0 d d' t t2 t3 kept less is seeds b
     (subst (λ k. IsDummy k t2.log t3.log (contents_of mid t2) (contents_of new t3) start d) same one) in
     subst (λ k. ArePasses keys k t.log t3.log (contents_of old t) (contents_of new t3) d0) (sym number)
     (t2.log, contents_of mid t2, start, before, seeds, one2)
+
+-- a path's read without evidence leaves addresses that differ
+pub read_apart : (key : List ℕ) (shape : Shape) (leaf : ℕ) (texts : List (List ℕ)) (hand joined : List Entry)
+    → path_read key shape leaf texts hand ≡ Ok joined → AreApart hand → AreApart joined
+read_apart key shape leaf texts hand joined is apart =
+    buckets-apart shape.levels leaf 0 (map (opened key shape) texts) hand joined is apart
+
+-- where a hand takes an entry, none of its address was there
+pub was_absent : {A : Type 0} (found : Option Entry) → (A ↔ IsSome found) → (A → ⊥) → found ≡ None
+was_absent None refused taken = refl
+was_absent (Some entry) refused taken = absurd (taken (refused.1 refl))
+
+-- and nothing is wrong where it then has room
+pub append_right : (stash : ℕ) (address : Address) (hand joined : List Entry) (entry : Entry)
+    → held hand address ≡ None → joined ≡ hand ++ entry ∷ [] → length joined ≤ stash
+    → append_verdict stash address hand ≡ None
+append_right stash address hand joined entry absent is few =
+    let more : length joined ≡ length hand + 1 = ap length is ∙ length-append hand (entry ∷ []) in
+    let no : nat_lt stash (length hand + 1) ≡ false = grind arith in
+    rw absent (rw no refl)

@@ -29,6 +29,8 @@ use Rattle.epoch_learner.specs.Stands.{Stands, StandsIn, KeepsPace, IsFirstFor, 
 use Rattle.epoch_learner.specs.declared.Learner.{Learner}
 use Rattle.unified_tree.specs.Cut.{CutRead, CutWrite}
 use Rattle.unified_tree.specs.Stops.{IfRead, IfWritten}
+use Rattle.oram_stash.proofs.Apart.{AreApart-nil}
+use Rattle.oram_stash.specs.Entries.{AreApart}
 use Rattle.unified_tree.specs.Tree.{TreeState, IsSameTree}
 use Rattle.unified_tree.specs.declared.stop.TreeStop.{TreeStop}
 use Rattle.unified_tree.specs.declared.stop.TreeStop.TheVariants as tree
@@ -118,11 +120,11 @@ pub opened : {notes : ℕ} {clock : Clock} {asked : Option ℕ} {m0 m m' : Memor
     → leaf.0 < 2 ^ levels → shape ≡ clock.config.shape
     → Made Whole (reads shape.levels clock.next leaf.0) [] m m' t t' → IsSameTree tree tree'
     → tree'.seed ≡ tree.seed → tree'.path ≡ Some (record { start = clock.next; leaf = leaf })
-    → dummies ≤ clock.next → real ≤ clock.next
+    → dummies ≤ clock.next → real ≤ clock.next → AreApart tree'.hand
     → Opens (notes + 3) (record clock { learner = learner; dummies = dummies; real = real })
     (record { start = clock.next; leaf = leaf }) tree' levels m' t'
 opened {notes} {clock} {asked} {m0} {m} {m'} {t0} {t} {t'} {tree} {levels} tree' leaf learner dummies real shape r early
-    is b inside shape_is made kept seed path few_dummies few_real =
+    is b inside shape_is made kept seed path few_dummies few_real apart =
     let l = clock.config.shape.levels in
     let read = subst (λ (s : Shape). Made Whole (reads s.levels clock.next leaf.0) [] m m' t t') shape_is made in
     record {
@@ -149,6 +151,7 @@ opened {notes} {clock} {asked} {m0} {m} {m'} {t0} {t} {t'} {tree} {levels} tree'
         stash = kept.stash ∙ r.is_for.stash;
         levels_are = r.is_for.levels_are;
         seed = omega (arith, seed, r.is_for.seed);
+        apart = apart;
       };
     }
 
@@ -429,9 +432,9 @@ pub rested : {notes levels : ℕ} {clock : Clock} {m m' m'' : MemoryState} {t t'
     → length events ≤ 1 → Made Whole [] events m' m'' t' t''
     → clock' ≡ record clock { last = end; next = clock'.next; learner = clock'.learner }
     → IsSameTree tree tree' → tree'.seed ≡ tree.seed + (tree.shape.levels + 1) → tree'.path ≡ None
-    → length tree'.hand ≤ tree.stash → Rests notes clock' tree' levels m'' t''
+    → length tree'.hand ≤ tree.stash → AreApart tree'.hand → Rests notes clock' tree' levels m'' t''
 rested {notes} {levels} {clock} {m} {m'} {m''} {t} {t'} {t''} slot tree tree' clock' end events o made end_is stands one
-    noted is kept seed path few =
+    noted is kept seed path few differ =
     let l = clock.config.shape.levels in
     let levels_are : tree.shape.levels ≡ l = ap (λ (s : Shape). s.levels) o.is_for.shape in
     let apart = (stands_apart stands).0 in
@@ -459,6 +462,7 @@ rested {notes} {levels} {clock} {m} {m'} {m''} {t} {t'} {t''} slot tree tree' cl
         stash = kept.stash ∙ o.is_for.stash;
         levels_are = o.is_for.levels_are;
         seed = omega (arith, seed, levels_are, o.is_for.seed, end_is, o.is_open.starts, apart);
+        apart = differ;
       };
       path = path;
       few = omega (arith, few, o.is_for.stash);
@@ -549,6 +553,7 @@ fresh notes left levels config clock tree m t is_config is events moves enough r
         stash = stash;
         levels_are = levels_are;
         seed = omega (arith, seed, apart);
+        apart = subst AreApart (sym hand) AreApart-nil;
       };
       path = path;
       few = let none : length tree.hand ≡ 0 = ap length hand in omega (arith, none);
@@ -567,8 +572,8 @@ started old asked time last olat past late in_time = omega arith
 -- a slot whose tree was changed at hand alone
 pub hand_changed : {notes levels : ℕ} {clock : Clock} {slot : OpenSlot} {tree : TreeState} {m : MemoryState}
     {t : TapState} (tree' : TreeState) → IsSameTree tree tree' → tree'.seed ≡ tree.seed → tree'.path ≡ tree.path
-    → Opens notes clock slot tree levels m t → Opens notes clock slot tree' levels m t
-hand_changed tree' kept seed path o = record {
+    → AreApart tree'.hand → Opens notes clock slot tree levels m t → Opens notes clock slot tree' levels m t
+hand_changed tree' kept seed path apart o = record {
   going = o.going;
   is_open = record {
     is_config = o.is_open.is_config;
@@ -589,14 +594,15 @@ hand_changed tree' kept seed path o = record {
     stash = kept.stash ∙ o.is_for.stash;
     levels_are = o.is_for.levels_are;
     seed = omega (arith, seed, o.is_for.seed);
+    apart = apart;
   };
 }
 
 pub hand_grown : {notes levels : ℕ} {clock : Clock} {tree : TreeState} {m : MemoryState} {t : TapState}
     (tree' : TreeState) → IsSameTree tree tree' → tree'.seed ≡ tree.seed → tree'.path ≡ tree.path
-    → length tree'.hand ≤ clock.config.stash → Rests notes clock tree levels m t
+    → length tree'.hand ≤ clock.config.stash → AreApart tree'.hand → Rests notes clock tree levels m t
     → Rests notes clock tree' levels m t
-hand_grown tree' kept seed path few r = record {
+hand_grown tree' kept seed path few apart r = record {
   going = r.going;
   done = r.done;
   stands = r.stands;
@@ -611,6 +617,7 @@ hand_grown tree' kept seed path few r = record {
     stash = kept.stash ∙ r.is_for.stash;
     levels_are = r.is_for.levels_are;
     seed = omega (arith, seed, r.is_for.seed);
+    apart = apart;
   };
   path = path ∙ r.path;
   few = few;

@@ -11,18 +11,20 @@ use Rattle.bus_watch.specs.Log.{TapState, LogLists}
 use Rattle.bus_watch.specs.Path.{reads}
 use Rattle.bus_watch.specs.Ready.{IsReady}
 use Rattle.epoch_learner.specs.Stands.{Stands, StandsIn, KeepsPace}
+use Rattle.oram_stash.specs.Entries.{AreApart}
 use Rattle.unified_tree.specs.Tree.{TreeState}
 use Rattle.rate_enforcer.specs.Stops.{EndsAt}
 use Rattle.rate_enforcer.specs.declared.clock.Clock.{Clock}
 use Rattle.rate_enforcer.specs.declared.port.OpenSlot.{OpenSlot}
 
 -- A tree is made for a clock's configuration, and so is a leaf function with so many levels; fewer seeds were used than
--- cycles passed.
+-- cycles passed. Addresses at hand differ.
 pub record IsFor (clock : Clock) (tree : TreeState) (levels : ℕ) : Type 0 where
   pub shape : tree.shape ≡ clock.config.shape
   pub stash : tree.stash ≡ clock.config.stash
   pub levels_are : levels ≡ clock.config.shape.levels
   pub seed : tree.seed ≤ clock.next
+  pub apart : AreApart tree.hand
 
 -- Between two slots: the learner and the log stand where the timetable does, no path is open, and the bus has room for
 -- all slots that start before the time of the settings, with six events each, and for so many events more.

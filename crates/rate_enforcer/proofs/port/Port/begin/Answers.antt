@@ -13,6 +13,8 @@ use Rattle.rate_enforcer.specs.Clock.{with_dummy, with_real}
 use Rattle.rate_enforcer.specs.State.{Opens, Stopped}
 use Rattle.rate_enforcer.specs.Stops.{RanStop}
 use Rattle.rate_enforcer.specs.declared.clock.Clock.{Clock}
+use Rattle.oram_stash.specs.Entries.{AreApart}
+use Rattle.rate_enforcer.proofs.Contents.{read_apart}
 use Rattle.rate_enforcer.proofs.StateLaws.{begun, ready_begun, opened, no_room, read_stops, read_stopped}
 use Rattle.rate_enforcer.proofs.StateLaws.{few_dummies, few_real}
 use Rattle.rate_enforcer.proofs.Breaks.{moves_read, read_breaks, same_contents}
@@ -65,7 +67,9 @@ returns-in-Ok-read_path-clause-opens g c notes rests =
     c.saw.ensures.after b c.leaf-leaf.ensures.below (one.shape ∙ rests.is_for.shape) c.in-Ok-read_path.ensures.ran.made
     kept (c.read_path.ensures.seed ∙ c.room.ensures.seed) c.in-Ok-read_path.ensures.path
     (few_dummies c.args.asked clock.dummies clock.next rests.dummies)
-    (few_real c.args.asked clock.real clock.next rests.real))
+    (few_real c.args.asked clock.real clock.next rests.real)
+    (read_apart c.room.new.self.key c.room.new.self.shape c.leaf-leaf.result.0 _ c.room.new.self.hand
+    c.read_path.new.self.hand c.in-Ok-read_path.ensures.read.says (subst AreApart (sym c.room.ensures.hand) rests.is_for.apart)))
 
 pub returns-in-Ok-read_path-clause-ran : goal.returns-in-Ok-read_path-clause-ran
 returns-in-Ok-read_path-clause-ran g c =

@@ -21,6 +21,9 @@ use Rattle.bus_watch.specs.declared.log.Event.{Event}
 use Rattle.bus_watch.specs.declared.log.Event.TheVariants.{Chosen}
 use Rattle.oram_contents.specs.Contents.{Contents}
 use Rattle.unified_tree.proofs.Slots.{write_is}
+use Rattle.oram_contents.specs.PathWritten.{places_of}
+use Rattle.oram_stash.proofs.Apart.{AreApart-where_placed}
+use Rattle.oram_stash.specs.Entries.{AreApart}
 use Rattle.unified_tree.specs.Slot.{contents_of}
 use Rattle.unified_tree.specs.Tree.{TreeState}
 use Rattle.rate_enforcer.specs.Breaks.{WriteStops}
@@ -66,6 +69,9 @@ returns-in-Ok-clause-rests g c notes o =
     (at_end c.args.slot c.args.self.now.tree o c.in-Ok.ensures.ran.made))
     (one_choice (choice_by_sums clock.learner end)) c.end_slot.ensures.ran.made c.end_slot.ensures.clock
     c.write_path.ensures.kept c.in-Ok.ensures.seed c.in-Ok.ensures.path c.in-Ok.ensures.few
+    (subst AreApart (sym c.in-Ok.ensures.hand) (AreApart-where_placed _
+    (places_of c.args.self.now.tree.shape.levels c.args.slot.leaf.0 c.args.self.now.tree.hand) c.args.self.now.tree.hand
+    o.is_for.apart))
 
 pub returns-in-Ok-clause-next : goal.returns-in-Ok-clause-next
 returns-in-Ok-clause-next g c =
