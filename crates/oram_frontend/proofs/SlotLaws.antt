@@ -1,7 +1,7 @@
 -- What an answered access leaves, from the port's calls that it is made of.
-use Rattle.std.proofs.Common.{◌≡◌, ◌+◌, ◌-◌, ◌++◌, ◌⊎◌, ◌≤◌, ℕ, zero, suc, List, [], ◌∷◌, Option, None, Some, Result, Ok, Err, length, All}
+use Rattle.std.proofs.Common.{◌≡◌, ◌+◌, ◌-◌, ◌++◌, ◌≤◌, ℕ, zero, suc, List, [], ◌∷◌, Option, None, Some, Ok, length, All}
 use Rattle.std.proofs.Common.{refl, sym, ap, ◌∙◌, subst, arith, append-nil, append_assoc}
-use Rattle.request_plan.specs.Plan.{Ends, Done, Ask, Gives, Refuses, bind}
+use Rattle.request_plan.specs.Plan.{Ends, Gives}
 use Rattle.request_plan.proofs.Chains.{Ends-unbind}
 use Rattle.asc_base.specs.TreeShape.{olat_of}
 use Rattle.asc_base.specs.declared.block.Entry.{Entry}
@@ -20,22 +20,22 @@ use Rattle.bus_watch.specs.declared.log.Event.{Event}
 use Rattle.bus_watch.specs.declared.log.Event.TheVariants.{Tagged}
 use Rattle.epoch_learner.specs.Stands.{IsFirstFor}
 use Rattle.oram_contents.specs.Contents.{Contents, IsReadTo, after_write}
-use Rattle.oram_contents.specs.Entries.{Keys, real, message_of, entry_of}
-use Rattle.oram_contents.specs.Fold.{with_entry, tagged_entry}
+use Rattle.oram_contents.specs.Entries.{Keys, message_of, entry_of}
+use Rattle.oram_contents.specs.Fold.{tagged_entry}
 use Rattle.oram_contents.specs.Shapes.{AreOfShape}
-use Rattle.oram_contents.specs.Slots.{ArePasses, IsRead, IsAccess, IsRefill, IsEnd, HasSeeds, drawn_events}
+use Rattle.oram_contents.specs.Slots.{ArePasses, IsAccess, IsRefill, HasSeeds, drawn_events}
 use Rattle.oram_contents.specs.Steps.{accepted}
-use Rattle.oram_contents.specs.Verdict.{judged, line_found, append_verdict}
+use Rattle.oram_contents.specs.Verdict.{judged, append_verdict}
 use Rattle.oram_stash.specs.Entries.{held, without}
 use Rattle.oram_walk.specs.Request.{Slot, Append, Answer}
 use Rattle.oram_walk.specs.declared.slots.Access.{Access}
 use Rattle.oram_walk.specs.declared.slots.Purpose.{Purpose}
 use Rattle.oram_walk.specs.declared.slots.Purpose.TheVariants.{Refill, Keep, Replace}
 use Rattle.oram_walk.specs.declared.slots.Seen.{Seen}
-use Rattle.rate_enforcer.specs.PortStep.{PortState, PortStep, Said, Opened, Taken, HasNoted, HasPut, Closed, Resting, InSlot, contents}
+use Rattle.rate_enforcer.specs.PortStep.{PortState, PortStep, Opened, Taken, HasNoted, HasPut, Closed, Resting, InSlot, contents}
 use Rattle.rate_enforcer.specs.Served.{keys_of, IsServed}
-use Rattle.oram_frontend.specs.Access.{PortPlan, accept_plan, put_plan, back_plan, finish_plan, judged_plan, close_plan, SlotStep}
-use Rattle.oram_frontend.specs.Access.{found_line, found_message, next_message, access_plan}
+use Rattle.oram_frontend.specs.Access.{accept_plan, put_plan, back_plan, judged_plan, close_plan, SlotStep}
+use Rattle.oram_frontend.specs.Access.{found_line, next_message}
 use Rattle.oram_frontend.specs.Slots.{FitKeys, Keeps, SlotOf, IsServedSlot, IsServedAppend, IsServedAnswer}
 
 -- the keys of a port's tree are these, where they fit
@@ -78,7 +78,7 @@ contents_by : (s : PortState) (now : Contents) (hand : List Entry) → s.tree.ha
     → s.tree.seed ≡ now.seed → contents s ≡ record now { hand = hand }
 contents_by s now hand a b c =
     let one : contents s ≡ record { hand = hand; mirror = s.tap.mirror; seed = s.tree.seed } =
-        ap (λ (h : List Entry). record { hand = h; mirror = s.tap.mirror; seed = s.tree.seed }) a in
+    ap (λ (h : List Entry). record { hand = h; mirror = s.tap.mirror; seed = s.tree.seed }) a in
     one ∙ ap (λ (m : List (List ℕ)). record { hand = hand; mirror = m; seed = s.tree.seed }) b
     ∙ ap (λ (n : ℕ). record { hand = hand; mirror = now.mirror; seed = n }) c
 
@@ -90,8 +90,9 @@ pub taken : (keys : Keys) (levels notes : ℕ) (access : Access) (found : Option
     → judged keys access.address.0 access.counter found ≡ None
     → Under keys levels access found old two [] []
 taken keys levels notes access found old one two fits rests opened took right =
-    let served = subst (λ k. IsServed k old.tap.log one.tap.log (contents old) (contents one) old.clock.dummies one.clock
-        access.asked (Real access.address access.counter)) (keys_fit keys old fits) (opened.served keys.tags) in
+    let served = subst (λ k. IsServed k old.tap.log one.tap.log (contents old)
+    (contents one) old.clock.dummies one.clock
+    access.asked (Real access.address access.counter)) (keys_fit keys old fits) (opened.served keys.tags) in
     let slot = opened.in_slot notes rests in
     let seed : one.tree.seed ≡ served.between.seed = ap (λ (k : Contents). k.seed) served.after_is in
     record {
@@ -99,7 +100,13 @@ taken keys levels notes access found old one two fits rests opened took right =
       mid = served.mid;
       between = served.between;
       passes = served.passed;
-      seeds = omega (arith, slot.opens.is_for.seed, slot.opens.is_open.early, slot.opens.is_open.is_config.time.1, seed);
+      seeds = omega (
+        arith,
+        slot.opens.is_for.seed,
+        slot.opens.is_open.early,
+        slot.opens.is_open.is_config.time.1,
+        seed,
+      );
       start = one.clock.next;
       altered = served.read.altered;
       joined = one.tree.hand;
@@ -207,7 +214,8 @@ put_on keys levels access found old s t later entry put u = record {
 }
 
 -- after what was found was noted
-pub accepted_on : (keys : Keys) (levels : ℕ) (access : Access) (found : Option Entry) (old s t : PortState) (x : Unit {0})
+pub accepted_on : (keys : Keys) (levels : ℕ) (access : Access) (found : Option Entry)
+    (old s t : PortState) (x : Unit {0})
     → Ends (PortStep keys.leaf_of levels) (accept_plan access found) s t x
     → Under keys levels access found old s [] []
     → Under keys levels access found old t (accepted access.address.0 access.counter found) []
@@ -240,16 +248,21 @@ open_noted : (keys : Keys) (levels : ℕ) (access : Access) (least : ℕ) (s t :
     → HasNoted keys.leaf_of levels event s t → IsOpenFor keys levels access (least + 1) s
     → IsOpenFor keys levels access least t
 open_noted keys levels access least s t event note (zero, some, slot) = absurd (omega arith)
-open_noted keys levels access least s t event note (suc notes, some, slot) =
-    (notes, omega arith, note.in_slot notes (keys.leaf_of (Real access.address access.counter))
-    (subst (λ n. InSlot n levels (keys.leaf_of (Real access.address access.counter)) s) (omega arith) slot))
+open_noted keys levels access least s t event note (suc notes, some, slot) = (
+  notes,
+  omega arith,
+  note.in_slot notes (keys.leaf_of (Real access.address access.counter))
+      (subst (λ n. InSlot n levels (keys.leaf_of (Real access.address access.counter)) s) (omega arith) slot),
+)
 
 pub open_accepted : (keys : Keys) (levels : ℕ) (access : Access) (found : Option Entry) (least : ℕ) (s t : PortState)
     (x : Unit {0}) → Ends (PortStep keys.leaf_of levels) (accept_plan access found) s t x
     → IsOpenFor keys levels access (least + 1) s → IsOpenFor keys levels access least t
-open_accepted keys levels access None least s t x ends (notes, some, slot) =
-    (notes, omega arith,
-    subst (λ v. InSlot notes levels (keys.leaf_of (Real access.address access.counter)) v) (sym ends.1) slot)
+open_accepted keys levels access None least s t x ends (notes, some, slot) = (
+  notes,
+  omega arith,
+  subst (λ v. InSlot notes levels (keys.leaf_of (Real access.address access.counter)) v) (sym ends.1) slot,
+)
 open_accepted keys levels access (Some entry) least s t x ends open_for =
     subst (λ v. IsOpenFor keys levels access least v) (sym ends.3.1)
     (open_noted keys levels access least s ends.1 _ ends.2.1 open_for)
@@ -272,9 +285,12 @@ path_is : (keys : Keys) (levels : ℕ) (access : Access) (least end : ℕ) (s ne
     → (closed.path.leaf.0 ≡ keys.leaf_of (Real access.address access.counter)) × (closed.path.start ≡ s.clock.next)
 path_is keys levels access least end s new closed (notes, some, slot) =
     let one : Some closed.path ≡ Some (record { start = slot.slot.start; leaf = slot.slot.leaf }) =
-        sym closed.on ∙ slot.opens.is_open.path in
-    let same : closed.path ≡ record { start = slot.slot.start; leaf = slot.slot.leaf } = cc in
-    (ap (λ (p : OpenPath). p.leaf.0) same ∙ slot.leaf_is, ap (λ (p : OpenPath). p.start) same ∙ slot.opens.is_open.starts)
+    sym closed.on ∙ slot.opens.is_open.path in
+    let same : closed.path ≡ record { start = slot.slot.start; leaf = slot.slot.leaf } = cc in (
+      ap (λ (p : OpenPath). p.leaf.0) same ∙ slot.leaf_is,
+      ap (λ (p : OpenPath). p.start) same
+          ∙ slot.opens.is_open.starts,
+    )
 
 -- the contents after the path was written
 written : (keys : Keys) (levels : ℕ) (access : Access) (found : Option Entry) (least end : ℕ) (old s new : PortState)
@@ -298,45 +314,53 @@ module _ (keys : Keys) (levels : ℕ) (access : Access) (seen : Seen) (found : O
       → (u : Under keys levels access found old s later back) → seen ≡ record { line = found_line found; end = end }
       → SlotOf keys access access.purpose u.mid s.tap.log u.between (contents new) u.start found
       → IsServedSlot keys access seen old new × Keeps keys levels least old new
-  closed_as least end s new later back closed open_for u is slot = (record {
-    passed = u.passed;
-    mid = u.mid;
-    between = u.between;
-    passes = u.passes;
-    seeds = u.seeds;
-    start = u.start;
-    found = found;
-    log = s.tap.log;
-    slot = slot;
-    begins = (later, u.events_are);
-    first = u.first;
-    ends = closed.ends;
-    line = ap (λ (x : Seen). x.line.0) is;
-    end = ap (λ (x : Seen). x.end) is ∙ closed.end_is
-        ∙ ap (λ (n : ℕ). n + olat_of s.clock.config.shape.levels)
-        ((path_is keys levels access least end s new closed open_for).1 ∙ u.next)
-        ∙ ap (λ (c : Config). u.start + olat_of c.shape.levels) u.config;
-    last = closed.last ∙ sym (ap (λ (x : Seen). x.end) is);
-    dummies = closed.dummies ∙ u.dummies;
-    real = closed.real ∙ u.real;
-  }, record {
-    fits = record {
-      shape = closed.same.tree.shape ∙ u.fits.shape;
-      pads = closed.same.tree.key ∙ u.fits.pads;
-    };
-    config = closed.same.config ∙ u.config;
-    stash = closed.same.tree.stash ∙ u.stash;
-    rests = (open_for.0, open_for.1,
-        closed.rests open_for.0 (keys.leaf_of (Real access.address access.counter)) open_for.2);
-  })
+  closed_as least end s new later back closed open_for u is slot = (
+    record {
+      passed = u.passed;
+      mid = u.mid;
+      between = u.between;
+      passes = u.passes;
+      seeds = u.seeds;
+      start = u.start;
+      found = found;
+      log = s.tap.log;
+      slot = slot;
+      begins = (later, u.events_are);
+      first = u.first;
+      ends = closed.ends;
+      line = ap (λ (x : Seen). x.line.0) is;
+      end = ap (λ (x : Seen). x.end) is ∙ closed.end_is
+          ∙ ap (λ (n : ℕ). n + olat_of s.clock.config.shape.levels)
+          ((path_is keys levels access least end s new closed open_for).1 ∙ u.next)
+          ∙ ap (λ (c : Config). u.start + olat_of c.shape.levels) u.config;
+      last = closed.last ∙ sym (ap (λ (x : Seen). x.end) is);
+      dummies = closed.dummies ∙ u.dummies;
+      real = closed.real ∙ u.real;
+    },
+    record {
+      fits = record {
+        shape = closed.same.tree.shape ∙ u.fits.shape;
+        pads = closed.same.tree.key ∙ u.fits.pads;
+      };
+      config = closed.same.config ∙ u.config;
+      stash = closed.same.tree.stash ∙ u.stash;
+      rests = (
+        open_for.0,
+        open_for.1,
+        closed.rests open_for.0 (keys.leaf_of (Real access.address access.counter)) open_for.2,
+      );
+    },
+  )
 
   access_of : (s : PortState) (after : Contents) (line : List ℕ)
       → (u : Under keys levels access found old s (accepted access.address.0 access.counter found
       ++ Tagged (message_of access.address.0 access.next line) ∷ [])
       (entry_of keys access.address.0 access.next line ∷ []))
       → after ≡ after_write keys.pads keys.shape.levels (keys.leaf_of (Real access.address access.counter))
-      (record u.between { hand = without u.joined access.address
-      ++ entry_of keys access.address.0 access.next line ∷ [] })
+      (record u.between {
+        hand = without u.joined access.address
+            ++ entry_of keys access.address.0 access.next line ∷ [];
+      })
       → IsAccess keys u.mid s.tap.log u.between after u.start access.address.0 access.counter access.next found line
   access_of s after line u is = record {
     asked = Some access.asked;
@@ -434,13 +458,16 @@ module _ (keys : Keys) (levels : ℕ) (access : Access) (seen : Seen) (found : O
   judged_as None right one two new notes fits rests opened took h =
       let u = taken keys levels notes access found old one two fits rests opened took right in
       let (x, s, first, later) = Ends-unbind (PortStep keys.leaf_of levels) (λ left. left)
-          (accept_plan access found) _ two new (Gives tt seen) h in
+      (accept_plan access found) _ two new (Gives tt seen) h in
       let (y, t, back, close) = Ends-unbind (PortStep keys.leaf_of levels) (λ left. left)
-          (back_plan keys access (found_line found) access.purpose) _ s new (Gives tt seen) later in
+      (back_plan keys access (found_line found) access.purpose) _ s new (Gives tt seen) later in
       finished (notes + 1) access.purpose refl s t new y back close
-      (open_accepted keys levels access found (notes + 1 + 1) two s x first
-      (notes + 3, omega arith, took.in_slot (notes + 3) (keys.leaf_of (Real access.address access.counter))
-      (opened.in_slot notes rests)))
+      (open_accepted keys levels access found (notes + 1 + 1) two s x first (
+        notes + 3,
+        omega arith,
+        took.in_slot (notes + 3) (keys.leaf_of (Real access.address access.counter))
+            (opened.in_slot notes rests),
+      ))
       (accepted_on keys levels access found old two s x first u)
 
 pub served_slot : (keys : Keys) (levels notes : ℕ) (access : Access) (seen : Seen) (old new : PortState)
@@ -454,24 +481,28 @@ pub served_append : (keys : Keys) (levels notes : ℕ) (message : Message) (seen
     → FitKeys keys old → Resting (notes + 1) levels old → SlotStep keys levels old (Append message) (Ok seen) new
     → IsServedAppend keys message old new × Keeps keys levels notes old new
 served_append keys levels notes message seen old new fits rests (x, one, note, (y, two, join, end)) =
-    subst (λ v. IsServedAppend keys message old v × Keeps keys levels notes old v) (sym end.1) (record {
-      events = ap (λ (t : TapState). t.log.events) join.1.others.tap ∙ ap (λ (l : LogLists). l.events) note.1.log;
-      altered = ap (λ (t : TapState). t.log.altered) join.1.others.tap ∙ ap (λ (l : LogLists). l.altered) note.1.log;
-      contents_are = contents_by two (contents old) (old.tree.hand ++ tagged_entry keys message ∷ [])
-          (join.1.hand ∙ ap (λ (tree : TreeState). tree.hand ++ tagged_entry keys message ∷ []) note.1.tree)
-          (ap (λ (t : TapState). t.mirror) join.1.others.tap ∙ note.1.mirror)
-          (join.1.others.seed ∙ ap (λ (tree : TreeState). tree.seed) note.1.tree);
-      right = subst (λ (tree : TreeState). append_verdict tree.stash message.address tree.hand ≡ None) note.1.tree join.1.right;
-      clock = join.1.others.clock ∙ note.1.clock;
-    }, record {
-      fits = record {
-        shape = join.1.others.tree.shape ∙ (ap (λ (tree : TreeState). tree.shape) note.1.tree ∙ fits.shape);
-        pads = join.1.others.tree.key ∙ (ap (λ (tree : TreeState). tree.key) note.1.tree ∙ fits.pads);
-      };
-      config = ap (λ (c : Clock). c.config) (join.1.others.clock ∙ note.1.clock);
-      stash = join.1.others.tree.stash ∙ ap (λ (tree : TreeState). tree.stash) note.1.tree;
-      rests = (notes, omega arith, join.1.rests notes (note.1.rests notes rests));
-    })
+    subst (λ v. IsServedAppend keys message old v × Keeps keys levels notes old v) (sym end.1) (
+      record {
+        events = ap (λ (t : TapState). t.log.events) join.1.others.tap ∙ ap (λ (l : LogLists). l.events) note.1.log;
+        altered = ap (λ (t : TapState). t.log.altered) join.1.others.tap ∙ ap (λ (l : LogLists). l.altered) note.1.log;
+        contents_are = contents_by two (contents old) (old.tree.hand ++ tagged_entry keys message ∷ [])
+            (join.1.hand ∙ ap (λ (tree : TreeState). tree.hand ++ tagged_entry keys message ∷ []) note.1.tree)
+            (ap (λ (t : TapState). t.mirror) join.1.others.tap ∙ note.1.mirror)
+            (join.1.others.seed ∙ ap (λ (tree : TreeState). tree.seed) note.1.tree);
+        right = subst (λ (tree : TreeState). append_verdict tree.stash message.address tree.hand
+            ≡ None) note.1.tree join.1.right;
+        clock = join.1.others.clock ∙ note.1.clock;
+      },
+      record {
+        fits = record {
+          shape = join.1.others.tree.shape ∙ (ap (λ (tree : TreeState). tree.shape) note.1.tree ∙ fits.shape);
+          pads = join.1.others.tree.key ∙ (ap (λ (tree : TreeState). tree.key) note.1.tree ∙ fits.pads);
+        };
+        config = ap (λ (c : Clock). c.config) (join.1.others.clock ∙ note.1.clock);
+        stash = join.1.others.tree.stash ∙ ap (λ (tree : TreeState). tree.stash) note.1.tree;
+        rests = (notes, omega arith, join.1.rests notes (note.1.rests notes rests));
+      },
+    )
 
 -- an answer is noted
 pub served_answer : (keys : Keys) (levels notes line : ℕ) (value : Line) (seen : Seen) (old new : PortState)
@@ -479,18 +510,22 @@ pub served_answer : (keys : Keys) (levels notes line : ℕ) (value : Line) (seen
     → SlotStep keys levels old (Answer line value) (Ok seen) new
     → IsServedAnswer line value old new × Keeps keys levels notes old new
 served_answer keys levels notes line value seen old new fits rests (x, one, note, end) =
-    subst (λ v. IsServedAnswer line value old v × Keeps keys levels notes old v) (sym end.1) (record {
-      events = ap (λ (l : LogLists). l.events) note.1.log;
-      altered = ap (λ (l : LogLists). l.altered) note.1.log;
-      contents_are = contents_by one (contents old) old.tree.hand (ap (λ (tree : TreeState). tree.hand) note.1.tree) note.1.mirror
-          (ap (λ (tree : TreeState). tree.seed) note.1.tree);
-      clock = note.1.clock;
-    }, record {
-      fits = record {
-        shape = ap (λ (tree : TreeState). tree.shape) note.1.tree ∙ fits.shape;
-        pads = ap (λ (tree : TreeState). tree.key) note.1.tree ∙ fits.pads;
-      };
-      config = ap (λ (c : Clock). c.config) note.1.clock;
-      stash = ap (λ (tree : TreeState). tree.stash) note.1.tree;
-      rests = (notes, omega arith, note.1.rests notes rests);
-    })
+    subst (λ v. IsServedAnswer line value old v × Keeps keys levels notes old v) (sym end.1) (
+      record {
+        events = ap (λ (l : LogLists). l.events) note.1.log;
+        altered = ap (λ (l : LogLists). l.altered) note.1.log;
+        contents_are = contents_by one (contents old) old.tree.hand
+            (ap (λ (tree : TreeState). tree.hand) note.1.tree) note.1.mirror
+            (ap (λ (tree : TreeState). tree.seed) note.1.tree);
+        clock = note.1.clock;
+      },
+      record {
+        fits = record {
+          shape = ap (λ (tree : TreeState). tree.shape) note.1.tree ∙ fits.shape;
+          pads = ap (λ (tree : TreeState). tree.key) note.1.tree ∙ fits.pads;
+        };
+        config = ap (λ (c : Clock). c.config) note.1.clock;
+        stash = ap (λ (tree : TreeState). tree.stash) note.1.tree;
+        rests = (notes, omega arith, note.1.rests notes rests);
+      },
+    )

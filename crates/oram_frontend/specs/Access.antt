@@ -1,7 +1,6 @@
 -- One access as a plan of a port's calls, and an append; and what the slots of a port make of a walk's requests.
-use Rattle.std.specs.Prelude.{◌≡◌, ℕ, Option, Some, None, Result}
+use Rattle.std.specs.Prelude.{ℕ, Option, Some, None, Result}
 use Rattle.request_plan.specs.Plan.{Plan, Done, Ask, bind, Reply, Refuses, Gives, ComesTo}
-use Rattle.asc_base.specs.declared.block.Address.{Address}
 use Rattle.asc_base.specs.declared.block.Entry.{Entry}
 use Rattle.asc_base.specs.declared.block.Line.{Line}
 use Rattle.asc_base.specs.declared.block.Message.{Message}
@@ -9,8 +8,6 @@ use Rattle.asc_base.specs.declared.block.Point.TheVariants.{Real}
 use Rattle.asc_base.specs.declared.stop.Evidence.{Evidence}
 use Rattle.asc_base.specs.declared.stop.Stop.{Stop}
 use Rattle.asc_base.specs.declared.stop.Stop.TheVariants.{Integrity}
-use Rattle.asc_outside.specs.Memory.{MemoryState}
-use Rattle.bus_watch.specs.Log.{TapState}
 use Rattle.bus_watch.specs.declared.log.Event.TheVariants.{Accepted, Tagged, Answered}
 use Rattle.oram_contents.specs.Entries.{Keys}
 use Rattle.oram_contents.specs.Fold.{tagged_entry}
@@ -20,8 +17,6 @@ use Rattle.oram_walk.specs.declared.slots.Access.{Access}
 use Rattle.oram_walk.specs.declared.slots.Purpose.{Purpose}
 use Rattle.oram_walk.specs.declared.slots.Purpose.TheVariants.{Refill, Keep, Replace}
 use Rattle.oram_walk.specs.declared.slots.Seen.{Seen}
-use Rattle.unified_tree.specs.Tree.{TreeState}
-use Rattle.rate_enforcer.specs.declared.clock.Clock.{Clock}
 use Rattle.rate_enforcer.specs.PortStep.{PortState, PortRequest, Open, Take, Note, Put, Close, Abort, Join, Said, PortStep}
 
 -- a plan of a port's calls that leaves nothing where it is stopped
@@ -71,7 +66,7 @@ module _ (keys : Keys) where
   abbrev pub finish_plan : Access → Option Entry → PortPlan Served
   finish_plan access found =
       and_then (accept_plan access found) (λ _.
-        and_then (back_plan access (found_line found) access.purpose) (λ _. close_plan (found_line found)))
+      and_then (back_plan access (found_line found) access.purpose) (λ _. close_plan (found_line found)))
 
   abbrev pub judged_plan : Access → Option Entry → Option Evidence → PortPlan Served
   judged_plan access found (Some evidence) =
@@ -82,8 +77,8 @@ module _ (keys : Keys) where
   abbrev pub access_plan : Access → PortPlan Served
   access_plan access =
       Ask (Open access.asked (Real access.address access.counter)) tt (λ _.
-        Ask (Take access.address) tt (λ said.
-          judged_plan access said.found (judged keys access.address.0 access.counter said.found)))
+      Ask (Take access.address) tt (λ said.
+      judged_plan access said.found (judged keys access.address.0 access.counter said.found)))
 
   -- a displaced block is noted as tagged, and joins those at hand
   abbrev pub append_plan : Message → PortPlan Served
@@ -100,10 +95,6 @@ module _ (keys : Keys) where
   serve_plan (Append message) = append_plan message
   serve_plan (Answer line value) = answer_plan line value
   serve_plan Room = Done (Gives tt nothing)
-
--- a port with the memory and the tap that it is lent
-abbrev pub beside : Clock → TreeState → MemoryState → TapState → PortState
-beside clock tree memory tap = record { clock = clock; tree = tree; memory = memory; tap = tap }
 
 -- The rest of a slot, after what was found in it: its answer or stop, and the port before it and after it.
 abbrev pub FinishStep : Keys → ℕ → Access → Option Entry → PortState → Result Seen Stop → PortState → Type 0

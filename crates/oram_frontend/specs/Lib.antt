@@ -1,4 +1,4 @@
 pub mod Access
 pub mod Oram
+pub mod Same
 pub mod Slots
-pub mod Standing

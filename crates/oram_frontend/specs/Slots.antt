@@ -5,7 +5,7 @@ use Rattle.asc_base.specs.declared.block.Entry.{Entry}
 use Rattle.asc_base.specs.declared.block.Line.{Line}
 use Rattle.asc_base.specs.declared.block.Message.{Message}
 use Rattle.asc_base.specs.declared.block.Point.TheVariants.{Real}
-use Rattle.bus_watch.specs.Log.{LogLists, with_event}
+use Rattle.bus_watch.specs.Log.{LogLists}
 use Rattle.bus_watch.specs.declared.log.Event.{Event}
 use Rattle.bus_watch.specs.declared.log.Event.TheVariants.{Tagged, Answered}
 use Rattle.epoch_learner.specs.Stands.{IsFirstFor}

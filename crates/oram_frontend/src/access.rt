@@ -8,13 +8,13 @@ ghost use Rattle.request_plan.specs.Plan.{Ends};
 ghost use Rattle.oram_contents.specs.Fold.{tagged_entry};
 ghost use Rattle.oram_stash.specs.Entries.{held};
 ghost use Rattle.oram_walk.specs.Request.{Slot, Append, Answer, nothing};
-ghost use Rattle.rate_enforcer.specs.PortStep.{PortStep};
+ghost use Rattle.rate_enforcer.specs.PortStep.{PortStep, port_of};
 ghost use Rattle.rate_enforcer.specs.Served.{keys_of};
 ghost use Rattle.rate_enforcer.specs.State.{Rests, Opens};
 ghost use Rattle.rate_enforcer.specs.declared.clock.Clock.{Clock as ClockValue};
 ghost use Rattle.rate_enforcer.specs.declared.port.OpenSlot.{OpenSlot as SlotValue};
 ghost use Rattle.unified_tree.specs.Tree.{TreeState, IsSameTree};
-ghost use Rattle.oram_frontend.specs.Access.{accept_plan, back_plan, put_plan, SlotStep, FinishStep, found_line, beside};
+ghost use Rattle.oram_frontend.specs.Access.{accept_plan, back_plan, put_plan, SlotStep, FinishStep};
 
 use crate::judge::{judge, line_of, message_found};
 use asc_base::{Entry, Line, Message, Point, Stop};
@@ -42,13 +42,13 @@ pub(crate) fn access<M: UntrustedMemory, W: Watch, L: LeafFn>(
     requires asked { port.old.clock.last ≤ access.now.asked }
     ensures comes { MatchResult result
         (λ seen. SlotStep (keys_of port.old.tree tagger.now (L.leaf_of port.old.leaves)) (L.levels port.old.leaves)
-        (beside port.old.clock port.old.tree (M.state bus.old.memory.now) (W.state bus.old.tap.now))
+        (port_of port.old.clock port.old.tree (M.state bus.old.memory.now) (W.state bus.old.tap.now))
         (Slot access.now) (Ok seen)
-        (beside port.new.clock port.new.tree (M.state bus.new.memory.now) (W.state bus.new.tap.now)))
+        (port_of port.new.clock port.new.tree (M.state bus.new.memory.now) (W.state bus.new.tap.now)))
         (λ stop. SlotStep (keys_of port.old.tree tagger.now (L.leaf_of port.old.leaves)) (L.levels port.old.leaves)
-        (beside port.old.clock port.old.tree (M.state bus.old.memory.now) (W.state bus.old.tap.now))
+        (port_of port.old.clock port.old.tree (M.state bus.old.memory.now) (W.state bus.old.tap.now))
         (Slot access.now) (Err stop)
-        (beside port.new.clock port.new.tree (M.state bus.new.memory.now) (W.state bus.new.tap.now))) }
+        (port_of port.new.clock port.new.tree (M.state bus.new.memory.now) (W.state bus.new.tap.now))) }
     ensures same { IsSameBus bus.old bus.new }
     ensures leaves { port.new.leaves ≡ port.old.leaves }
     ensures kept { IsSameTree port.old.tree port.new.tree }
@@ -87,13 +87,13 @@ fn finish<M: UntrustedMemory, W: Watch, L: LeafFn>(
     requires few { length port.old.tree.hand < 2 ^ 20 }
     ensures comes { MatchResult result
         (λ seen. FinishStep (keys_of port.old.tree tagger.now (L.leaf_of port.old.leaves)) (L.levels port.old.leaves)
-        access.now found (beside port.old.clock port.old.tree (M.state bus.old.memory.now) (W.state bus.old.tap.now))
+        access.now found (port_of port.old.clock port.old.tree (M.state bus.old.memory.now) (W.state bus.old.tap.now))
         (Ok seen)
-        (beside port.new.clock port.new.tree (M.state bus.new.memory.now) (W.state bus.new.tap.now)))
+        (port_of port.new.clock port.new.tree (M.state bus.new.memory.now) (W.state bus.new.tap.now)))
         (λ stop. FinishStep (keys_of port.old.tree tagger.now (L.leaf_of port.old.leaves)) (L.levels port.old.leaves)
-        access.now found (beside port.old.clock port.old.tree (M.state bus.old.memory.now) (W.state bus.old.tap.now))
+        access.now found (port_of port.old.clock port.old.tree (M.state bus.old.memory.now) (W.state bus.old.tap.now))
         (Err stop)
-        (beside port.new.clock port.new.tree (M.state bus.new.memory.now) (W.state bus.new.tap.now))) }
+        (port_of port.new.clock port.new.tree (M.state bus.new.memory.now) (W.state bus.new.tap.now))) }
     ensures same { IsSameBus bus.old bus.new }
     ensures leaves { port.new.leaves ≡ port.old.leaves }
     ensures kept { IsSameTree port.old.tree port.new.tree }
@@ -120,18 +120,17 @@ fn accept<M: UntrustedMemory, W: Watch>(
     requires room { 0 < (W.state bus.old.tap.now).spare_events }
     ensures plan { (leaf_of : PointValue → ℕ) (levels : ℕ) (clock : ClockValue) (tree : TreeState)
         → Ends (PortStep leaf_of levels) (accept_plan access.now found)
-        (beside clock tree (M.state bus.old.memory.now) (W.state bus.old.tap.now))
-        (beside clock tree (M.state bus.new.memory.now) (W.state bus.new.tap.now)) tt }
+        (port_of clock tree (M.state bus.old.memory.now) (W.state bus.old.tap.now))
+        (port_of clock tree (M.state bus.new.memory.now) (W.state bus.new.tap.now)) tt }
     ensures same { IsSameBus bus.old bus.new }
     ensures opens { (notes levels : ℕ) (clock : ClockValue) (slot : SlotValue) (tree : TreeState)
         → Opens (notes + 1) clock slot tree levels (M.state bus.old.memory.now) (W.state bus.old.tap.now)
         → Opens notes clock slot tree levels (M.state bus.new.memory.now) (W.state bus.new.tap.now) }
 {
     if let Some(entry) = found {
-        bus.note(Event::Accepted {
-            message: message_found(access, entry.line),
-            tag: entry.tag,
-        });
+        let message = message_found(access, entry.line);
+        let tag = entry.tag;
+        bus.note(Event::Accepted { message, tag });
     }
 }
 
@@ -152,8 +151,8 @@ fn put_back<M: UntrustedMemory, W: Watch, L: LeafFn>(
     requires few { length port.old.tree.hand < 2 ^ 20 }
     ensures plan { Ends (PortStep (L.leaf_of port.old.leaves) (L.levels port.old.leaves))
         (back_plan (keys_of port.old.tree tagger.now (L.leaf_of port.old.leaves)) access.now line access.now.purpose)
-        (beside port.old.clock port.old.tree (M.state bus.old.memory.now) (W.state bus.old.tap.now))
-        (beside port.new.clock port.new.tree (M.state bus.new.memory.now) (W.state bus.new.tap.now)) tt }
+        (port_of port.old.clock port.old.tree (M.state bus.old.memory.now) (W.state bus.old.tap.now))
+        (port_of port.new.clock port.new.tree (M.state bus.new.memory.now) (W.state bus.new.tap.now)) tt }
     ensures same { IsSameBus bus.old bus.new }
     ensures leaves { port.new.leaves ≡ port.old.leaves }
     ensures kept { IsSameTree port.old.tree port.new.tree }
@@ -190,8 +189,8 @@ fn put<M: UntrustedMemory, W: Watch, L: LeafFn>(
     requires few { length port.old.tree.hand < 2 ^ 20 }
     ensures plan { Ends (PortStep (L.leaf_of port.old.leaves) (L.levels port.old.leaves))
         (put_plan (keys_of port.old.tree tagger.now (L.leaf_of port.old.leaves)) message.now)
-        (beside port.old.clock port.old.tree (M.state bus.old.memory.now) (W.state bus.old.tap.now))
-        (beside port.new.clock port.new.tree (M.state bus.new.memory.now) (W.state bus.new.tap.now)) tt }
+        (port_of port.old.clock port.old.tree (M.state bus.old.memory.now) (W.state bus.old.tap.now))
+        (port_of port.new.clock port.new.tree (M.state bus.new.memory.now) (W.state bus.new.tap.now)) tt }
     ensures same { IsSameBus bus.old bus.new }
     ensures leaves { port.new.leaves ≡ port.old.leaves }
     ensures kept { IsSameTree port.old.tree port.new.tree }
@@ -234,13 +233,13 @@ pub(crate) fn append<M: UntrustedMemory, W: Watch, L: LeafFn>(
     requires inside { message.now.address.0 < port.old.tree.shape.total }
     ensures comes { MatchResult result
         (λ _. SlotStep (keys_of port.old.tree tagger.now (L.leaf_of port.old.leaves)) (L.levels port.old.leaves)
-        (beside port.old.clock port.old.tree (M.state bus.old.memory.now) (W.state bus.old.tap.now))
+        (port_of port.old.clock port.old.tree (M.state bus.old.memory.now) (W.state bus.old.tap.now))
         (Append message.now) (Ok nothing)
-        (beside port.new.clock port.new.tree (M.state bus.new.memory.now) (W.state bus.new.tap.now)))
+        (port_of port.new.clock port.new.tree (M.state bus.new.memory.now) (W.state bus.new.tap.now)))
         (λ stop. SlotStep (keys_of port.old.tree tagger.now (L.leaf_of port.old.leaves)) (L.levels port.old.leaves)
-        (beside port.old.clock port.old.tree (M.state bus.old.memory.now) (W.state bus.old.tap.now))
+        (port_of port.old.clock port.old.tree (M.state bus.old.memory.now) (W.state bus.old.tap.now))
         (Append message.now) (Err stop)
-        (beside port.new.clock port.new.tree (M.state bus.new.memory.now) (W.state bus.new.tap.now))) }
+        (port_of port.new.clock port.new.tree (M.state bus.new.memory.now) (W.state bus.new.tap.now))) }
     ensures same { IsSameBus bus.old bus.new }
     ensures leaves { port.new.leaves ≡ port.old.leaves }
     ensures kept { IsSameTree port.old.tree port.new.tree }
@@ -254,16 +253,12 @@ pub(crate) fn append<M: UntrustedMemory, W: Watch, L: LeafFn>(
 }
 
 /// Notes a line as answered.
-pub(crate) fn answer<M: UntrustedMemory, W: Watch>(
-    bus: &mut Bus<'_, M, W>,
-    line: u32,
-    value: &Line,
-)
+pub(crate) fn answer<M: UntrustedMemory, W: Watch>(bus: &mut Bus<'_, M, W>, line: u32, value: &Line)
     requires room { 0 < (W.state bus.old.tap.now).spare_events }
     ensures comes { (keys : Keys) (levels : ℕ) (clock : ClockValue) (tree : TreeState)
-        → SlotStep keys levels (beside clock tree (M.state bus.old.memory.now) (W.state bus.old.tap.now))
+        → SlotStep keys levels (port_of clock tree (M.state bus.old.memory.now) (W.state bus.old.tap.now))
         (Answer line value.now) (Ok nothing)
-        (beside clock tree (M.state bus.new.memory.now) (W.state bus.new.tap.now)) }
+        (port_of clock tree (M.state bus.new.memory.now) (W.state bus.new.tap.now)) }
     ensures same { IsSameBus bus.old bus.new }
     ensures rests { (notes levels : ℕ) (clock : ClockValue) (tree : TreeState)
         → Rests (notes + 1) clock tree levels (M.state bus.old.memory.now) (W.state bus.old.tap.now)

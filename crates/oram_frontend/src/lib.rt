@@ -4,7 +4,9 @@
 
 mod access;
 mod judge;
+mod laws;
 mod oram;
 mod slots;
 
+pub use laws::answered_requests;
 pub use oram::Oram;

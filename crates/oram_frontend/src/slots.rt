@@ -1,10 +1,5 @@
-ghost use Rattle.std.specs.Prelude.{◌≡◌, ◌<◌};
-ghost use Rattle.oram_frontend.specs.Access.{SlotStep, beside};
-ghost use Rattle.oram_frontend.specs.Oram.{IsSamePort};
-ghost use Rattle.rate_enforcer.specs.Served.{keys_of};
-ghost use Rattle.rate_enforcer.specs.State.{Rests};
+ghost use Rattle.std.specs.Prelude.{◌≡◌};
 
-use crate::access::{access, answer, append};
 use asc_base::{Line, Message, Stop};
 use asc_outside::UntrustedMemory;
 use bus_watch::{Bus, Watch};
@@ -53,20 +48,21 @@ impl<'p, 'b, M: UntrustedMemory, W: Watch, L: LeafFn> PortSlots<'p, 'b, M, W, L>
 
 impl<'p, 'b, M: UntrustedMemory, W: Watch, L: LeafFn> Slots for PortSlots<'p, 'b, M, W, L> {
     ghost use Rattle.std.specs.Prelude.{◌≡◌, ◌<◌};
-    ghost use Rattle.oram_frontend.specs.Access.{SlotStep, beside};
+    ghost use Rattle.oram_frontend.specs.Access.{SlotStep};
+    ghost use Rattle.rate_enforcer.specs.PortStep.{port_of};
     ghost use Rattle.rate_enforcer.specs.Served.{keys_of};
     ghost use Rattle.rate_enforcer.specs.State.{Rests};
-    ghost use Rattle.unified_tree.specs.Tree.{IsSameTree};
+    ghost use Rattle.oram_frontend.specs.Same.{IsSameSlots};
+    ghost use Rattle.std.proofs.Common.{ap};
+    ghost use Rattle.asc_base.specs.declared.shape.Shape.{Shape};
 
     ghost step = { λ old request answer new.
         SlotStep (keys_of old.port.now.tree old.tagger.now (L.leaf_of old.port.now.leaves))
         (L.levels old.port.now.leaves)
-        (beside old.port.now.clock old.port.now.tree (M.state old.memory.now) (W.state old.tap.now))
+        (port_of old.port.now.clock old.port.now.tree (M.state old.memory.now) (W.state old.tap.now))
         request answer
-        (beside new.port.now.clock new.port.now.tree (M.state new.memory.now) (W.state new.tap.now))
-        × (new.memory.ghost_name ≡ old.memory.ghost_name) × (new.tap.ghost_name ≡ old.tap.ghost_name)
-        × (new.port.ghost_name ≡ old.port.ghost_name) × (new.tagger.now ≡ old.tagger.now)
-        × (new.port.now.leaves ≡ old.port.now.leaves) × IsSameTree old.port.now.tree new.port.now.tree };
+        (port_of new.port.now.clock new.port.now.tree (M.state new.memory.now) (W.state new.tap.now))
+        × IsSameSlots old new };
 
     ghost total = { λ slots. slots.port.now.tree.shape.total };
 
@@ -75,7 +71,9 @@ impl<'p, 'b, M: UntrustedMemory, W: Watch, L: LeafFn> Slots for PortSlots<'p, 'b
     ghost rests = { λ slots. Rests 0 slots.port.now.clock slots.port.now.tree (L.levels slots.port.now.leaves)
         (M.state slots.memory.now) (W.state slots.tap.now) };
 
-    ghost ended = { λ slots. Rests 1 slots.port.now.clock slots.port.now.tree (L.levels slots.port.now.leaves)
+    ghost ended = { λ slots. Rests 0 slots.port.now.clock slots.port.now.tree (L.levels slots.port.now.leaves)
+        (M.state slots.memory.now) (W.state slots.tap.now)
+        × Rests 1 slots.port.now.clock slots.port.now.tree (L.levels slots.port.now.leaves)
         (M.state slots.memory.now) (W.state slots.tap.now) × (0 < slots.port.now.tree.spare) };
 
     fn access(&mut self, access: &Access) -> Result<Seen, Stop> {
@@ -92,4 +90,8 @@ impl<'p, 'b, M: UntrustedMemory, W: Watch, L: LeafFn> Slots for PortSlots<'p, 'b
         let mut bus = Bus::new(self.memory, self.tap);
         crate::access::answer(&mut bus, line, value);
     }
+
+    ghost goes_on = { λ slots h. h.0 };
+
+    ghost keeps_total = { λ old new request answer h. ap (λ (s : Shape). s.total) h.1.tree.shape };
 }

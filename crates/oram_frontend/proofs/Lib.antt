@@ -1,0 +1,5 @@
+pub mod Below
+pub mod Finish
+pub mod PortLaws
+pub mod SlotLaws
+pub mod Through
