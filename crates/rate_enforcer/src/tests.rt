@@ -133,7 +133,7 @@ fn idled<L: LeafFn, M: UntrustedMemory, W: Watch>(
     }
 }
 
-/// What is at hand of an entry's address in the slot of a request, which is taken; or where nothing is, the entry is put.
+/// What is at hand of an entry's address in the slot of a request, and is taken; where nothing is, the entry is put.
 fn swapped<L: LeafFn, M: UntrustedMemory, W: Watch>(
     port: &mut Port<L>,
     bus: &mut Bus<'_, M, W>,
