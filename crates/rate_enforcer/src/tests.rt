@@ -5,7 +5,9 @@ ghost use Rattle.asc_base.specs.Settings.{IsConfig};
 ghost use Rattle.rate_enforcer.specs.State.{Rests};
 
 use crate::Port;
-use asc_base::{Address, Config, Counter, Leaf, Point, Settings, Stop, WideRates};
+use asc_base::{
+    Address, Config, Counter, Entry, Evidence, Leaf, Line, Point, Settings, Stop, WideRates,
+};
 use asc_outside::{FaultyMemory, HonestMemory, UntrustedMemory};
 use bucket_codec::Codec;
 use bus_watch::{Bus, Event, Log, Recorder, Watch};
@@ -127,6 +129,90 @@ fn idled<L: LeafFn, M: UntrustedMemory, W: Watch>(
     let until = time.min(port.clock.config.time);
     match port.idle_until(bus, until) {
         Ok(end) => Ok(end),
+        Err(stop) => Err(stop),
+    }
+}
+
+/// What is at hand of an entry's address in the slot of a request, and is taken; where nothing is, the entry is put.
+fn swapped<L: LeafFn, M: UntrustedMemory, W: Watch>(
+    port: &mut Port<L>,
+    bus: &mut Bus<'_, M, W>,
+    entry: Entry,
+) -> Result<Option<Entry>, Stop>
+    requires rests { port.old.clock.stop ≡ None → Rests 0 port.old.clock port.old.tree (L.levels port.old.leaves)
+        (M.state bus.old.memory.now) (W.state bus.old.tap.now) }
+    requires leaf { entry.leaf.0 ≡ 0 }
+    ensures { port.new.clock.stop ≡ None → Rests 0 port.new.clock port.new.tree (L.levels port.new.leaves)
+        (M.state bus.new.memory.now) (W.state bus.new.tap.now) }
+{
+    if entry.address.0 >= port.clock.config.shape.total {
+        return Err(Stop::NoMemory);
+    }
+    let from = port.last();
+    let slot = match port.open(bus, from, Point::Dummy(1_000)) {
+        Ok(slot) => slot,
+        Err(stop) => return Err(stop),
+    };
+    match port.take(&slot, entry.address) {
+        Some(found) => {
+            return match port.close(bus, slot) {
+                Ok(_) => Ok(Some(found)),
+                Err(stop) => Err(stop),
+            };
+        }
+        None => {}
+    }
+    port.put(&slot, entry);
+    match port.close(bus, slot) {
+        Ok(_) => Ok(None),
+        Err(stop) => Err(stop),
+    }
+}
+
+/// Puts an entry at hand behind the slot of a request.
+fn appended<L: LeafFn, M: UntrustedMemory, W: Watch>(
+    port: &mut Port<L>,
+    bus: &mut Bus<'_, M, W>,
+    entry: Entry,
+) -> Result<(), Stop>
+    requires rests { port.old.clock.stop ≡ None → Rests 0 port.old.clock port.old.tree (L.levels port.old.leaves)
+        (M.state bus.old.memory.now) (W.state bus.old.tap.now) }
+    requires leaf { entry.leaf.0 ≡ 0 }
+    ensures { port.new.clock.stop ≡ None → Rests 0 port.new.clock port.new.tree (L.levels port.new.leaves)
+        (M.state bus.new.memory.now) (W.state bus.new.tap.now) }
+{
+    if entry.address.0 >= port.clock.config.shape.total {
+        return Err(Stop::NoMemory);
+    }
+    let from = port.last();
+    let slot = match port.open(bus, from, Point::Dummy(1_001)) {
+        Ok(slot) => slot,
+        Err(stop) => return Err(stop),
+    };
+    match port.close(bus, slot) {
+        Ok(_) => {}
+        Err(stop) => return Err(stop),
+    }
+    match port.append(entry) {
+        Ok(()) => Ok(()),
+        Err(stop) => Err(stop),
+    }
+}
+
+/// The time after the reads of the slot of a request, which is given up with a stop.
+fn aborted<L: LeafFn, M: UntrustedMemory, W: Watch>(
+    port: &mut Port<L>,
+    bus: &mut Bus<'_, M, W>,
+    stop: Stop,
+) -> Result<u64, Stop>
+    requires rests { port.old.clock.stop ≡ None → Rests 0 port.old.clock port.old.tree (L.levels port.old.leaves)
+        (M.state bus.old.memory.now) (W.state bus.old.tap.now) }
+    ensures { port.new.clock.stop ≡ None → Rests 0 port.new.clock port.new.tree (L.levels port.new.leaves)
+        (M.state bus.new.memory.now) (W.state bus.new.tap.now) }
+{
+    let from = port.last();
+    match port.open(bus, from, Point::Dummy(1_002)) {
+        Ok(slot) => Ok(port.abort(slot, stop)),
         Err(stop) => Err(stop),
     }
 }
@@ -299,5 +385,57 @@ fn failed_moves_stop(rt: HostRuntime) -> Result<(), Fail> {
         );
         assert_eq!(rt; tap.log().moves.len() as u64, number);
     }
+    Ok(())
+}
+
+#[test]
+fn entries_go_through(rt: HostRuntime) -> Result<(), Fail> {
+    let alloc = rt.alloc();
+    let config = small(&rt, 1, 0, 6_000);
+    let mut memory = HonestMemory::new(alloc);
+    let mut tap = Recorder::new(alloc);
+    let mut bus = Bus::new(&mut memory, &mut tap);
+    let leaves = zeros(alloc, config.shape.levels);
+    let mut port = started(&rt, alloc, &config, leaves, 20, &mut bus);
+    let entry = Entry {
+        address: Address(3),
+        leaf: Leaf(0),
+        line: Line([7; 64]),
+        tag: [5; 16],
+    };
+    assert_eq!(rt; swapped(&mut port, &mut bus, entry), Ok(None));
+    assert_eq!(rt; swapped(&mut port, &mut bus, entry), Ok(Some(entry)));
+    assert_eq!(rt; appended(&mut port, &mut bus, entry), Ok(()));
+    // the first one is in the tree by then
+    assert_eq!(rt; appended(&mut port, &mut bus, entry), Ok(()));
+    let doubled = Stop::Integrity(Evidence::Doubled {
+        address: Address(3),
+    });
+    assert_eq!(rt; served(&mut port, &mut bus, 0), Err(doubled));
+    assert_eq!(rt; idled(&mut port, &mut bus, 6_000), Err(doubled));
+    assert_eq!(rt; appended(&mut port, &mut bus, entry), Err(doubled));
+    assert_eq!(rt;
+        (port.clock.real, port.dummies(), port.last()),
+        (5, 0, 3_504)
+    );
+    assert_eq!(rt; tap.log().moves.len(), 54);
+    Ok(())
+}
+
+#[test]
+fn first_stop_stays(rt: HostRuntime) -> Result<(), Fail> {
+    let alloc = rt.alloc();
+    let config = small(&rt, 1, 0, 6_000);
+    let mut memory = HonestMemory::new(alloc);
+    let mut tap = Recorder::new(alloc);
+    let mut bus = Bus::new(&mut memory, &mut tap);
+    let leaves = zeros(alloc, config.shape.levels);
+    let mut port = started(&rt, alloc, &config, leaves, 20, &mut bus);
+    let stop = Stop::StashFull { held: 9 };
+    assert_eq!(rt; aborted(&mut port, &mut bus, stop), Ok(496));
+    assert_eq!(rt; aborted(&mut port, &mut bus, Stop::Device), Err(stop));
+    assert_eq!(rt; served(&mut port, &mut bus, 0), Err(stop));
+    assert_eq!(rt; (port.clock.real, port.dummies(), port.last()), (1, 0, 496));
+    assert_eq!(rt; tap.log().moves.len(), 6);
     Ok(())
 }

@@ -1,4 +1,4 @@
-use Rattle.std.proofs.Common.{◌≡◌, ◌≤◌, ◌∙◌, ◌+◌, None, sym, arith}
+use Rattle.std.proofs.Common.{arith}
 use Rattle.rate_enforcer.proofs.StateLaws.{opens_less}
 use Rattle.rate_enforcer.proofs.tests.served.Goals as goal
 
