@@ -9,3 +9,6 @@ mod walk;
 pub use front::Front;
 pub use laws::plans_have_rows;
 pub use slots::{Access, Purpose, Seen, Slots};
+
+#[cfg(test)]
+mod tests;
