@@ -4,3 +4,5 @@ pub mod Sequence
 pub mod Parts
 pub mod Held
 pub mod Fresh
+pub mod WalkLists
+pub mod HeldAfter

@@ -1,10 +1,26 @@
 //! Laws of a front end's plans. The functions do nothing: each states laws in its contract.
 
-ghost use Rattle.std.specs.Prelude.{◌≡◌, [], ◌∷◌, ◌++◌, length, map, filter, ◌==◌};
+ghost use Rattle.std.specs.Prelude.{◌≡◌, ℕ, [], ◌∷◌, ◌++◌, map};
 ghost use Rattle.std.specs.List.{range_with_len};
+ghost use Rattle.request_plan.specs.Plan.{Outcomes};
+ghost use Rattle.asc_base.specs.declared.block.Line.{Line};
 ghost use Rattle.posmap_lookaside.specs.Rows.{row, default_sizes, small_sizes, in_turn};
+ghost use Rattle.oram_walk.specs.Front.{FrontState, IsAfter};
+ghost use Rattle.oram_walk.specs.Plans.{request_plan, fetch_plan, store_plan};
+ghost use Rattle.oram_walk.specs.declared.slots.Purpose.{Purpose};
 ghost use Rattle.oram_walk.specs.Rows.{requests, start, zeros, default_shape, flat_shape, rooted_shape};
 ghost use Rattle.oram_walk.specs.declared.slots.Purpose.TheVariants.{Keep};
+
+/// Whatever is answered, what is held after a request follows from what was held and the line alone: it is what is held
+/// after the walk to that line.
+pub fn requests_hold_by_addresses()
+    ensures request { (state : FrontState) (asked line : ℕ) (purpose : Purpose)
+        → Outcomes (λ (now, _). IsAfter state line now) (request_plan state asked (record { 0 = line }) purpose) }
+    ensures fetch { (state : FrontState) (asked line : ℕ)
+        → Outcomes (λ (now, _). IsAfter state line now) (fetch_plan state asked line) }
+    ensures store { (state : FrontState) (asked line : ℕ) (value : Line)
+        → Outcomes (λ (now, _). IsAfter state line now) (store_plan state asked line value) }
+{}
 
 /// The plans on rows: over a memory of zeros they access and append what the walk does. On the default shape lines 0,
 /// 32 and 0 take 9 accesses where one block is held, and 6 where 32 are. With own counts of two bits four requests for
