@@ -6,3 +6,6 @@ pub mod Held
 pub mod Fresh
 pub mod WalkLists
 pub mod HeldAfter
+pub mod Played
+pub mod Standing
+pub mod Visits
