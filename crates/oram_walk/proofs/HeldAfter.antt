@@ -7,7 +7,7 @@ use Rattle.asc_base.specs.declared.stop.Stop.{Stop}
 use Rattle.posmap_lookaside.specs.Held.{addresses_of}
 use Rattle.posmap_lookaside.specs.Walk.{held_after}
 use Rattle.oram_walk.specs.Front.{FrontState, IsAfter, sizes_of}
-use Rattle.oram_walk.specs.Plans.{FrontPlan, request_plan, fetch_plan, store_plan}
+use Rattle.oram_walk.specs.Plans.{request_plan, fetch_plan, store_plan}
 use Rattle.oram_walk.specs.Request.{Request, Answer}
 use Rattle.oram_walk.specs.declared.slots.Purpose.{Purpose}
 use Rattle.oram_walk.specs.declared.slots.Purpose.TheVariants.{Keep, Replace}

@@ -9,3 +9,6 @@ pub mod HeldAfter
 pub mod Played
 pub mod Standing
 pub mod Visits
+pub mod Refills
+pub mod Climbs
+pub mod Walked

@@ -1,7 +1,7 @@
 -- A plan of a front end that is served by a memory: what is shown, and what is left.
-use Rattle.std.proofs.Common.{◌≡◌, ℕ, List, [], ◌∷◌, ◌++◌, refl, sym, ap, ◌∙◌, append_assoc}
+use Rattle.std.proofs.Common.{◌≡◌, ℕ, List, [], ◌++◌, refl, sym, ap, ◌∙◌, append_assoc}
 use Rattle.request_plan.specs.Plan.{Plan, Done, Ask, bind}
-use Rattle.request_plan.specs.Play.{Turn, play, bare, marked}
+use Rattle.request_plan.specs.Play.{play, bare, marked}
 use Rattle.request_plan.proofs.Plays.{bare-marked, bare-append}
 use Rattle.asc_base.specs.declared.block.Line.{Line}
 use Rattle.oram_walk.specs.Front.{FrontState}

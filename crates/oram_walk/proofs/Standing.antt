@@ -1,15 +1,16 @@
 -- What a front end and a memory show stays shown, through each part of a walk.
-use Rattle.std.proofs.Common.{◌≡◌, ◌≢◌, ℕ, ◌+◌, ◌-◌, ◌<◌, ◌≤◌, Bool, true, false, List, [], ◌∷◌, length, take, nat_eq}
-use Rattle.std.proofs.Common.{Option, Some, None, option_map, is_some, inl, inr, refl, sym, ap, ◌∙◌, subst, arith}
+use Rattle.std.proofs.Common.{◌≡◌, ◌≢◌, ℕ, ◌-◌, ◌<◌, true, false, List, length}
+use Rattle.std.proofs.Common.{Option, Some, None, option_map, is_some, inl, inr, refl, sym, ap, ◌∙◌, subst}
 use Rattle.std.proofs.lemmas.Bool.Decides.{eqb_tells}
 use Rattle.asc_base.specs.TreeShape.{layer_count, layer_first, parent_of, children_of}
 use Rattle.asc_base.specs.declared.shape.Shape.{Shape}
 use Rattle.asc_base.specs.declared.block.Address.{Address}
 use Rattle.asc_base.specs.declared.block.Counter.{Counter}
 use Rattle.asc_base.specs.declared.block.Line.{Line}
-use Rattle.posmap_counters.specs.Counters.{Counters, counter_at, next_group, Access, block_of, child_move, after, is_among}
+use Rattle.posmap_counters.specs.Counters.{Counters, counter_at, next_group, Access, block_of, child_move, after}
+use Rattle.posmap_counters.specs.Counters.{is_among}
 use Rattle.posmap_counters.specs.Families.{HasCounters, HasRoots}
-use Rattle.posmap_counters.specs.Group.{GroupState, IsGroup, line_in}
+use Rattle.posmap_counters.specs.Group.{GroupState, IsGroup}
 use Rattle.posmap_counters.proofs.ChangeLaws.{after_other}
 use Rattle.posmap_counters.proofs.FamilyLaws.{block_of-child, moves_at, moves_other, counters_stay}
 use Rattle.posmap_counters.proofs.RootLaws.{roots_stay}
@@ -83,7 +84,8 @@ module _ (shape : Shape) where
     counters_are = λ a block at. elim (eqb_tells a.0 c) [
       | inl same ↦
           let found = sym (changed_at (with_counter next) held (record { 0 = c }) (λ h. refl))
-          ∙ ap (held_at (changed (with_counter next) held (record { 0 = c }))) (sym (at_number a (record { 0 = c }) same.1))
+          ∙ ap (held_at (changed (with_counter next) held (record { 0 = c })))
+          (sym (at_number a (record { 0 = c }) same.1))
           ∙ at in
           renumbered_counter (held_at held (record { 0 = c })) next block found ∙ is_next
           ∙ sym (moves_at shape.lines shape.layers counters list c)
@@ -98,16 +100,16 @@ module _ (shape : Shape) where
         let now : ℕ → Counter = counter_at (after shape.lines shape.layers counters (child_move list c)) in
         let by_count = shown_count (held_at held a) (lines a.0) count now first number
         (λ group has. counters_stay shape.lines shape.layers counters (child_move list c) a.0 first number group low
-          children (λ e. apart (sym here ∙ e)) has) (s.groups_are a first number low apart children) in
+        children (λ e. apart (sym here ∙ e)) has) (s.groups_are a first number low apart children) in
         elim (eqb_tells a.0 c) [
           | inl same ↦
               let at = changed_at (with_counter next) held (record { 0 = c }) (λ h. refl) in
               subst (λ (x : Address). IsShown (held_at (changed (with_counter next) held (record { 0 = c })) x)
-                (lines a.0) now first number) (sym (at_number a (record { 0 = c }) same.1))
+              (lines a.0) now first number) (sym (at_number a (record { 0 = c }) same.1))
               (subst (λ (o : Option Held). IsShown o (lines a.0) now first number) (sym at)
-                (subst (λ (x : Address). IsShown (option_map (with_counter next) (held_at held x)) (lines a.0) now first
-                  number) (at_number a (record { 0 = c }) same.1)
-                  (shown_counter (held_at held a) next (lines a.0) now first number by_count)))
+              (subst (λ (x : Address). IsShown (option_map (with_counter next) (held_at held x)) (lines a.0) now first
+              number) (at_number a (record { 0 = c }) same.1)
+              (shown_counter (held_at held a) next (lines a.0) now first number by_count)))
           | inr other ↦
               subst (λ (o : Option Held). IsShown o (lines a.0) now first number)
               (sym (changed_other (with_counter next) held (record { 0 = c }) a (λ h. refl) other.1)) by_count
@@ -172,12 +174,12 @@ module _ (shape : Shape) where
         (λ e. yes_no (sym (held_among held list a block s.held_is at) ∙ ap (is_among list) e ∙ absent)));
     groups_are = λ a first number low apart children.
         subst (λ (line : Line). IsShown (held_at held a) line
-          (counter_at (after shape.lines shape.layers counters (Access b))) first number)
+        (counter_at (after shape.lines shape.layers counters (Access b))) first number)
         (sym (kept a.0 first number children))
         (shown_count (held_at held a) (lines a.0) (counter_at counters)
-          (counter_at (after shape.lines shape.layers counters (Access b))) first number
-          (λ group has. counters_stay shape.lines shape.layers counters (Access b) a.0 first number group low children
-            apart has) (s.groups_are a first number low (λ e. none_some e) children));
+        (counter_at (after shape.lines shape.layers counters (Access b))) first number
+        (λ group has. counters_stay shape.lines shape.layers counters (Access b) a.0 first number group low children
+        apart has) (s.groups_are a first number low (λ e. none_some e) children));
   }
     where
       yes_no : true ≡ false → ⊥

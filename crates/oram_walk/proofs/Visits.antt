@@ -1,19 +1,19 @@
 -- An access that is asked for shows the accesses of its changes, and what is shown of the counters stays shown.
-use Rattle.std.proofs.Common.{◌≡◌, ◌≢◌, ℕ, zero, suc, ◌+◌, ◌-◌, ◌%◌, ◌^◌, ◌<◌, ◌≤◌, Bool, true, false, cond, is_some, is_none, nat_le}
-use Rattle.std.proofs.Common.{List, [], ◌∷◌, ◌++◌, length, map, get_or, Option, Some, None, option_map, inl, inr}
+use Rattle.std.proofs.Common.{◌≡◌, ◌≢◌, ℕ, zero, suc, ◌+◌, ◌-◌, ◌%◌, ◌^◌, ◌<◌, ◌≤◌, Bool, true, false, is_some}
+use Rattle.std.proofs.Common.{is_none, nat_le}
+use Rattle.std.proofs.Common.{List, [], ◌∷◌, ◌++◌, map, get_or, Option, Some, None, option_map, inl, inr}
 use Rattle.std.proofs.Common.{refl, sym, ap, ◌∙◌, subst, arith, append-nil, append_assoc, length-set}
 use Rattle.std.specs.Prelude.{if◌then◌else◌, slice_set, slice_index}
 use Rattle.std.proofs.lemmas.Bool.Decides.{leb_tells}
 use Rattle.request_plan.specs.Plan.{Done}
-use Rattle.asc_base.specs.TreeShape.{layer_count, layer_first, parent_of, children_of, child_index_of}
+use Rattle.asc_base.specs.TreeShape.{layer_first, parent_of, children_of, child_index_of}
 use Rattle.asc_base.specs.declared.shape.Shape.{Shape}
 use Rattle.asc_base.specs.declared.block.Address.{Address}
 use Rattle.asc_base.specs.declared.block.Counter.{Counter}
-use Rattle.asc_base.specs.declared.block.Line.{Line}
 use Rattle.asc_base.specs.Shape.{children_in}
 use Rattle.asc_base.proofs.Families.{child_of_parent, parent_of_child, children_few}
 use Rattle.posmap_counters.specs.Counters.{Counters, counter_at, next_group, Change, Access, MoveChild, RenumberChild}
-use Rattle.posmap_counters.specs.Counters.{block_of, child_move, after, after_all, asked_changes, group_move, is_among}
+use Rattle.posmap_counters.specs.Counters.{child_move, after, after_all, asked_changes, group_move, is_among}
 use Rattle.posmap_counters.specs.Counters.{addresses_from}
 use Rattle.posmap_counters.specs.Families.{HasCounters, HasRoots, IsMoving}
 use Rattle.posmap_counters.specs.Group.{GroupState, IsGroup, child_counter, moved_group, stepped_group}
@@ -30,10 +30,9 @@ use Rattle.posmap_lookaside.proofs.HeldLaws.{changed_at, changed_other}
 use Rattle.oram_walk.specs.Front.{FrontState, with_held, counter_in, counter_by, counter_under, stepped, stepped_by}
 use Rattle.oram_walk.specs.Front.{stepped_under, full_parent, full_by, full_under}
 use Rattle.oram_walk.specs.Memory.{Shown, Accessed, put_back}
-use Rattle.oram_walk.specs.Plans.{FrontPlan, on, child_by, child_plan, children_plan, family_plan, move_plan}
+use Rattle.oram_walk.specs.Plans.{on, child_by, child_plan, children_plan, family_plan, move_plan}
 use Rattle.oram_walk.specs.Plans.{full_plan, step_plan, visit_plan}
 use Rattle.oram_walk.specs.Shows.{IsShown}
-use Rattle.oram_walk.specs.declared.slots.Access.{Access as Asked}
 use Rattle.oram_walk.specs.declared.slots.Purpose.{Purpose}
 use Rattle.oram_walk.specs.declared.slots.Purpose.TheVariants.{Keep}
 use Rattle.oram_walk.proofs.Played.{Lines, Goes, goes_on}
@@ -90,18 +89,19 @@ module _ (cycles : ℕ) (shape : Shape) (ic plb : ℕ) where
       is_some-held_at held (record { 0 = c }) ∙ ap (λ l. is_among l c) held_is in
       let state : FrontState = front roots (changed (with_counter next) held (record { 0 = c })) in
       subst (λ b. Goes cycles (child_by b state
-        (record { asked = asked; address = record { 0 = c }; counter = counter; next = next; purpose = Keep })) lines
-        (shown_change put counters (child_move list c)) lines state (if is_among list c then asked else asked + cycles))
+      (record { asked = asked; address = record { 0 = c }; counter = counter; next = next; purpose = Keep })) lines
+      (shown_change put counters (child_move list c)) lines state (if is_among list c then asked else asked + cycles))
       (sym test)
       (subst (λ shown. Goes cycles (child_by (is_among list c) state
-        (record { asked = asked; address = record { 0 = c }; counter = counter; next = next; purpose = Keep })) lines
-        shown lines state (if is_among list c then asked else asked + cycles))
-        (shown_child put counters list c counter next (is_among list c) refl is_counter is_next)
-        (child_by_goes (is_among list c) state asked lines (record { 0 = c }) counter next))
+      (record { asked = asked; address = record { 0 = c }; counter = counter; next = next; purpose = Keep })) lines
+      shown lines state (if is_among list c then asked else asked + cycles))
+      (shown_child put counters list c counter next (is_among list c) refl is_counter is_next)
+      (child_by_goes (is_among list c) state asked lines (record { 0 = c }) counter next))
 
   -- what so many children of a family, from one on, leave of a group move
   record Moved (put : Purpose) (p first number done left : ℕ) (from : ℕ) (group : GroupState) (block : Held)
-      (roots : List ℕ) (held : List Held) (lines : Lines) (list : List ℕ) (counters : Counters) (asked : ℕ) : Type 0 where
+      (roots : List ℕ) (held : List Held) (lines : Lines) (list : List ℕ) (counters : Counters)
+      (asked : ℕ) : Type 0 where
     pub later : List Held
     pub end : ℕ
     pub goes : Goes cycles (children_plan group first done left (front roots held) asked) lines
@@ -121,14 +121,14 @@ module _ (cycles : ℕ) (shape : Shape) (ic plb : ℕ) where
   unfolding after_all addresses_from
   children_goes put p first number done zero group block roots held lines list counters asked few family stands moving
       at = record {
-    later = held;
-    end = asked;
-    goes = record { shows = refl; ends = refl };
-    stands = stands;
-    moving = let same : done ≡ done + 0 = omega arith in
-        subst (λ n. IsMoving (counter_at counters) first number n group) same moving;
-    parent = at;
-  }
+        later = held;
+        end = asked;
+        goes = record { shows = refl; ends = refl };
+        stands = stands;
+        moving = let same : done ≡ done + 0 = omega arith in
+            subst (λ n. IsMoving (counter_at counters) first number n group) same moving;
+        parent = at;
+      }
   children_goes put p first number done (suc left) group block roots held lines list counters asked few family stands
       moving at =
       let c : ℕ = first + done in
@@ -142,13 +142,14 @@ module _ (cycles : ℕ) (shape : Shape) (ic plb : ℕ) where
       let one = child_goes put roots held lines list counters asked c (child_counter group done) next stands.held_is
       (sym shown) (raised ∙ sym (after_at shape.lines shape.layers counters (MoveChild c))) in
       let place : first + (done + 1) ≡ first + done + 1 = omega arith in
-      let rest : Moved put p first number (done + 1) left (first + done + 1) group block roots held' lines list now end =
+      let rest : Moved put p first number (done + 1) left (first + done + 1) group block roots held'
+      lines list now end =
       subst (λ from. Moved put p first number (done + 1) left from group block roots held' lines list now end) place
       (children_goes put p first number (done + 1) left group block roots held' lines list now end (omega arith) family
-        (child_stands shape p c next roots held lines list counters (family done within).0 raised stands)
-        (child_moves shape.lines shape.layers counters first number done group list within moving)
-        (changed_other (with_counter next) held (record { 0 = c }) (record { 0 = p }) (λ h. refl) (family done within).1
-          ∙ at)) in
+      (child_stands shape p c next roots held lines list counters (family done within).0 raised stands)
+      (child_moves shape.lines shape.layers counters first number done group list within moving)
+      (changed_other (with_counter next) held (record { 0 = c }) (record { 0 = p }) (λ h. refl) (family done within).1
+      ∙ at)) in
       record {
         later = rest.later;
         end = rest.end;
@@ -159,8 +160,10 @@ module _ (cycles : ℕ) (shape : Shape) (ic plb : ℕ) where
             (front roots held') (front roots rest.later) end rest.end one rest.goes;
         stands = rest.stands;
         moving = let same : done + 1 + left ≡ done + suc left = omega arith in
-            subst (λ n. IsMoving (counter_at (all_of now (map (child_move list) (addresses_from (first + done + 1) left))))
-              first number n group) same rest.moving;
+            subst
+            (λ n. IsMoving
+            (counter_at (all_of now (map (child_move list) (addresses_from (first + done + 1) left))))
+            first number n group) same rest.moving;
         parent = rest.parent;
       }
 
@@ -181,6 +184,26 @@ module _ (cycles : ℕ) (shape : Shape) (ic plb : ℕ) where
     pub low : b < layer_first shape.lines shape.layers
     pub at : held_at held (record { 0 = p }) ≡ Some block
 
+  -- a block has a place under its parent
+  pub under_of : (b p : ℕ) (held : List Held) (block : Held) → b < layer_first shape.lines shape.layers
+      → parent_of shape.lines shape.layers b ≡ Some p → held_at held (record { 0 = p }) ≡ Some block
+      → (first : ℕ) × (number : ℕ) × IsUnder b p first number held block
+  under_of b p held block low above at =
+      let up = child_of_parent shape.lines shape.layers b p low above in (
+        up.0,
+        up.1,
+        record {
+          above = above;
+          children = up.2;
+          place = up.3;
+          within = up.4;
+          few = (children_few shape.lines shape.layers p (up.0) (up.1) up.5 up.2).1;
+          inside = up.5;
+          low = low;
+          at = at;
+        },
+      )
+
   -- it is one of the family
   member : (b p first number : ℕ) (held : List Held) (block : Held) → IsUnder b p first number held block → (k : ℕ)
       → k < number → (parent_of shape.lines shape.layers (first + k) ≡ Some p) × (p ≢ first + k)
@@ -190,7 +213,8 @@ module _ (cycles : ℕ) (shape : Shape) (ic plb : ℕ) where
   )
 
   -- the group of the parent, by the family that it has
-  has_group : (b p first number : ℕ) (held : List Held) (block : Held) (roots : List ℕ) (lines : Lines) (list : List ℕ)
+  pub has_group : (b p first number : ℕ) (held : List Held) (block : Held) (roots : List ℕ)
+      (lines : Lines) (list : List ℕ)
       (counters : Counters) → IsUnder b p first number held block → Stands shape None roots held lines list counters
       → IsGroup block.group × HasCounters (counter_at counters) first number block.group
   has_group b p first number held block roots lines list counters u s =
@@ -234,28 +258,29 @@ module _ (cycles : ℕ) (shape : Shape) (ic plb : ℕ) where
       ap (option_map (λ (f, n). (let x : Address = record { 0 = f } in x, n))) u.children in
       let later : List Held = changed (with_group (moved_group group)) done.later (record { 0 = p }) in
       let whole : Goes cycles (family_plan group (children_in shape (record { 0 = p })) (front roots held) asked) lines
-        (shown_all put counters (map (child_move list) (addresses_from first number))) lines (front roots done.later)
-        done.end =
+      (shown_all put counters (map (child_move list) (addresses_from first number))) lines (front roots done.later)
+      done.end =
       subst (λ (o : Option (Address × ℕ)). Goes cycles (family_plan group o (front roots held) asked) lines
-        (shown_all put counters (map (child_move list) (addresses_from first number))) lines (front roots done.later)
-        done.end) (sym family) done.goes in
+      (shown_all put counters (map (child_move list) (addresses_from first number))) lines (front roots done.later)
+      done.end) (sym family) done.goes in
       let closed = regroup_stands shape (record { 0 = p }) block (moved_group group) roots done.later lines list now
       done.parent (moved_is group)
       (λ f n children. subst (λ (x : ℕ × ℕ). HasCounters (counter_at now) (x.0) (x.1) (moved_group group))
-        (pair_is (sym u.children ∙ children)) ended) done.stands in
+      (pair_is (sym u.children ∙ children)) ended) done.stands in
       record {
         later = later;
         end = done.end;
         goes = subst (λ changes. Goes cycles (move_plan (front roots held) asked (record { 0 = p }) group) lines
             (shown_all put counters changes) lines (front roots later) done.end) (sym moves)
             (subst (λ shown. Goes cycles (move_plan (front roots held) asked (record { 0 = p }) group) lines shown lines
-              (front roots later) done.end) (append-nil _)
-              (goes_on cycles (family_plan group (children_in shape (record { 0 = p })) (front roots held) asked)
-                (λ s e. Done (with_held s (changed (with_group (moved_group group)) s.held (record { 0 = p })), e))
-                lines lines lines (shown_all put counters (map (child_move list) (addresses_from first number))) []
-                (front roots done.later) (front roots later) done.end done.end whole
-                (record { shows = refl; ends = refl })));
-        stands = subst (λ changes. Stands shape None roots later lines list (all_of counters changes)) (sym moves) closed;
+            (front roots later) done.end) (append-nil _)
+            (goes_on cycles (family_plan group (children_in shape (record { 0 = p })) (front roots held) asked)
+            (λ s e. Done (with_held s (changed (with_group (moved_group group)) s.held (record { 0 = p })), e))
+            lines lines lines (shown_all put counters (map (child_move list) (addresses_from first number))) []
+            (front roots done.later) (front roots later) done.end done.end whole
+            (record { shows = refl; ends = refl })));
+        stands = subst (λ changes. Stands shape None roots later lines list (all_of counters changes))
+            (sym moves) closed;
         under = record {
           above = u.above;
           children = u.children;
@@ -270,24 +295,24 @@ module _ (cycles : ℕ) (shape : Shape) (ic plb : ℕ) where
       }
 
   -- the counter that the front end shows of a block under its held parent, and of one of the top layer
-  counter_under_parent : (b p first number : ℕ) (block : Held) (roots : List ℕ) (held : List Held) (lines : Lines)
+  pub counter_under_parent : (b p first number : ℕ) (block : Held) (roots : List ℕ) (held : List Held) (lines : Lines)
       (list : List ℕ) (counters : Counters) → IsUnder b p first number held block
       → HasCounters (counter_at counters) first number block.group
       → counter_in (front roots held) (record { 0 = b }) ≡ counter_at counters b
   counter_under_parent b p first number block roots held lines list counters u has =
       let child : ℕ = child_index_of shape.lines shape.layers b in
       ap (λ (o : Option ℕ). counter_by (front roots held) (record { 0 = b })
-        (option_map (λ n. let x : Address = record { 0 = n } in x) o)) u.above
+      (option_map (λ n. let x : Address = record { 0 = n } in x) o)) u.above
       ∙ ap (λ (o : Option Held). counter_under child (option_map (λ (h : Held). h.group) o)) u.at
       ∙ sym (has.children child u.within) ∙ ap (counter_at counters) (sym u.place)
 
-  counter_of_root : (b : ℕ) (roots : List ℕ) (held : List Held) (counters : Counters)
+  pub counter_of_root : (b : ℕ) (roots : List ℕ) (held : List Held) (counters : Counters)
       → parent_of shape.lines shape.layers b ≡ None → b < layer_first shape.lines shape.layers
       → HasRoots shape.lines shape.layers (counter_at counters) roots
       → counter_in (front roots held) (record { 0 = b }) ≡ counter_at counters b
   counter_of_root b roots held counters top low has =
       ap (λ (o : Option ℕ). counter_by (front roots held) (record { 0 = b })
-        (option_map (λ n. let x : Address = record { 0 = n } in x) o)) top
+      (option_map (λ n. let x : Address = record { 0 = n } in x) o)) top
       ∙ sym (has b low top)
 
   -- the step and its access, by the counters before and after
@@ -336,19 +361,20 @@ module _ (cycles : ℕ) (shape : Shape) (ic plb : ℕ) where
       let now : Counters = next_of counters (Access b) in
       let seen : Seen = record { line = lines b; end = asked + cycles } in
       let here : Goes cycles (step_plan (front roots held) asked address put) lines
-        (Accessed b (counter_at counters b) (counter_at now b) put ∷ []) (put_back lines b put) (front roots' held) seen =
+      (Accessed b (counter_at counters b) (counter_at now b) put ∷ []) (put_back lines b put)
+      (front roots' held) seen =
       step_goes put address (front roots held) (front roots' held) lines asked (counter_at counters b)
       (counter_at now b)
       (ap (λ (o : Option ℕ). stepped_by (front roots held) address
-        (option_map (λ n. let x : Address = record { 0 = n } in x) o)) top)
+      (option_map (λ n. let x : Address = record { 0 = n } in x) o)) top)
       (counter_of_root b roots held counters top low s.roots_are) (counter_of_root b roots' held now top low has) in
       let none : full_parent (front roots held) address ≡ None =
       ap (λ (o : Option ℕ). full_by (front roots held) address
-        (option_map (λ n. let x : Address = record { 0 = n } in x) o)) top in
+      (option_map (λ n. let x : Address = record { 0 = n } in x) o)) top in
       let stands : Stands shape None roots' held (put_back lines b put) list now =
       subst (λ (o : Option ℕ). Stands shape o roots' held (put_back lines b put) list now) top
       (access_stands shape b roots roots' held lines (put_back lines b put) list counters absent
-        (length-set roots place ((slice_index roots place + 1) % 2 ^ 64)) has kept s) in
+      (length-set roots place ((slice_index roots place + 1) % 2 ^ 64)) has kept s) in
       record {
         roots' = roots';
         later = held;
@@ -356,9 +382,9 @@ module _ (cycles : ℕ) (shape : Shape) (ic plb : ℕ) where
         goes = subst (λ changes. Goes cycles (visit_plan (front roots held) asked address put) lines
             (shown_all put counters changes) (put_back lines b put) (front roots' held) seen) (sym alone)
             (subst (λ (o : Option (Address × GroupState)). Goes cycles
-              (on (full_plan (front roots held) asked o) (λ later end. step_plan later end address put)) lines
-              (Accessed b (counter_at counters b) (counter_at now b) put ∷ []) (put_back lines b put)
-              (front roots' held) seen) (sym none) here);
+            (on (full_plan (front roots held) asked o) (λ later end. step_plan later end address put)) lines
+            (Accessed b (counter_at counters b) (counter_at now b) put ∷ []) (put_back lines b put)
+            (front roots' held) seen) (sym none) here);
         stands = subst (λ changes. Stands shape None roots' held (put_back lines b put) list (all_of counters changes))
             (sym alone) stands;
       }
@@ -384,17 +410,18 @@ module _ (cycles : ℕ) (shape : Shape) (ic plb : ℕ) where
       let stepped_has : HasCounters (counter_at now) first number group' =
       subst (λ x. HasCounters (counter_at (next_of counters (Access x))) first number group') (sym u.place)
       (step_counters shape.lines shape.layers counters ic first number child block.group u.within
-        (omega (arith, u.few, (has.0).children))
-        (ap is_none (ap (parent_of shape.lines shape.layers) (sym u.place) ∙ u.above)) room has.1) in
+      (omega (arith, u.few, (has.0).children))
+      (ap is_none (ap (parent_of shape.lines shape.layers) (sym u.place) ∙ u.above)) room has.1) in
       let has_roots = roots_stay shape.lines shape.layers counters (Access b) roots
       (λ e. none_some (sym e ∙ u.above)) s.roots_are in
       let moved : Stands shape (Some p) roots held (put_back lines b put) list now =
       subst (λ (o : Option ℕ). Stands shape o roots held (put_back lines b put) list now) u.above
-      (access_stands shape b roots roots held lines (put_back lines b put) list counters absent refl has_roots kept s) in
+      (access_stands shape b roots roots held lines (put_back lines b put) list counters absent refl has_roots kept s)
+      in
       let stands = regroup_stands shape (record { 0 = p }) block group' roots held (put_back lines b put) list now u.at
       (step_is ic child block.group bits has.0)
       (λ f n children. subst (λ (x : ℕ × ℕ). HasCounters (counter_at now) (x.0) (x.1) group')
-        (pair_is (sym u.children ∙ children)) stepped_has) moved in
+      (pair_is (sym u.children ∙ children)) stepped_has) moved in
       let after_u : IsUnder b p first number later (with_group group' block) = record {
         above = u.above;
         children = u.children;
@@ -408,15 +435,15 @@ module _ (cycles : ℕ) (shape : Shape) (ic plb : ℕ) where
       } in
       let is_stepped : stepped (front roots held) address ≡ front roots later =
       ap (λ (o : Option ℕ). stepped_by (front roots held) address
-        (option_map (λ n. let x : Address = record { 0 = n } in x) o)) u.above
+      (option_map (λ n. let x : Address = record { 0 = n } in x) o)) u.above
       ∙ ap (λ (o : Option Held). stepped_under (front roots held) address (record { 0 = p })
-        (option_map (λ (h : Held). h.group) o)) u.at in (
+      (option_map (λ (h : Held). h.group) o)) u.at in (
         later,
         step_goes put address (front roots held) (front roots later) lines asked (counter_at counters b)
             (counter_at now b) is_stepped
             (counter_under_parent b p first number block roots held lines list counters u has.1)
             (counter_under_parent b p first number (with_group group' block) roots later (put_back lines b put) list now
-              after_u stepped_has),
+            after_u stepped_has),
         stands,
       )
 
@@ -441,9 +468,9 @@ module _ (cycles : ℕ) (shape : Shape) (ic plb : ℕ) where
       ≡ full_under ic (child_index_of shape.lines shape.layers b) (record { 0 = p }) (Some block.group)
   parent_is b p first number block roots held u =
       ap (λ (o : Option ℕ). full_by (front roots held) (record { 0 = b })
-        (option_map (λ n. let x : Address = record { 0 = n } in x) o)) u.above
+      (option_map (λ n. let x : Address = record { 0 = n } in x) o)) u.above
       ∙ ap (λ (o : Option Held). full_under ic (child_index_of shape.lines shape.layers b) (record { 0 = p })
-        (option_map (λ (h : Held). h.group) o)) u.at
+      (option_map (λ (h : Held). h.group) o)) u.at
 
   -- an access to a child of a held block, which has room
   room_visit : (put : Purpose) (b p first number : ℕ) (block : Held) (roots : List ℕ) (held : List Held)
@@ -464,7 +491,8 @@ module _ (cycles : ℕ) (shape : Shape) (ic plb : ℕ) where
       let none : full_parent (front roots held) address ≡ None =
       parent_is b p first number block roots held u
       ∙ ap (λ full. (if full then Some (address_of p, block.group) else None)) test in
-      let step = under_goes put b p first number block roots held lines list counters asked bits_to u absent kept room s in
+      let step = under_goes put b p first number block roots held lines list counters asked bits_to u
+      absent kept room s in
       record {
         roots' = roots;
         later = step.0;
@@ -473,11 +501,13 @@ module _ (cycles : ℕ) (shape : Shape) (ic plb : ℕ) where
             (shown_all put counters changes) (put_back lines b put) (front roots (step.0))
             (record { line = lines b; end = asked + cycles })) (sym alone)
             (subst (λ (o : Option (Address × GroupState)). Goes cycles
-              (on (full_plan (front roots held) asked o) (λ later end. step_plan later end address put)) lines
-              (Accessed b (counter_at counters b) (counter_at (next_of counters (Access b)) b) put ∷ [])
-              (put_back lines b put) (front roots (step.0)) (record { line = lines b; end = asked + cycles })) (sym none)
-              step.1);
-        stands = subst (λ changes. Stands shape None roots (step.0) (put_back lines b put) list (all_of counters changes))
+            (on (full_plan (front roots held) asked o) (λ later end. step_plan later end address put)) lines
+            (Accessed b (counter_at counters b) (counter_at (next_of counters (Access b)) b) put ∷ [])
+            (put_back lines b put) (front roots (step.0)) (record { line = lines b; end = asked + cycles }))
+            (sym none)
+            step.1);
+        stands = subst (λ changes. Stands shape None roots (step.0) (put_back lines b put) list
+            (all_of counters changes))
             (sym alone) step.2;
       }
 
@@ -496,7 +526,7 @@ module _ (cycles : ℕ) (shape : Shape) (ic plb : ℕ) where
       let moves : List Change = group_move shape.lines shape.layers list b in
       let both : asked_changes shape.lines shape.layers ic list counters b ≡ moves ++ Access b ∷ [] =
       subst (λ x. asked_changes shape.lines shape.layers ic list counters x
-        ≡ group_move shape.lines shape.layers list x ++ Access x ∷ []) (sym u.place)
+      ≡ group_move shape.lines shape.layers list x ++ Access x ∷ []) (sym u.place)
       (family-full shape.lines shape.layers ic first number child block.group counters list u.within has.1 full) in
       let some : full_parent (front roots held) address ≡ Some (address_of p, block.group) =
       parent_is b p first number block roots held u
@@ -506,7 +536,8 @@ module _ (cycles : ℕ) (shape : Shape) (ic plb : ℕ) where
       let middle : Counters = all_of counters moves in
       let fresh : get_or (moved_group block.group).own child 0 < 2 ^ ic - 1 =
       omega (arith, zeros_at 32 child, some_room ic bits) in
-      let step = under_goes put b p first number (with_group (moved_group block.group) block) roots moved.later lines list
+      let step = under_goes put b p first number (with_group (moved_group block.group) block) roots
+      moved.later lines list
       middle moved.end bits_to moved.under absent kept fresh moved.stands in
       let here : List Shown =
       Accessed b (counter_at middle b) (counter_at (next_of middle (Access b)) b) put ∷ [] in
@@ -518,18 +549,20 @@ module _ (cycles : ℕ) (shape : Shape) (ic plb : ℕ) where
         goes = subst (λ changes. Goes cycles (visit_plan (front roots held) asked address put) lines
             (shown_all put counters changes) (put_back lines b put) (front roots (step.0)) seen) (sym both)
             (subst (λ shown. Goes cycles (visit_plan (front roots held) asked address put) lines shown
-              (put_back lines b put) (front roots (step.0)) seen) (sym (shown-append put counters moves (Access b ∷ [])))
-              (subst (λ (o : Option (Address × GroupState)). Goes cycles
-                (on (full_plan (front roots held) asked o) (λ later end. step_plan later end address put)) lines
-                (shown_all put counters moves ++ here) (put_back lines b put) (front roots (step.0)) seen) (sym some)
-                (goes_on cycles (move_plan (front roots held) asked (address_of p) block.group)
-                  (λ later end. step_plan later end address put) lines lines (put_back lines b put)
-                  (shown_all put counters moves) here (front roots moved.later) (front roots (step.0)) moved.end seen
-                  moved.goes step.1)));
-        stands = subst (λ changes. Stands shape None roots (step.0) (put_back lines b put) list (all_of counters changes))
+            (put_back lines b put) (front roots (step.0)) seen)
+            (sym (shown-append put counters moves (Access b ∷ [])))
+            (subst (λ (o : Option (Address × GroupState)). Goes cycles
+            (on (full_plan (front roots held) asked o) (λ later end. step_plan later end address put)) lines
+            (shown_all put counters moves ++ here) (put_back lines b put) (front roots (step.0)) seen) (sym some)
+            (goes_on cycles (move_plan (front roots held) asked (address_of p) block.group)
+            (λ later end. step_plan later end address put) lines lines (put_back lines b put)
+            (shown_all put counters moves) here (front roots moved.later) (front roots (step.0)) moved.end seen
+            moved.goes step.1)));
+        stands = subst (λ changes. Stands shape None roots (step.0) (put_back lines b put) list
+            (all_of counters changes))
             (sym both)
             (subst (λ now. Stands shape None roots (step.0) (put_back lines b put) list now)
-              (sym (last-append counters moves b)) step.2);
+            (sym (last-append counters moves b)) step.2);
       }
 
   -- the parent of a block is held
@@ -550,22 +583,14 @@ module _ (cycles : ℕ) (shape : Shape) (ic plb : ℕ) where
           → Visited put b roots held lines list counters asked
       by None top = root_goes put b roots held lines list counters asked bits low top absent kept s
       by (Some p) above =
-          let up = child_of_parent shape.lines shape.layers b p low above in
           let found = parent p above in
-          let u : IsUnder b p (up.0) (up.1) held (found.0) = record {
-            above = above;
-            children = up.2;
-            place = up.3;
-            within = up.4;
-            few = (children_few shape.lines shape.layers p (up.0) (up.1) up.5 up.2).1;
-            inside = up.5;
-            low = low;
-            at = found.1;
-          } in
+          let up = under_of b p held (found.0) low above found.1 in
+          let u : IsUnder b p (up.0) (up.1) held (found.0) = up.2 in
           elim (leb_tells (2 ^ ic - 1)
-            (get_or ((found.0).group).own (child_index_of shape.lines shape.layers b) 0)) [
+          (get_or ((found.0).group).own (child_index_of shape.lines shape.layers b) 0)) [
             | inl full ↦ full_visit put b p (up.0) (up.1) (found.0) roots held lines list counters asked bits bits_to u
                 absent kept full.0 full.1 s
-            | inr room ↦ room_visit put b p (up.0) (up.1) (found.0) roots held lines list counters asked bits_to u absent
+            | inr room ↦ room_visit put b p (up.0) (up.1) (found.0) roots held lines list counters asked
+                bits_to u absent
                 kept room.0 room.1 s
           ]

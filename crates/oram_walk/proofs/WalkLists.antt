@@ -1,7 +1,7 @@
 -- The blocks that the plans leave are those that are held after the walk.
 use Rattle.std.proofs.Common.{◌≡◌, ℕ, zero, suc, Bool, true, false, cond, not, nat_eq, List, [], ◌∷◌, ◌++◌, take}
 use Rattle.std.proofs.Common.{reverse}
-use Rattle.std.proofs.Common.{take_while, Option, Some, None, option_map, Result, refl, sym, ap, ◌∙◌}
+use Rattle.std.proofs.Common.{Option, Some, None, option_map, refl, sym, ap, ◌∙◌}
 use Rattle.std.specs.Prelude.{if◌then◌else◌, ◌||◌}
 use Rattle.std.specs.List.{find}
 use Rattle.std.specs.Option.{option_map_or}
@@ -26,7 +26,7 @@ find-absent_in (x ∷ list) a h = by (nat_eq x a) refl h (find-absent_in list a)
     by true is e again = absurd (cc)
     by false is e again = find-no (λ c. nat_eq c a) x list is ∙ again e
 
-absent_used : (held : List ℕ) (a : ℕ) → is_among held a ≡ false → used held a ≡ held
+pub absent_used : (held : List ℕ) (a : ℕ) → is_among held a ≡ false → used held a ≡ held
 absent_used held a absent = promoted_first-none (λ b. nat_eq b a) held (find-absent_in held a absent)
 
 -- the last refill puts its block in front of what those before it left

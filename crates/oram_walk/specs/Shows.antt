@@ -1,5 +1,6 @@
--- When a front end and a memory of lines show the counters of all blocks; and what a walk's accesses show to the memory.
-use Rattle.std.specs.Prelude.{◌≡◌, ◌<◌, ◌-◌, ℕ, List, [], ◌∷◌, Option, Some, None}
+-- When a front end and a memory of lines show the counters of all blocks; and what a walk's accesses show to the
+-- memory.
+use Rattle.std.specs.Prelude.{◌≡◌, ◌<◌, ℕ, List, [], ◌∷◌, Option, Some, None}
 use Rattle.std.specs.Option.{option_map_or}
 use Rattle.asc_base.specs.TreeShape.{children_of}
 use Rattle.asc_base.specs.declared.block.Address.{Address}

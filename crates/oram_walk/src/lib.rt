@@ -7,7 +7,7 @@ mod slots;
 mod walk;
 
 pub use front::Front;
-pub use laws::{plans_have_rows, requests_hold_by_addresses};
+pub use laws::{plans_have_rows, requests_hold_by_addresses, requests_show_the_walk};
 pub use slots::{Access, Purpose, Seen, Slots};
 
 #[cfg(test)]

@@ -1,9 +1,8 @@
-use Rattle.std.proofs.Common.{◌≡◌, ◌-◌, ◌+◌, ℕ, ap, subst, arith}
+use Rattle.std.proofs.Common.{ap, subst, arith}
 use Rattle.std.proofs.lemmas.Result.{err_from_is_err_and, IfOk-weaker, IfErr-weaker}
 use Rattle.request_plan.specs.Plan.{Ends, Stops}
 use Rattle.asc_base.specs.declared.shape.Shape.{Shape}
 use Rattle.asc_base.proofs.ShapeFacts.{IsLayered, shape_layered}
-use Rattle.oram_walk.specs.Front.{FrontState}
 use Rattle.oram_walk.specs.Plans.{walk_plan, visit_plan}
 use Rattle.oram_walk.specs.Request.{Steps}
 use Rattle.oram_walk.proofs.HeldAfter.{request_held}
