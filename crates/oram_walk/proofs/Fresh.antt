@@ -1,8 +1,8 @@
 -- A block under those that a walk refills isn't held because of it.
-use Rattle.std.proofs.Common.{◌≡◌, ◌≢◌, ℕ, zero, suc, ◌-◌, ◌<◌, ◌≤◌, Bool, true, false, cond, List, [], ◌∷◌, take}
+use Rattle.std.proofs.Common.{◌≡◌, ◌≢◌, ℕ, zero, suc, ◌<◌, ◌≤◌, Bool, true, false, List, [], ◌∷◌, take}
 use Rattle.std.proofs.Common.{nat_eq}
 use Rattle.std.proofs.Common.{Result, Option, Some, None, IsNone, is_some, option_map, inl, inr, ne_eqb}
-use Rattle.std.proofs.Common.{refl, sym, ap, ◌∙◌, subst, arith}
+use Rattle.std.proofs.Common.{refl, sym, ap, ◌∙◌, arith}
 use Rattle.std.specs.Prelude.{if◌then◌else◌, ◌||◌}
 use Rattle.std.specs.List.{find}
 use Rattle.std.specs.Option.{option_map_or}
@@ -12,7 +12,7 @@ use Rattle.request_plan.proofs.Keeps.{Ends-has}
 use Rattle.asc_base.specs.Has.{Has}
 use Rattle.asc_base.specs.Lookup.{without_first}
 use Rattle.asc_base.specs.Shape.{parent_in, IsShape, IsAddress}
-use Rattle.asc_base.specs.TreeShape.{layer_first, parent_of}
+use Rattle.asc_base.specs.TreeShape.{parent_of}
 use Rattle.asc_base.specs.declared.shape.Shape.{Shape}
 use Rattle.asc_base.specs.declared.block.Address.{Address}
 use Rattle.asc_base.specs.declared.stop.Stop.{Stop}
@@ -22,7 +22,6 @@ use Rattle.asc_base.proofs.ShapeFacts.{IsLayered, shape_layered}
 use Rattle.posmap_counters.specs.Counters.{is_among}
 use Rattle.posmap_lookaside.specs.Addresses.{used}
 use Rattle.posmap_lookaside.specs.Held.{held_at, promoted, addresses_of}
-use Rattle.posmap_lookaside.specs.declared.held.Held.{Held}
 use Rattle.posmap_lookaside.proofs.AddressLaws.{is_some-held_at}
 use Rattle.posmap_lookaside.proofs.HeldLaws.{promoted_keeps}
 use Rattle.posmap_lookaside.proofs.Wholes.{none_absent}
@@ -68,7 +67,7 @@ or_right : (a b : Bool) → (a || b) ≡ false → b ≡ false
 or_right false b e = e
 or_right true b e = absurd (cc)
 
-take_out : (n : ℕ) (list : List ℕ) (b : ℕ) → is_among list b ≡ false → is_among (take n list) b ≡ false
+pub take_out : (n : ℕ) (list : List ℕ) (b : ℕ) → is_among list b ≡ false → is_among (take n list) b ≡ false
 take_out zero list b h = refl
 take_out (suc n) [] b h = refl
 take_out (suc n) (x ∷ list) b h = or_none _ _ (or_left _ _ h) (take_out n list b (or_right _ _ h))
@@ -83,7 +82,7 @@ without_out (x ∷ list) a b h =
       | inr other ↦ rw other.0 (or_none _ _ (or_left _ _ h) (without_out list a b (or_right _ _ h)))
     ]
 
-front_out : (list : List ℕ) (a b : ℕ) → a ≢ b → is_among list b ≡ false → is_among (a ∷ list) b ≡ false
+pub front_out : (list : List ℕ) (a b : ℕ) → a ≢ b → is_among list b ≡ false → is_among (a ∷ list) b ≡ false
 front_out list a b other h = or_none _ _ (ne_eqb a b other) h
 
 -- an address in a list without b is another
@@ -92,7 +91,7 @@ other_out [] b x h has = absurd has
 other_out (y ∷ list) b x h (inl same) = ap (λ z. nat_eq z b) same ∙ or_left _ _ h
 other_out (y ∷ list) b x h (inr later) = other_out list b x (or_right _ _ h) later
 
-used_out : (list : List ℕ) (a b : ℕ) → is_among list b ≡ false → is_among (used list a) b ≡ false
+pub used_out : (list : List ℕ) (a b : ℕ) → is_among list b ≡ false → is_among (used list a) b ≡ false
 used_out list a b h = by (find (λ x. nat_eq x a) list) refl
   where
     by : (found : Option ℕ) → find (λ x. nat_eq x a) list ≡ found → is_among (used list a) b ≡ false

@@ -1,9 +1,9 @@
 -- Which blocks are held after a plan, by their addresses, whatever is answered.
-use Rattle.std.proofs.Common.{◌≡◌, ℕ, zero, suc, ◌+◌, ◌-◌, Bool, true, false, List, [], ◌∷◌, take, Option, Some, None}
+use Rattle.std.proofs.Common.{◌≡◌, ℕ, zero, suc, ◌+◌, Bool, true, false, List, ◌∷◌, take, Option, Some, None}
 use Rattle.std.proofs.Common.{is_some, refl, sym, ap, ◌∙◌, subst}
 use Rattle.std.specs.Prelude.{if◌then◌else◌}
 use Rattle.std.specs.Option.{option_map_or}
-use Rattle.request_plan.specs.Plan.{Done, Outcomes}
+use Rattle.request_plan.specs.Plan.{Plan, Done, Ask, Outcomes}
 use Rattle.request_plan.proofs.Keeps.{Outcomes-bind}
 use Rattle.asc_base.specs.Shape.{parent_in, children_in}
 use Rattle.asc_base.specs.declared.shape.Shape.{Shape}
@@ -42,6 +42,12 @@ pub record Holds (old : FrontState) (list : List ℕ) (now : FrontState) : Type 
 
 abbrev pub HoldsAfter : {A : Type 0} → FrontState → List ℕ → FrontPlan A → Type 0
 HoldsAfter {A} old list plan = Outcomes (λ (r : FrontState × A). Holds old list (r.0)) plan
+
+-- what follows for each outcome
+pub Outcomes-all : {Q X B A : Type 0} (P R : A → Type 0) → ((a : A) → P a → R a) → (plan : Plan Q X B A)
+    → Outcomes P plan → Outcomes R plan
+Outcomes-all P R each (Done a) h = each a h
+Outcomes-all P R each (Ask q b k) h = λ x. Outcomes-all P R each (k x) (h x)
 
 -- a front end holds what it holds
 pub holds_now : (state : FrontState) → Holds state (addresses_of state.held) state
@@ -211,11 +217,11 @@ walk_plan-holds old now list (suc above) asked address h =
 
 -- After a request its walk's list is held.
 pub request_plan-holds : (old : FrontState) (asked : ℕ) (address : Address) (purpose : Purpose)
-    → HoldsAfter old (walk_held old.shape old.plb (old.shape.layers - 1) (addresses_of old.held) address)
+    → HoldsAfter old (walk_held old.shape old.plb old.shape.layers (addresses_of old.held) address)
     (request_plan old asked address purpose)
 request_plan-holds old asked address purpose =
-    let list = walk_held old.shape old.plb (old.shape.layers - 1) (addresses_of old.held) address in
-    on_holds old list list (walk_plan (old.shape.layers - 1) old asked address)
+    let list = walk_held old.shape old.plb old.shape.layers (addresses_of old.held) address in
+    on_holds old list list (walk_plan old.shape.layers old asked address)
     (λ now end. visit_plan now end address purpose)
-    (walk_plan-holds old old (addresses_of old.held) (old.shape.layers - 1) asked address (holds_now old))
+    (walk_plan-holds old old (addresses_of old.held) old.shape.layers asked address (holds_now old))
     (λ now end kept. visit_plan-holds old now list end address purpose kept)

@@ -4,3 +4,11 @@ pub mod Sequence
 pub mod Parts
 pub mod Held
 pub mod Fresh
+pub mod WalkLists
+pub mod HeldAfter
+pub mod Played
+pub mod Standing
+pub mod Visits
+pub mod Refills
+pub mod Climbs
+pub mod Walked

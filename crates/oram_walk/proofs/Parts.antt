@@ -9,7 +9,7 @@ use Rattle.asc_base.specs.declared.stop.Stop.{Stop}
 use Rattle.posmap_counters.specs.Counters.{next_group}
 use Rattle.posmap_counters.specs.Group.{GroupState, child_counter, group_in}
 use Rattle.posmap_lookaside.specs.Held.{held_at, promoted}
-use Rattle.request_plan.specs.Plan.{Done, Ends, Stops}
+use Rattle.request_plan.specs.Plan.{Ends, Stops}
 use Rattle.oram_walk.specs.Front.{FrontState, counter_in, with_held}
 use Rattle.oram_walk.specs.Plans.{FrontPlan, on, child_plan, children_plan, refilled, refill_plan, walk_plan}
 use Rattle.oram_walk.specs.Request.{Request}

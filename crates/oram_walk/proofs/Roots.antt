@@ -1,5 +1,5 @@
 -- Where the counter of a block of the top layer is.
-use Rattle.std.proofs.Common.{◌≡◌, ℕ, ◌-◌, ◌<◌, ◌≤◌, get_or, Option, Some, None, option_map, refl, sym, ap, ◌∙◌, subst}
+use Rattle.std.proofs.Common.{◌≡◌, ℕ, ◌-◌, ◌<◌, ◌≤◌, get_or, Option, Some, None, option_map, refl, sym, subst}
 use Rattle.std.proofs.Common.{arith}
 use Rattle.asc_base.specs.declared.block.Address.{Address}
 use Rattle.asc_base.specs.declared.shape.Shape.{Shape}

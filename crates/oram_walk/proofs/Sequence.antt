@@ -1,5 +1,5 @@
 -- One plan of a front end after another.
-use Rattle.std.proofs.Common.{◌≡◌, Result}
+use Rattle.std.proofs.Common.{Result}
 use Rattle.asc_base.specs.declared.stop.Stop.{Stop}
 use Rattle.request_plan.specs.Plan.{Ends, Stops}
 use Rattle.request_plan.proofs.Chains.{Ends-bind, Stops-bind, Stops-bind-next}

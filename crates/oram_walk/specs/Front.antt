@@ -12,6 +12,7 @@ use Rattle.posmap_counters.specs.Counters.{first_counter}
 use Rattle.posmap_counters.specs.Group.{GroupState, child_counter, stepped_group}
 use Rattle.posmap_lookaside.specs.Held.{held_at, changed, with_group, addresses_of}
 use Rattle.posmap_lookaside.specs.Lookaside.{IsLookaside}
+use Rattle.posmap_lookaside.specs.Walk.{WalkSizes, held_after}
 use Rattle.posmap_lookaside.specs.declared.held.Held.{Held}
 
 pub record FrontState : Type 0 where
@@ -45,6 +46,11 @@ first_front config = record {
   held = [];
   plb = config.plb;
 }
+
+-- what the walk looks at
+abbrev pub sizes_of : FrontState → WalkSizes
+sizes_of front =
+    record { lines = front.shape.lines; layers = front.shape.layers; plb = front.plb; ic = front.ic }
 
 -- the place of a top layer's block among the roots
 abbrev pub root_place : Shape → Address → ℕ
@@ -108,3 +114,10 @@ full_by state address (Some parent) =
 -- The parent whose children have to move before an access to a block, with its group.
 abbrev pub full_parent : FrontState → Address → Option (Address × GroupState)
 full_parent state address = full_by state address (parent_in state.shape address)
+
+-- The front end after a request for a line: it holds what is held after the walk, and its sizes stay.
+pub record IsAfter (old : FrontState) (line : ℕ) (now : FrontState) : Type 0 where
+  pub shape : now.shape ≡ old.shape
+  pub ic : now.ic ≡ old.ic
+  pub plb : now.plb ≡ old.plb
+  pub held : addresses_of now.held ≡ held_after (sizes_of old) (addresses_of old.held) line

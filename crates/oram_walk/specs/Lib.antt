@@ -3,3 +3,4 @@ pub mod Front
 pub mod Plans
 pub mod Memory
 pub mod Rows
+pub mod Shows

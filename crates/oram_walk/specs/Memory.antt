@@ -1,5 +1,5 @@
 -- A memory that keeps each block's line, as a server of a front end's requests; and what it is shown of a walk.
-use Rattle.std.specs.Prelude.{ℕ, ◌+◌, ◌==◌, if◌then◌else◌, List, [], ◌∷◌}
+use Rattle.std.specs.Prelude.{ℕ, ◌+◌, ◌==◌, if◌then◌else◌, [], ◌∷◌}
 use Rattle.request_plan.specs.Play.{Turn}
 use Rattle.asc_base.specs.declared.block.Counter.{Counter}
 use Rattle.asc_base.specs.declared.block.Line.{Line}

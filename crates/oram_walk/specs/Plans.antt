@@ -1,6 +1,6 @@
 -- What the calls of a front end ask of the slots, as plans. There are plans of every state, also of one in which the
 -- parent of an accessed block isn't held: its counter is (0,0) there.
-use Rattle.std.specs.Prelude.{ℕ, ◌+◌, ◌-◌, Bool, true, false, is_some, Option, Some, None}
+use Rattle.std.specs.Prelude.{ℕ, ◌+◌, Bool, true, false, is_some, Option, Some, None}
 use Rattle.std.proofs.Common.{zero, suc}
 use Rattle.std.specs.Option.{option_map_or}
 use Rattle.request_plan.specs.Plan.{Plan, Done, Ask, bind}
@@ -136,7 +136,7 @@ walk_plan (suc above) state asked address =
 -- The walk to a line, and its access.
 abbrev pub request_plan : FrontState → ℕ → Address → Purpose → FrontPlan Seen
 request_plan state asked address purpose =
-    on (walk_plan (state.shape.layers - 1) state asked address) (λ now end. visit_plan now end address purpose)
+    on (walk_plan state.shape.layers state asked address) (λ now end. visit_plan now end address purpose)
 
 -- A fetch: the line that was seen is answered.
 abbrev pub fetch_plan : FrontState → ℕ → ℕ → FrontPlan Seen

@@ -1,6 +1,5 @@
 -- Fetches and stores over a memory of zeros, on which the plans are computed.
-use Rattle.std.specs.Prelude.{ℕ, List, [], ◌∷◌, ◌++◌, map, replicate, Option, Some, None}
-use Rattle.std.specs.Option.{option_map_or}
+use Rattle.std.specs.Prelude.{ℕ, List, [], ◌∷◌, ◌++◌, map, replicate}
 use Rattle.request_plan.specs.Play.{play, bare}
 use Rattle.asc_base.specs.declared.block.Line.{Line}
 use Rattle.asc_base.specs.declared.shape.Shape.{Shape}
@@ -8,7 +7,6 @@ use Rattle.oram_walk.specs.Front.{FrontState}
 use Rattle.oram_walk.specs.Memory.{Shown, Accessed, Displaced, memory}
 use Rattle.oram_walk.specs.Plans.{request_plan}
 use Rattle.oram_walk.specs.declared.slots.Purpose.{Purpose}
-use Rattle.oram_walk.specs.declared.slots.Purpose.TheVariants.{Keep, Replace}
 
 -- 16,384 lines under 16 roots, 64 lines under 2, and 64 lines under one
 abbrev pub default_shape : Shape

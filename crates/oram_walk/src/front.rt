@@ -68,12 +68,12 @@ impl Front {
         }
     }
 
-    /// The number of layers above the data lines.
-    pub(crate) fn layers_above(&self) -> u32
-        ensures above { result + 1 ≡ self.now.shape.layers }
+    /// The number of layers. No block has so many ancestors.
+    pub(crate) fn layers(&self) -> u32
+        ensures layers { result ≡ self.now.shape.layers }
         ensures whole { IsFront self.now }
     {
-        self.shape.layers - 1
+        self.shape.layers
     }
 
     /// The parent of a block; None for a block of the top layer.

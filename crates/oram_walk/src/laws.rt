@@ -1,10 +1,60 @@
 //! Laws of a front end's plans. The functions do nothing: each states laws in its contract.
 
-ghost use Rattle.std.specs.Prelude.{◌≡◌, [], ◌∷◌, ◌++◌, length, map, filter, ◌==◌};
-ghost use Rattle.std.specs.List.{range_with_len};
+ghost use Rattle.std.specs.Prelude.{◌≡◌, ℕ, ◌<◌, [], ◌∷◌, ◌++◌, map};
+ghost use Rattle.std.specs.List.{flat_map, range_with_len};
+ghost use Rattle.request_plan.specs.Plan.{Outcomes};
+ghost use Rattle.request_plan.specs.Play.{play, bare};
+ghost use Rattle.asc_base.specs.Settings.{IsConfig};
+ghost use Rattle.asc_base.specs.declared.settings.Config.{Config};
+ghost use Rattle.asc_base.specs.declared.block.Line.{Line};
 ghost use Rattle.posmap_lookaside.specs.Rows.{row, default_sizes, small_sizes, in_turn};
+ghost use Rattle.posmap_lookaside.specs.Walk.{OnChip, chip_at_start, walk};
+ghost use Rattle.oram_walk.specs.Front.{FrontState, IsAfter, first_front, sizes_of};
+ghost use Rattle.oram_walk.specs.Memory.{memory};
+ghost use Rattle.oram_walk.specs.Plans.{request_plan, fetch_plan, store_plan};
+ghost use Rattle.oram_walk.specs.declared.slots.Purpose.{Purpose};
+ghost use Rattle.oram_walk.specs.Shows.{Shows, shown_by};
 ghost use Rattle.oram_walk.specs.Rows.{requests, start, zeros, default_shape, flat_shape, rooted_shape};
-ghost use Rattle.oram_walk.specs.declared.slots.Purpose.TheVariants.{Keep};
+ghost use Rattle.oram_walk.specs.declared.slots.Purpose.TheVariants.{Keep, Replace};
+
+/// Whatever is answered, what is held after a request follows from what was held and the line alone: it is what is held
+/// after the walk to that line.
+pub fn requests_hold_by_addresses()
+    ensures request { (state : FrontState) (asked line : ℕ) (purpose : Purpose)
+        → Outcomes (λ (now, _). IsAfter state line now) (request_plan state asked (record { 0 = line }) purpose) }
+    ensures fetch { (state : FrontState) (asked line : ℕ)
+        → Outcomes (λ (now, _). IsAfter state line now) (fetch_plan state asked line) }
+    ensures store { (state : FrontState) (asked line : ℕ) (value : Line)
+        → Outcomes (λ (now, _). IsAfter state line now) (store_plan state asked line value) }
+{}
+
+/// A request over a memory that shows the counters shows exactly its walk: its accesses in order, each under its
+/// counters before and after and with its purpose, and after a refill the block that it displaces, under its counter
+/// and with the line of its children's counters. The memory and the front end then show the counters after the walk,
+/// and the line that is seen is the one in memory. At the start a memory of zeros shows the counters.
+pub fn requests_show_the_walk()
+    ensures request { (cycles asked line : ℕ) (state : FrontState) (put : Purpose) (lines : ℕ → Line) (chip : OnChip)
+        → line < state.shape.lines → Shows state lines chip
+        → let walked = walk (sizes_of state) chip line in
+        let played = play (memory cycles) (request_plan state asked (record { 0 = line }) put) lines in
+        (bare (played.records) ≡ flat_map (shown_by (sizes_of state) put) (walked.accesses))
+        × Shows ((played.outcome).0) (played.held) (walked.chip)
+        × (((played.outcome).1).line ≡ lines line) }
+    ensures fetch { (cycles asked line : ℕ) (state : FrontState) (lines : ℕ → Line) (chip : OnChip)
+        → line < state.shape.lines → Shows state lines chip
+        → let walked = walk (sizes_of state) chip line in
+        let played = play (memory cycles) (fetch_plan state asked line) lines in
+        (bare (played.records) ≡ flat_map (shown_by (sizes_of state) Keep) (walked.accesses))
+        × Shows ((played.outcome).0) (played.held) (walked.chip)
+        × (((played.outcome).1).line ≡ lines line) }
+    ensures store { (cycles asked line : ℕ) (value : Line) (state : FrontState) (lines : ℕ → Line) (chip : OnChip)
+        → line < state.shape.lines → Shows state lines chip
+        → let walked = walk (sizes_of state) chip line in
+        let played = play (memory cycles) (store_plan state asked line value) lines in
+        (bare (played.records) ≡ flat_map (shown_by (sizes_of state) (Replace value)) (walked.accesses))
+        × Shows ((played.outcome).0) (played.held) (walked.chip) }
+    ensures start { (config : Config) → IsConfig config → Shows (first_front config) zeros chip_at_start }
+{}
 
 /// The plans on rows: over a memory of zeros they access and append what the walk does. On the default shape lines 0,
 /// 32 and 0 take 9 accesses where one block is held, and 6 where 32 are. With own counts of two bits four requests for

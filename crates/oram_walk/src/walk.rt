@@ -3,8 +3,9 @@
 ghost use Rattle.std.specs.Prelude.{◌≡◌, ◌+◌, ◌<◌, ◌≤◌, IfOk, IfErr, IsNone, OnOk, Some};
 ghost use Rattle.request_plan.specs.Plan.{Ends, Stops};
 ghost use Rattle.asc_base.specs.Shape.{IsAddress, parent_in, children_in};
-ghost use Rattle.posmap_lookaside.specs.Held.{held_at};
-ghost use Rattle.oram_walk.specs.Front.{IsFront};
+ghost use Rattle.posmap_lookaside.specs.Held.{held_at, addresses_of};
+ghost use Rattle.posmap_lookaside.specs.Walk.{held_after};
+ghost use Rattle.oram_walk.specs.Front.{IsFront, sizes_of};
 ghost use Rattle.oram_walk.specs.Plans.{child_plan, family_plan, move_plan, group_plan, step_plan, visit_plan};
 ghost use Rattle.oram_walk.specs.Plans.{message_of, hold_plan, refill_plan, walk_plan, request_plan, fetch_plan};
 ghost use Rattle.oram_walk.specs.Plans.{store_plan};
@@ -27,6 +28,8 @@ impl Front {
             Ends (Steps S.step) (fetch_plan self.old asked line) slots.old slots.new (self.new, seen)) }
         ensures err { IfErr result (λ stop.
             Stops (Steps S.step) (fetch_plan self.old asked line) slots.old slots.new stop self.new) }
+        ensures held { OnOk result (addresses_of self.new.held
+            ≡ held_after (sizes_of self.old) (addresses_of self.old.held) line) }
         ensures rests { OnOk result (S.rests slots.new) }
         ensures last { IfOk result (λ seen. S.last slots.new ≡ seen.end) }
         ensures total { S.total slots.new ≡ S.total slots.old }
@@ -54,6 +57,8 @@ impl Front {
             Ends (Steps S.step) (store_plan self.old asked line value.now) slots.old slots.new (self.new, end)) }
         ensures err { IfErr result (λ stop.
             Stops (Steps S.step) (store_plan self.old asked line value.now) slots.old slots.new stop self.new) }
+        ensures held { OnOk result (addresses_of self.new.held
+            ≡ held_after (sizes_of self.old) (addresses_of self.old.held) line) }
         ensures rests { OnOk result (S.rests slots.new) }
         ensures last { IfOk result (λ end. S.last slots.new ≡ end) }
         ensures total { S.total slots.new ≡ S.total slots.old }
@@ -82,14 +87,16 @@ impl Front {
         ensures err { IfErr result (λ stop.
             Stops (Steps S.step) (request_plan self.old asked (record { 0 = line }) purpose)
             slots.old slots.new stop self.new) }
+        ensures held { OnOk result (addresses_of self.new.held
+            ≡ held_after (sizes_of self.old) (addresses_of self.old.held) line) }
         ensures ended { OnOk result (S.ended slots.new) }
         ensures last { IfOk result (λ seen. S.last slots.new ≡ seen.end) }
         ensures total { S.total slots.new ≡ S.total slots.old }
         ensures shape { self.new.shape ≡ self.old.shape }
         ensures whole { IsFront self.new }
     {
-        let above = self.layers_above();
-        let end = self.walk(slots, asked, Address(line), above)?;
+        let layers = self.layers();
+        let end = self.walk(slots, asked, Address(line), layers)?;
         self.visit(slots, end, Address(line), purpose)
     }
 

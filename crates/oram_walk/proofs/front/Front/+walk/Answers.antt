@@ -1,10 +1,10 @@
-use Rattle.std.proofs.Common.{◌≡◌, ◌<◌, ◌-◌, ℕ, is_some, false, sym, subst, ◌∙◌, arith, Some}
+use Rattle.std.proofs.Common.{◌≡◌, ◌<◌, ◌-◌, is_some, false, sym, subst, ◌∙◌, arith, Some}
 use Rattle.std.proofs.lemmas.Result.{err_from_is_err_and, IfOk-weaker, IfErr-weaker}
-use Rattle.request_plan.specs.Plan.{Ends, Stops}
+use Rattle.request_plan.specs.Plan.{Ends}
 use Rattle.asc_base.specs.Shape.{parent_in}
-use Rattle.posmap_lookaside.specs.Held.{held_at, promoted}
-use Rattle.oram_walk.specs.Front.{FrontState, with_held}
-use Rattle.oram_walk.specs.Plans.{walk_plan, refill_plan}
+use Rattle.posmap_lookaside.specs.Held.{held_at}
+use Rattle.oram_walk.specs.Front.{FrontState}
+use Rattle.oram_walk.specs.Plans.{walk_plan}
 use Rattle.oram_walk.specs.Request.{Steps}
 use Rattle.oram_walk.proofs.Fresh.{walk_none}
 use Rattle.oram_walk.proofs.Parts.{walk_ends, walk_stops, walk_stops_later}

@@ -1,7 +1,6 @@
-use Rattle.std.proofs.Common.{◌≡◌, ◌+◌, ◌-◌, ◌<◌, ◌^◌, ℕ, sym, ap, ◌∙◌, refl, arith}
+use Rattle.std.proofs.Common.{ap, ◌∙◌, arith}
 use Rattle.std.proofs.lemmas.Result.{err_from_is_err_and}
 use Rattle.asc_base.proofs.ShapeFacts.{IsLayered, shape_layered}
-use Rattle.posmap_counters.specs.Counters.{next_group}
 use Rattle.posmap_counters.specs.Group.{GroupState, child_counter}
 use Rattle.oram_walk.specs.Request.{Steps}
 use Rattle.oram_walk.proofs.Parts.{child_ends, child_stops, child_stops_later}

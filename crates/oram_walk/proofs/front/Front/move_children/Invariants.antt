@@ -1,4 +1,4 @@
-use Rattle.std.proofs.Common.{◌≡◌, ◌≤◌, ℕ, ◌-◌}
+use Rattle.std.proofs.Common.{◌≡◌, ◌≤◌, ◌-◌}
 use Rattle.request_plan.specs.Plan.{Ends, Stops}
 use Rattle.asc_base.specs.Shape.{children_in}
 use Rattle.oram_walk.specs.Front.{IsFront}

@@ -1,10 +1,6 @@
-use Rattle.std.proofs.Common.{◌≡◌, ◌+◌, ◌-◌, ◌≤◌, ◌<◌, ℕ, get_or, replicate, length, List, []}
-use Rattle.std.proofs.Common.{refl, ap, subst, sym, ◌∙◌, arith}
-use Rattle.asc_base.specs.TreeShape.{layer_count}
-use Rattle.asc_base.specs.declared.settings.Config.{Config}
+use Rattle.std.proofs.Common.{subst, sym, arith}
 use Rattle.asc_base.proofs.ShapeFacts.{IsLayered, shape_layered}
-use Rattle.posmap_lookaside.specs.Lookaside.{LookasideState}
-use Rattle.oram_walk.specs.Front.{FrontState, IsFront, first_front}
+use Rattle.oram_walk.specs.Front.{IsFront}
 use Rattle.oram_walk.proofs.Fronts.{first_is, new_is_first}
 use Rattle.oram_walk.proofs.front.Front.new.Goals as goal
 

@@ -1,7 +1,5 @@
-use Rattle.std.proofs.Common.{◌≡◌, ap, ◌∙◌, subst, refl}
+use Rattle.std.proofs.Common.{subst, refl}
 use Rattle.std.proofs.lemmas.Result.{err_from_is_err_and}
-use Rattle.asc_base.specs.declared.block.Counter.{Counter}
-use Rattle.posmap_counters.specs.Group.{GroupState, group_in}
 use Rattle.posmap_lookaside.specs.declared.held.Held.{Held}
 use Rattle.request_plan.specs.Plan.{Done, Ends, Stops}
 use Rattle.oram_walk.specs.Plans.{visit_plan, hold_plan, on, refilled}

@@ -1,4 +1,4 @@
-use Rattle.std.proofs.Common.{◌≡◌, ◌-◌, ◌≤◌, ◌<◌, ℕ, length, get_or, ap, ◌∙◌, arith}
+use Rattle.std.proofs.Common.{◌-◌, length, ap, ◌∙◌, arith}
 use Rattle.oram_walk.specs.Front.{FrontState, root_place}
 use Rattle.oram_walk.proofs.Roots.{IsRoot, view_root}
 use Rattle.oram_walk.proofs.front.Front.root.Goals as goal
