@@ -1,2 +1,6 @@
 pub mod HonestLaws
 pub mod Rows
+pub mod Splices
+pub mod AccessCourses
+pub mod Feeds
+pub mod Transfers

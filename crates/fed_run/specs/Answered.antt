@@ -1,0 +1,9 @@
+-- Where a store notes the lines that it answers: which answer is read from the next of them.
+use Rattle.std.specs.Prelude.{ℕ, List, [], Some}
+use Rattle.request_plan.specs.Course.{Source, Known, Noted}
+use Rattle.data_cache.specs.Lines.{LineRequest, Fetch, Store}
+
+-- A fetch is answered by the next line that is noted; a store is answered by nothing, and notes none.
+abbrev pub line_source : LineRequest → Source (List ℕ) (List ℕ)
+line_source (Fetch line) = Noted (λ bytes. Some bytes)
+line_source (Store line value) = Known []
