@@ -4,3 +4,4 @@ pub mod Splices
 pub mod AccessCourses
 pub mod Feeds
 pub mod Transfers
+pub mod Instructions

@@ -25,6 +25,15 @@ pub map-twice : {A B C : Type 0} (f : A → B) (g : B → C) (h : A → C) → (
 map-twice f g h each None = refl
 map-twice f g h each (Some a) = ap Some (each a)
 
+-- ---- what a host call does with its bytes
+-- they are put in, and nothing is answered
+abbrev pub stored : CoreState → ℕ → List ℕ → Feed → Unit {0} × Feed
+stored core address bytes now = (tt, put (address - core.base) bytes now)
+
+-- they are appended
+abbrev pub loaded : CoreState → ℕ → ℕ → List ℕ → Feed → List ℕ × Feed
+loaded core address count so_far now = (so_far ++ slice_of now.memory (address - core.base) count, now)
+
 -- ---- the lines behind a piece
 -- a memory of whole lines
 pub record IsPlace (core : CoreState) (size : ℕ) : Type 0 where
@@ -67,14 +76,10 @@ module _ (core : CoreState) (size : ℕ) (place : IsPlace core size) where
 
   module _ (ways : ℕ) where
     -- ---- a host read
-    -- the bytes are put in, and nothing is answered
-    abbrev pub stored : ℕ → List ℕ → Feed → Unit {0} × Feed
-    stored address bytes now = (tt, put (address - core.base) bytes now)
-
     stored-twice : (address part : ℕ) (bytes : List ℕ) → core.base ≤ address → length (take part bytes) ≡ part
         → (now : Feed)
-        → stored (address + part) (drop part bytes) (put (address - core.base) (take part bytes) now)
-        ≡ stored address bytes now
+        → stored core (address + part) (drop part bytes) (put (address - core.base) (take part bytes) now)
+        ≡ stored core address bytes now
     stored-twice address part bytes low whole now =
         let at : (address + part) - core.base ≡ (address - core.base) + length (take part bytes) =
         omega (arith, whole) in
@@ -87,7 +92,7 @@ module _ (core : CoreState) (size : ℕ) (place : IsPlace core size) where
         → (0 < length bytes → core.base ≤ address) → (0 < length bytes → address + length bytes ≤ core.base + size)
         → IsFeed size feed
         → fed_served core.base ways (stores_plan bytes (pieces_within most address (length bytes))) feed
-        ≡ option_map (stored address bytes) (fed_uses ways feed (used Write (lines_of core address (length bytes))))
+        ≡ option_map (stored core address bytes) (fed_uses ways feed (used Write (lines_of core address (length bytes))))
     stores-within most address [] feed fits low high is =
         ap (λ l. fed_served core.base ways (stores_plan [] l) feed) (pieces_within-none most address)
         ∙ ap (λ (m : List ℕ). let z : Unit {0} × Feed = (tt, record feed { memory = m }) in Some z)
@@ -121,7 +126,7 @@ module _ (core : CoreState) (size : ℕ) (place : IsPlace core size) where
         ∙ use-cases size ways feed first
         (λ r. option_and_then
         (λ (now : Feed). fed_served core.base ways rest (put (address - core.base) piece now)) r
-        ≡ option_map (stored address bytes) (option_and_then (λ (now : Feed). fed_uses ways now others) r))
+        ≡ option_map (stored core address bytes) (option_and_then (λ (now : Feed). fed_uses ways now others) r))
         is inside refl
         (λ now good patched.
         ap (λ n. fed_served core.base ways (stores_plan later (pieces_within most (address + part) n))
@@ -129,36 +134,32 @@ module _ (core : CoreState) (size : ℕ) (place : IsPlace core size) where
         ∙ stores-within most (address + part) later (put (address - core.base) piece now) (omega (arith, left))
         (λ more. omega arith) (λ more. omega (arith, left))
         (put-is size (address - core.base) piece now good (omega (arith, whole)))
-        ∙ ap (λ n. option_map (stored (address + part) later)
+        ∙ ap (λ n. option_map (stored core (address + part) later)
         (fed_uses ways (put (address - core.base) piece now) (used Write (lines_of core (address + part) n)))) left
-        ∙ ap (option_map (stored (address + part) later))
+        ∙ ap (option_map (stored core (address + part) later))
         (ap (λ n. fed_uses ways (put n piece now) others) (sym at)
         ∙ uses-put size ways (line_at core.base address) (place_at core.base address) piece within inside now others
         good beyond
         ∙ ap (λ n. option_map (put n piece) (fed_uses ways now others)) at)
-        ∙ map-twice (put (address - core.base) piece) (stored (address + part) later) (stored address bytes)
+        ∙ map-twice (put (address - core.base) piece) (stored core (address + part) later) (stored core address bytes)
         (stored-twice address part bytes base whole) (fed_uses ways now others))
-        ∙ ap (λ l. option_map (stored address bytes) (fed_uses ways feed (used Write l)))
+        ∙ ap (λ l. option_map (stored core address bytes) (fed_uses ways feed (used Write l)))
         (sym (lines_of-more core address count aligned base some))
 
     pub served-stores : (address : ℕ) (bytes : List ℕ) (feed : Feed)
         → (0 < length bytes → core.base ≤ address) → (0 < length bytes → address + length bytes ≤ core.base + size)
         → IsFeed size feed
         → fed_served core.base ways (stores_plan bytes (pieces address (length bytes))) feed
-        ≡ option_map (stored address bytes) (fed_uses ways feed (used Write (lines_of core address (length bytes))))
+        ≡ option_map (stored core address bytes) (fed_uses ways feed (used Write (lines_of core address (length bytes))))
     served-stores address bytes feed low high is =
         stores-within (length bytes) address bytes feed (omega arith) low high is
 
     -- ---- a host write
-    -- the bytes are appended
-    abbrev pub loaded : ℕ → ℕ → List ℕ → Feed → List ℕ × Feed
-    loaded address count so_far now = (so_far ++ slice_of now.memory (address - core.base) count, now)
-
     loaded-twice : (address count part : ℕ) (so_far : List ℕ) → core.base ≤ address → part ≤ count → (now : Feed)
         → ◌≡◌ {A = List ℕ × Feed}
         ((so_far ++ slice_of now.memory (address - core.base) part)
         ++ slice_of now.memory ((address + part) - core.base) (count - part), now)
-        (loaded address count so_far now)
+        (loaded core address count so_far now)
     loaded-twice address count part so_far low less now =
         let from : ℕ = address - core.base in
         let at : (address + part) - core.base ≡ from + part = omega arith in
@@ -175,7 +176,7 @@ module _ (core : CoreState) (size : ℕ) (place : IsPlace core size) where
         → (0 < count → core.base ≤ address) → (0 < count → address + count ≤ core.base + size)
         → IsFeed size feed
         → fed_served core.base ways (loads_plan so_far (pieces_within most address count)) feed
-        ≡ option_map (loaded address count so_far) (fed_uses ways feed (used Read (lines_of core address count)))
+        ≡ option_map (loaded core address count so_far) (fed_uses ways feed (used Read (lines_of core address count)))
     loads-within most address zero so_far feed fits low high is =
         ap (λ l. fed_served core.base ways (loads_plan so_far l) feed) (pieces_within-none most address)
         ∙ ap (λ (l : List ℕ). let z : List ℕ × Feed = (l, feed) in Some z) (sym (append-nil so_far))
@@ -204,7 +205,7 @@ module _ (core : CoreState) (size : ℕ) (place : IsPlace core size) where
         (λ (now : Feed). fed_served core.base ways
         (loads_plan (so_far ++ slice_of now.memory (address - core.base) part)
         (pieces_within most (address + part) (count - part))) now) r
-        ≡ option_map (loaded address count so_far) (option_and_then (λ (now : Feed). fed_uses ways now others) r))
+        ≡ option_map (loaded core address count so_far) (option_and_then (λ (now : Feed). fed_uses ways now others) r))
         is inside refl
         (λ now good patched.
         let piece : List ℕ = slice_of now.memory (address - core.base) part in
@@ -215,15 +216,15 @@ module _ (core : CoreState) (size : ℕ) (place : IsPlace core size) where
         ∙ sym (uses-slice size ways (line_at core.base address) (place_at core.base address) part make piece within now
         others good beyond same)
         ∙ ap (λ k. option_map (λ (f : Feed). make (slice_of f.memory k part) f) (fed_uses ways now others)) at
-        ∙ map-same (λ (f : Feed). make (slice_of f.memory (address - core.base) part) f) (loaded address count so_far)
+        ∙ map-same (λ (f : Feed). make (slice_of f.memory (address - core.base) part) f) (loaded core address count so_far)
         (loaded-twice address count part so_far base (omega arith)) (fed_uses ways now others))
-        ∙ ap (λ l. option_map (loaded address count so_far) (fed_uses ways feed (used Read l)))
+        ∙ ap (λ l. option_map (loaded core address count so_far) (fed_uses ways feed (used Read l)))
         (sym (lines_of-more core address count aligned base some))
 
     pub served-loads : (address count : ℕ) (so_far : List ℕ) (feed : Feed)
         → (0 < count → core.base ≤ address) → (0 < count → address + count ≤ core.base + size)
         → IsFeed size feed
         → fed_served core.base ways (loads_plan so_far (pieces address count)) feed
-        ≡ option_map (loaded address count so_far) (fed_uses ways feed (used Read (lines_of core address count)))
+        ≡ option_map (loaded core address count so_far) (fed_uses ways feed (used Read (lines_of core address count)))
     served-loads address count so_far feed low high is =
         loads-within count address count so_far feed (omega arith) low high is
