@@ -5,3 +5,7 @@ pub mod AccessCourses
 pub mod Feeds
 pub mod Transfers
 pub mod Instructions
+pub mod NotedLines
+pub mod SomeBytes
+pub mod InstructionChains
+pub mod WantedLines
