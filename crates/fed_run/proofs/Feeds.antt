@@ -5,13 +5,10 @@ use Rattle.rv32_core.specs.Access.{slice_of, spliced, length-spliced}
 use Rattle.rv32_core.specs.LineList.{LineUse}
 use Rattle.data_cache.specs.CacheLists.{Sets, sets_after}
 use Rattle.fed_run.specs.Fed.{Feed, asks, fed_line, fed_use, fed_uses}
+use Rattle.fed_run.specs.Answered.{AreLines}
 use Rattle.fed_run.proofs.Splices.{lines-commute, slice-elsewhere}
 
--- each of them has 64 bytes
-abbrev pub AreLines : List (List ℕ) → Type 0
-AreLines [] = Unit {0}
-AreLines (bytes ∷ rest) = (length bytes ≡ 64) × AreLines rest
-
+-- lines behind lines
 pub AreLines-append : (first rest : List (List ℕ)) → AreLines first → AreLines rest → AreLines (first ++ rest)
 AreLines-append [] rest h g = g
 AreLines-append (bytes ∷ more) rest h g = (h.0, AreLines-append more rest (h.1) g)

@@ -1,7 +1,7 @@
 -- An instruction of a core over a cache, by a chain of a store's steps, is that of the machine that is fed with the
 -- lines that the store answered.
-use Rattle.std.proofs.Common.{◌≡◌, ℕ, ◌+◌, ◌*◌, ◌%◌, ◌<◌, ◌≤◌, List, [], ◌∷◌, ◌++◌, Option, Some, None, Result, Ok, Err, length, take, drop, refl, sym, ap, subst, arith, ◌∙◌}
-use Rattle.std.proofs.lemmas.List.{length-take-le}
+use Rattle.std.proofs.Common.{◌≡◌, ℕ, ◌+◌, ◌*◌, ◌%◌, ◌<◌, ◌≤◌, List, [], ◌∷◌, ◌++◌, Option, Some, None, Result, Ok, Err, length, refl, sym, ap, subst, arith, ◌∙◌}
+use Rattle.std.proofs.lemmas.List.{length-map}
 use Rattle.std.specs.Option.{option_map}
 use Rattle.asc_base.specs.Memory.{IsMemory}
 use Rattle.request_plan.specs.Plan.{Plan, Done as Outcome, Ask, Ends, Stops, through, Asks, Alike}
@@ -14,17 +14,21 @@ use Rattle.rv32_core.specs.StepPlan.{step_plan}
 use Rattle.rv32_core.specs.declared.outcome.Done.{Done}
 use Rattle.rv32_core.proofs.PlanLaws.{Asks-step_plan}
 use Rattle.data_cache.specs.Lines.{LineRequest, IsLineAnswer}
-use Rattle.data_cache.specs.CacheLists.{Sets, Lines}
-use Rattle.data_cache.specs.Contents.{Contents}
+use Rattle.data_cache.specs.CacheLists.{Kept, Sets, Lines}
+use Rattle.data_cache.specs.Contents.{Contents, held_in}
+use Rattle.data_cache.specs.Mirror.{marks}
 use Rattle.data_cache.specs.Cached.{cache_access, lists_access, HasBytes, StandsAs, StandsLeft}
 use Rattle.data_cache.proofs.AccessAlike.{access-alike}
+use Rattle.data_cache.proofs.KeptLaws.{mark}
+use Rattle.data_cache.proofs.MirrorLaws.{set_of_is}
 use Rattle.fed_run.specs.Fed.{Feed, FedStep, fed_step}
-use Rattle.fed_run.specs.Answered.{line_source}
+use Rattle.fed_run.specs.Answered.{line_source, AreLines}
 use Rattle.fed_run.proofs.AccessCourses.{lists_in, fed_served, IsFed, plan-course}
-use Rattle.fed_run.proofs.Feeds.{AreLines, AreLines-append, IsFeed}
+use Rattle.fed_run.proofs.Feeds.{AreLines-append, IsFeed}
 use Rattle.fed_run.proofs.Instructions.{parts, served-step}
-use Rattle.fed_run.proofs.NotedLines.{Ends-lines}
+use Rattle.fed_run.proofs.NotedLines.{IsStarved, Wants, Ends-lines, Stops-lines}
 use Rattle.fed_run.proofs.SomeBytes.{Asks-both, step_plan-bytes}
+use Rattle.fed_run.proofs.WantedLines.{HasRoom, plan-wants}
 
 -- what a finished course tells of an instruction that is fed
 fed-of : (step : Option FedStep) (out : Machine × Done) (feed : Feed) → option_map parts step ≡ Some (out, feed)
@@ -33,6 +37,32 @@ fed-of None out feed e = Prim.cc
 fed-of (Some s) out feed e =
     let same : parts s ≡ (out, feed) = Prim.cc in
     ap (λ (z : (Machine × Done) × Feed). Some (record { machine = (z.0).0; feed = z.1; done = (z.0).1 })) same
+
+-- and a starved one
+none-of : (step : Option FedStep) → option_map parts step ≡ None → step ≡ None
+none-of None e = refl
+none-of (Some s) e = Prim.cc
+
+starved-none : {C A : Type 0} (c : Course (List ℕ) LineRequest C (Lines × A)) (fed : Option (A × Feed)) → IsStarved c
+    → IsFed c fed → fed ≡ None
+starved-none (Finished out items) fed h is = absurd h
+starved-none (Starved q b) fed h is = is
+starved-none Astray fed h is = absurd h
+
+-- lists that stand for a cache have room
+stands-room : (count ways : ℕ) (cache : Contents) (lists : Lines) → StandsAs count ways cache lists
+    → HasRoom ways lists.sets
+stands-room count ways cache lists stands =
+    let mirrors = stands.0 in
+    let some : 0 < length cache.sets = mirrors.some in
+    subst (HasRoom ways) (sym mirrors.is) (record {
+      some = subst (λ n. 0 < n) (sym (length-map cache.sets marks)) some;
+      fits = λ n. subst (λ (l : List Kept). length l ≤ ways) (sym (set_of_is count cache n some))
+          (subst (λ k. k ≤ ways)
+          (sym (length-map (held_in cache n) mark))
+          (subst (λ w. length (held_in cache n) ≤ w) (stands.1)
+          (mirrors.fits (n % length cache.sets) (let inside : n % length cache.sets < length cache.sets = omega arith in inside))));
+    })
 
 module _ (count ways : ℕ) (machine : Machine) (is : IsCore machine.core) (size : machine.core.size ≡ 64 * count) where
   -- the cache's plan and that of its lists
@@ -113,4 +143,33 @@ module _ (count ways : ℕ) (machine : Machine) (is : IsCore machine.core) (size
               (finished-fed (record { memory = memory; sets = sets; left = ran.0 ++ more })
               (record { long = long ∙ sym size; lines = AreLines-append (ran.0) more (ran.2) whole }) out more
               (ran.3 more)),
+        )
+
+    -- An instruction that was stopped.
+    pub instruction-stops : StopsUnnoted step noted → (s t : S) (cache : Contents) (memory : List ℕ) (sets : Sets)
+        (stop : E) (left : Contents × Machine)
+        → StandsAs count ways cache (record { memory = memory; sets = sets })
+        → Stops step (through (cache_access machine.core.base) (step_plan machine) cache) s t stop left
+        → (lines : List (List ℕ)) × (noted t ≡ noted s ++ lines) × AreLines lines
+        × (fed_step ways machine (record { memory = memory; sets = sets; left = lines }) ≡ None)
+    instruction-stops same s t cache memory sets stop left stands stops =
+        let lists : Lines = record { memory = memory; sets = sets } in
+        let plan : Plan LineRequest (List ℕ) (Sets × Machine) (Lines × (Machine × Done)) =
+        through (lists_access machine.core.base ways) (step_plan machine) lists in
+        let other = Alike-stops step IsLineAnswer answers (SameBeside {A = Machine} (StandsLeft count))
+        (SameBeside {A = Machine × Done} (StandsAs count ways))
+        (through (cache_access machine.core.base) (step_plan machine) cache) plan s t stop left
+        (instruction-alike cache lists stands) stops in
+        let wants : Wants plan =
+        plan-wants machine.core.base ways (step_plan machine) lists (stands-room count ways cache lists stands) in
+        let ran = Stops-lines step noted notes answers same plan s t stop (other.0) wants (other.1) in
+        let long : length memory ≡ 64 * count = (stands.0).size in
+        let feed : Feed = record { memory = memory; sets = sets; left = ran.0 } in (
+          ran.0,
+          ran.1,
+          ran.2,
+          none-of (fed_step ways machine feed)
+              (sym (served-step ways machine feed is.memory (record { long = long ∙ sym size; lines = ran.2 }))
+              ∙ starved-none (course line_source plan (ran.0)) (fed_served machine.core.base ways (step_plan machine) feed)
+              (ran.3) (plan-course machine.core.base ways (step_plan machine) feed)),
         )

@@ -9,3 +9,5 @@ pub mod NotedLines
 pub mod SomeBytes
 pub mod InstructionChains
 pub mod WantedLines
+pub mod Left
+pub mod Runs

@@ -5,8 +5,8 @@ use Rattle.request_plan.specs.Course.{Course, Finished, Starved, Astray, after_r
 use Rattle.request_plan.specs.Laws.{NotesAnswers, StopsUnnoted}
 use Rattle.request_plan.proofs.Courses.{course-bind}
 use Rattle.data_cache.specs.Lines.{LineRequest, Fetch, Store, IsLineAnswer}
-use Rattle.fed_run.specs.Answered.{line_source}
-use Rattle.fed_run.proofs.Feeds.{AreLines, AreLines-append}
+use Rattle.fed_run.specs.Answered.{line_source, AreLines}
+use Rattle.fed_run.proofs.Feeds.{AreLines-append}
 
 -- ---- plans that always want a line
 -- a course that is starved

@@ -1,5 +1,5 @@
 -- Where a store notes the lines that it answers: which answer is read from the next of them.
-use Rattle.std.specs.Prelude.{ℕ, List, [], Some}
+use Rattle.std.specs.Prelude.{◌≡◌, ℕ, List, [], ◌∷◌, Some, length}
 use Rattle.request_plan.specs.Course.{Source, Known, Noted}
 use Rattle.data_cache.specs.Lines.{LineRequest, Fetch, Store}
 
@@ -7,3 +7,8 @@ use Rattle.data_cache.specs.Lines.{LineRequest, Fetch, Store}
 abbrev pub line_source : LineRequest → Source (List ℕ) (List ℕ)
 line_source (Fetch line) = Noted (λ bytes. Some bytes)
 line_source (Store line value) = Known []
+
+-- each of them has the 64 bytes of a line
+abbrev pub AreLines : List (List ℕ) → Type 0
+AreLines [] = Unit {0}
+AreLines (bytes ∷ rest) = (length bytes ≡ 64) × AreLines rest
