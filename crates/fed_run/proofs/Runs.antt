@@ -381,3 +381,58 @@ module _ (count ways : ℕ) {S E : Type 0} (step : S → LineRequest → Result 
             (keeps.1 ∙ at) (keeps.2 ∙ long) (first.4) rest)
             (parts.3)
       ]
+
+-- ---- the laws
+-- a run before which none finished
+pub run-told : (count ways n : ℕ) {S E : Type 0} (step : S → LineRequest → Result (List ℕ) E → S → Type 0)
+    (answers : (s t : S) (q : LineRequest) (bytes : List ℕ) → step s q (Ok bytes) t → IsLineAnswer q bytes)
+    (machine : Machine) (is : IsCore machine.core) (long : machine.core.size ≡ 64 * count)
+    (noted : S → List (List ℕ)) (notes : NotesAnswers step line_source noted)
+    (s t : S) (cache after : Contents) (lists : Lines) (end : RunEnd) → StandsAs count ways cache lists
+    → Ends step (through (cache_access machine.core.base) (run_plan n 0 machine) cache) s t (after, end)
+    → (lines : List (List ℕ)) × (now : Lines) × (noted t ≡ noted s ++ lines) × AreLines lines
+    × StandsAs count ways after now × IsRun ways n machine lists lines now end.instructions end.machine end.ending
+run-told count ways n step answers machine is long noted notes s t cache after lists end stands h =
+    let told = run-ends count ways step noted notes answers n 0 machine.core.base machine lists s t cache after end is
+    refl long stands h in
+    let all : end.instructions ≡ told.2 = told.6 ∙ (let e : 0 + told.2 ≡ told.2 = omega arith in e) in (
+      told.0,
+      told.1,
+      told.3,
+      told.4,
+      told.5,
+      subst (λ k. IsRun ways n machine lists (told.0) (told.1) k end.machine end.ending) (sym all) (told.7),
+    )
+
+pub run-told-stop : (count ways n : ℕ) {S E : Type 0} (step : S → LineRequest → Result (List ℕ) E → S → Type 0)
+    (answers : (s t : S) (q : LineRequest) (bytes : List ℕ) → step s q (Ok bytes) t → IsLineAnswer q bytes)
+    (machine : Machine) (is : IsCore machine.core) (long : machine.core.size ≡ 64 * count)
+    (noted : S → List (List ℕ)) (notes : NotesAnswers step line_source noted) (same : StopsUnnoted step noted)
+    (s t : S) (cache : Contents) (lists : Lines) (stop : E) (left : Contents × (ℕ × Machine))
+    → StandsAs count ways cache lists
+    → Stops step (through (cache_access machine.core.base) (run_plan n 0 machine) cache) s t stop left
+    → (lines : List (List ℕ)) × (noted t ≡ noted s ++ lines) × AreLines lines
+    × IsStarvedRun ways n machine lists lines ((left.1).0) ((left.1).1)
+run-told-stop count ways n step answers machine is long noted notes same s t cache lists stop left stands h =
+    let told = run-stops count ways step noted notes answers same n 0 machine.core.base machine lists s t cache stop left
+    is refl long stands h in
+    let all : (left.1).0 ≡ told.1 = told.4 ∙ (let e : 0 + told.1 ≡ told.1 = omega arith in e) in (
+      told.0,
+      told.2,
+      told.3,
+      subst (λ k. IsStarvedRun ways n machine lists (told.0) k ((left.1).1)) (sym all) (told.5),
+    )
+
+-- Whatever is answered, the core after an instruction is one of the same memory.
+pub instruction-keeps : {S E : Type 0} (step : S → LineRequest → Result (List ℕ) E → S → Type 0) (base : ℕ)
+    (machine : Machine) → IsCore machine.core → (s t : S) (cache after : Contents) (end : Machine × Done)
+    → Ends step (through (cache_access base) (step_plan machine) cache) s t (after, end)
+    → IsCore ((end.0).core)
+    × ((end.0).core.base ≡ machine.core.base) × ((end.0).core.size ≡ machine.core.size)
+instruction-keeps step base machine is s t cache after end h =
+    Ends-has step (λ (r : Contents × (Machine × Done)). IsCore (((r.1).0).core)
+    × (((r.1).0).core.base ≡ machine.core.base) × (((r.1).0).core.size ≡ machine.core.size))
+    (through (cache_access base) (step_plan machine) cache)
+    (outcomes-through (λ (e : Machine × Done). IsCore ((e.0).core)
+    × ((e.0).core.base ≡ machine.core.base) × ((e.0).core.size ≡ machine.core.size)) (cache_access base)
+    (step_plan machine) cache (step_plan-keeps machine is)) s t (after, end) h

@@ -4,6 +4,10 @@
 //! fetch first takes its bytes from a list of lines, whatever they are. The crate has laws alone; the calls do nothing.
 #![tactic(auto)]
 
+mod chains;
+
+pub use chains::{instruction_is_fed, run_is_fed};
+
 ghost use Rattle.std.specs.Prelude.{◌≡◌, ℕ, List, [], ◌∷◌, ◌++◌, length, replicate};
 ghost use Rattle.asc_base.specs.Memory.{IsMemory};
 ghost use Rattle.rv32_core.specs.Machine.{Machine};

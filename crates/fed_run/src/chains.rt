@@ -1,0 +1,83 @@
+//! Laws of chains of a store's steps below a core and a cache. The calls do nothing.
+
+ghost use Rattle.std.specs.Prelude.{◌≡◌, ℕ, ◌*◌, List, [], ◌++◌, Some, None};
+ghost use Rattle.request_plan.specs.Plan.{Ends, Stops, through, Alike};
+ghost use Rattle.request_plan.specs.Laws.{NotesAnswers, StopsUnnoted};
+ghost use Rattle.rv32_core.specs.Machine.{Machine, IsCore};
+ghost use Rattle.rv32_core.specs.RunPlan.{RunEnd, run_plan};
+ghost use Rattle.rv32_core.specs.StepPlan.{step_plan};
+ghost use Rattle.rv32_core.specs.declared.outcome.Done.{Done};
+ghost use Rattle.data_cache.specs.Lines.{IsLineAnswer};
+ghost use Rattle.data_cache.specs.CacheLists.{Sets, Lines};
+ghost use Rattle.data_cache.specs.Contents.{Contents};
+ghost use Rattle.data_cache.specs.Cached.{cache_access, lists_access, StandsAs, StandsLeft};
+ghost use Rattle.fed_run.specs.Fed.{Ends as EndsAs, Starves, fed_step, fed_run};
+ghost use Rattle.fed_run.specs.Answered.{line_source, AreLines, feed_of};
+
+use data_cache::LineStore;
+
+/// An instruction of a core over a cache, whatever its store answers, asks as the cache's lists do. Where it is a chain
+/// of steps of a store that notes the lines which it answers, it is the instruction of the machine that is fed with
+/// exactly these lines, each for its fetch, in order: the machine, the answer, and the lists and the list of bytes that
+/// stand for the cache then. Where it is stopped, the machine that is fed with the lines noted until then starves.
+pub fn instruction_is_fed<S: LineStore>()
+    ensures asks { (count ways : ℕ) (machine : Machine) → IsCore machine.core → machine.core.size ≡ 64 * count
+        → (cache : Contents) (lists : Lines) → StandsAs count ways cache lists
+        → Alike IsLineAnswer
+        (λ (left : Contents × Machine) (c : Sets × Machine). StandsLeft count (left.0) (c.0) × (left.1 ≡ c.1))
+        (λ (a : Contents × (Machine × Done)) (d : Lines × (Machine × Done)).
+        StandsAs count ways (a.0) (d.0) × (a.1 ≡ d.1))
+        (through (cache_access machine.core.base) (step_plan machine) cache)
+        (through (lists_access machine.core.base ways) (step_plan machine) lists) }
+    ensures ends { (count ways : ℕ) (machine : Machine) → IsCore machine.core → machine.core.size ≡ 64 * count
+        → (noted : S → List (List ℕ)) → NotesAnswers S.step line_source noted
+        → (old new : S) (cache after : Contents) (lists : Lines) (end : Machine × Done)
+        → StandsAs count ways cache lists
+        → Ends S.step (through (cache_access machine.core.base) (step_plan machine) cache) old new (after, end)
+        → (lines : List (List ℕ)) × (now : Lines) × (noted new ≡ noted old ++ lines) × AreLines lines
+        × StandsAs count ways after now
+        × ((more : List (List ℕ)) → AreLines more
+        → fed_step ways machine (feed_of lists (lines ++ more))
+        ≡ Some (record { machine = end.0; feed = feed_of now more; done = end.1 })) }
+    ensures stops { (count ways : ℕ) (machine : Machine) → IsCore machine.core → machine.core.size ≡ 64 * count
+        → (noted : S → List (List ℕ)) → NotesAnswers S.step line_source noted → StopsUnnoted S.step noted
+        → (old new : S) (cache : Contents) (lists : Lines) (stop : S.Stop) (left : Contents × Machine)
+        → StandsAs count ways cache lists
+        → Stops S.step (through (cache_access machine.core.base) (step_plan machine) cache) old new stop left
+        → (lines : List (List ℕ)) × (noted new ≡ noted old ++ lines) × AreLines lines
+        × (fed_step ways machine (feed_of lists lines) ≡ None) }
+    ensures keeps { (base : ℕ) (machine : Machine) → IsCore machine.core
+        → (old new : S) (cache after : Contents) (end : Machine × Done)
+        → Ends S.step (through (cache_access base) (step_plan machine) cache) old new (after, end)
+        → IsCore ((end.0).core)
+        × ((end.0).core.base ≡ machine.core.base) × ((end.0).core.size ≡ machine.core.size) }
+{}
+
+/// A run of at most n instructions over a cache, by such a chain, is the run of the machine that is fed with exactly the
+/// lines that were noted: as many instructions, the machine, and the ending. Where it is stopped, the machine that is
+/// fed with the lines noted until then finishes the same instructions, starves in the next one, and uses them all.
+pub fn run_is_fed<S: LineStore>()
+    ensures ends { (count ways n : ℕ) (machine : Machine) → IsCore machine.core → machine.core.size ≡ 64 * count
+        → (noted : S → List (List ℕ)) → NotesAnswers S.step line_source noted
+        → (old new : S) (cache after : Contents) (lists : Lines) (end : RunEnd) → StandsAs count ways cache lists
+        → Ends S.step (through (cache_access machine.core.base) (run_plan n 0 machine) cache) old new (after, end)
+        → (lines : List (List ℕ)) × (now : Lines) × (noted new ≡ noted old ++ lines) × AreLines lines
+        × StandsAs count ways after now
+        × ((more : List (List ℕ)) → AreLines more
+        → fed_run ways n machine (feed_of lists (lines ++ more))
+        ≡ record {
+          instructions = end.instructions;
+          machine = end.machine;
+          feed = feed_of now more;
+          ending = EndsAs end.ending;
+        }) }
+    ensures stops { (count ways n : ℕ) (machine : Machine) → IsCore machine.core → machine.core.size ≡ 64 * count
+        → (noted : S → List (List ℕ)) → NotesAnswers S.step line_source noted → StopsUnnoted S.step noted
+        → (old new : S) (cache : Contents) (lists : Lines) (stop : S.Stop) (left : Contents × (ℕ × Machine))
+        → StandsAs count ways cache lists
+        → Stops S.step (through (cache_access machine.core.base) (run_plan n 0 machine) cache) old new stop left
+        → (lines : List (List ℕ)) × (noted new ≡ noted old ++ lines) × AreLines lines
+        × (let run = fed_run ways n machine (feed_of lists lines) in
+        (run.instructions ≡ (left.1).0) × (run.machine ≡ (left.1).1) × (run.feed.left ≡ [])
+        × (run.ending ≡ Starves)) }
+{}
