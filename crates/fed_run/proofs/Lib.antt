@@ -11,3 +11,4 @@ pub mod InstructionChains
 pub mod WantedLines
 pub mod Left
 pub mod Runs
+pub mod GoOn

@@ -110,6 +110,29 @@ fed_run ways zero machine feed =
     record { instructions = 0; machine = machine; feed = feed; ending = Ends Budget }
 fed_run ways (suc n) machine feed = fed_from (fed_run ways n) machine feed (fed_step ways machine feed)
 
+-- ---- runs that go on
+-- a run before which so many more instructions finished
+abbrev pub fed_before : ℕ → FedRun → FedRun
+fed_before count run = record run { instructions = count + run.instructions }
+
+-- A run that may go on: where its instructions finished with Budget, so many more from there; one that ended stays as
+-- it is.
+abbrev pub fed_on_from : ℕ → ℕ → FedRun → FedEnding → FedRun
+fed_on_from ways more run (Ends Budget) = fed_before run.instructions (fed_run ways more run.machine run.feed)
+fed_on_from ways more run (Ends (Exited status)) = run
+fed_on_from ways more run (Ends (Trapped kind pc)) = run
+fed_on_from ways more run Starves = run
+
+abbrev pub fed_gone_on : ℕ → ℕ → FedRun → FedRun
+fed_gone_on ways more run = fed_on_from ways more run run.ending
+
+-- a feed with more lines behind those that are left, and what a run leaves with them
+abbrev pub with_more : List (List ℕ) → Feed → Feed
+with_more more feed = record feed { left = feed.left ++ more }
+
+abbrev pub run_with_more : List (List ℕ) → FedRun → FedRun
+run_with_more more run = record run { feed = with_more more run.feed }
+
 -- ---- what an honest store answers
 -- the lines for which uses ask, as a list of bytes has them, and the lists after these uses
 abbrev pub answers_of : ℕ → List ℕ → Sets → List LineUse → List (List ℕ)
