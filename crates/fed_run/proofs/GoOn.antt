@@ -73,12 +73,12 @@ line-more memory line (bytes ∷ rest) more true r e =
     ap (option_map (λ (z : List ℕ × List (List ℕ)). (z.0, z.1 ++ more))) e
 
 -- what is found with fewer lines is found with more
-map-found : {A B : Type 0} (f : A → B) (r : Option A) (b : B) → option_map f r ≡ Some b
+pub map-found : {A B : Type 0} (f : A → B) (r : Option A) (b : B) → option_map f r ≡ Some b
     → (a : A) × (r ≡ Some a) × (f a ≡ b)
 map-found f None b e = Prim.cc
 map-found f (Some a) b e = (a, refl, (let same : f a ≡ b = Prim.cc in same))
 
-then-found : {A B : Type 0} (f : A → Option B) (r : Option A) (b : B) → option_and_then f r ≡ Some b
+pub then-found : {A B : Type 0} (f : A → Option B) (r : Option A) (b : B) → option_and_then f r ≡ Some b
     → (a : A) × (r ≡ Some a) × (f a ≡ Some b)
 then-found f None b e = Prim.cc
 then-found f (Some a) b e = (a, refl, e)

@@ -12,3 +12,4 @@ pub mod WantedLines
 pub mod Left
 pub mod Runs
 pub mod GoOn
+pub mod Cuts

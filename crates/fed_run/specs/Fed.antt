@@ -126,6 +126,13 @@ fed_on_from ways more run Starves = run
 abbrev pub fed_gone_on : ℕ → ℕ → FedRun → FedRun
 fed_gone_on ways more run = fed_on_from ways more run run.ending
 
+-- All instructions that were to finish did, or there was an exit.
+abbrev pub IsDone : FedEnding → Type 0
+IsDone (Ends Budget) = Unit {0}
+IsDone (Ends (Exited status)) = Unit {0}
+IsDone (Ends (Trapped kind pc)) = ⊥
+IsDone Starves = ⊥
+
 -- a feed with more lines behind those that are left, and what a run leaves with them
 abbrev pub with_more : List (List ℕ) → Feed → Feed
 with_more more feed = record feed { left = feed.left ++ more }
