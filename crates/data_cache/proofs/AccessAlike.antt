@@ -1,15 +1,16 @@
 -- A cache and its lists ask alike for an access.
 use Rattle.std.proofs.Common.{◌≡◌, ℕ, ◌+◌, ◌-◌, ◌*◌, ◌/◌, ◌%◌, ◌<◌, ◌≤◌, ◌==◌, Bool, false, if◌then◌else◌, List, [], length, refl, sym, subst, ◌∙◌, arith}
 use Rattle.std.proofs.lemmas.Bool.Decides.{nat_tests}
+use Rattle.asc_base.specs.declared.block.Line.{Line}
 use Rattle.request_plan.specs.Plan.{Plan, Done, Ask, bind, Outcomes, Alike}
 use Rattle.request_plan.proofs.Alike.{SameBeside, Alike-bind}
 use Rattle.rv32_core.specs.Access.{Access, Load, Store, IsAccess, slice_of}
 use Rattle.data_cache.specs.Lines.{LineRequest, IsLineAnswer}
-use Rattle.data_cache.specs.CacheLists.{Sets, Lines, read_lines, write_lines}
-use Rattle.data_cache.specs.Contents.{Contents, held_in, with_set, obtain, first_bytes, written, read_plan, write_plan}
+use Rattle.data_cache.specs.CacheLists.{Sets, Lines, read_lines, write_lines, write_whole_line}
+use Rattle.data_cache.specs.Contents.{Contents, held_in, with_set, obtain, replace, first_bytes, written, read_plan, write_plan, write_line_plan}
 use Rattle.data_cache.specs.Mirror.{Mirrors}
 use Rattle.data_cache.specs.Cached.{line_at, place_at, cache_access, lists_access, HasBytes, StandsAs, StandsLeft}
-use Rattle.data_cache.proofs.MirrorLaws.{read_alike, write_alike}
+use Rattle.data_cache.proofs.MirrorLaws.{read_alike, write_alike, whole_alike}
 
 -- what each outcome has besides
 Alike-more : {Q X B C A D : Type 0} (Fine : Q → X → Type 0) (P : A → Type 0) (Left Left' : B → C → Type 0)
@@ -69,6 +70,23 @@ module _ (count base ways : ℕ) (aligned : base % 64 ≡ 0) where
       (obtain (cache.ways) (held_in cache n) n)
       (λ s. with_set cache n (written offset bytes s)) (λ s. refl))
       (write_alike count cache lines n offset bytes (stands.0) less fits))
+
+  -- A write of a whole line.
+  pub whole-stands-as : (cache : Contents) (lines : Lines) (n : ℕ) (value : Line) → StandsAs count ways cache lines
+      → n < count → length (value.0) ≡ 64
+      → Alike IsLineAnswer (StandsLeft count) (StandsAs count ways)
+      (write_line_plan cache n value) (write_whole_line ways lines n (value.0))
+  whole-stands-as cache lines n value stands less whole =
+      subst (λ w. Alike IsLineAnswer (StandsLeft count) (StandsAs count ways)
+      (write_line_plan cache n value) (write_whole_line w lines n (value.0))) (stands.1)
+      (Alike-more IsLineAnswer (λ (a : Contents). a.ways ≡ cache.ways)
+      (λ (left : Contents) (sets : Sets). Mirrors count left (record { memory = lines.memory; sets = sets }))
+      (StandsLeft count) (Mirrors count) (StandsAs count ways)
+      (λ left sets h. (lines.memory, h)) (λ a d same h. (h, same ∙ stands.1))
+      (write_line_plan cache n value) (write_whole_line (cache.ways) lines n (value.0))
+      (Outcomes-last (λ (a : Contents). a.ways ≡ cache.ways) (with_set cache n)
+      (replace (cache.ways) (held_in cache n) n value) (λ s. with_set cache n s) (λ s. refl))
+      (whole_alike count cache lines n value (stands.0) less whole))
 
   -- An access inside the memory, in one line, of some bytes.
   pub access-alike : (cache : Contents) (lines : Lines) (access : Access) → StandsAs count ways cache lines

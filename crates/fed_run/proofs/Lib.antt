@@ -10,6 +10,6 @@ pub mod SomeBytes
 pub mod InstructionChains
 pub mod WantedLines
 pub mod Left
-pub mod Runs
+pub mod RunChains
 pub mod GoOn
 pub mod Cuts

@@ -5,8 +5,10 @@
 #![tactic(auto)]
 
 mod chains;
+mod runs;
 
 pub use chains::{instruction_is_fed, run_is_fed};
+pub use runs::{fed_runs_go_on, more_lines_go_on};
 
 ghost use Rattle.std.specs.Prelude.{◌≡◌, ℕ, List, [], ◌∷◌, ◌++◌, length, replicate};
 ghost use Rattle.asc_base.specs.Memory.{IsMemory};

@@ -1,5 +1,5 @@
 use Rattle.fed_run.proofs.InstructionChains.{instruction-alike, instruction-ends, instruction-stops}
-use Rattle.fed_run.proofs.Runs.{instruction-keeps}
+use Rattle.fed_run.proofs.RunChains.{instruction-keeps}
 use Rattle.fed_run.proofs.chains.instruction_is_fed.Goals as goal
 
 pub returns-clause-asks : goal.returns-clause-asks

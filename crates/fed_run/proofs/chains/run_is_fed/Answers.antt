@@ -1,4 +1,4 @@
-use Rattle.fed_run.proofs.Runs.{run-told, run-told-stop}
+use Rattle.fed_run.proofs.RunChains.{run-told, run-told-stop}
 use Rattle.fed_run.proofs.chains.run_is_fed.Goals as goal
 
 pub returns-clause-ends : goal.returns-clause-ends
