@@ -46,7 +46,7 @@ after-fed : {Q B C A D : Type 0} (put : B → C) (f : A → D) (q : Q) (b : B) (
 after-fed put f q b None = refl
 after-fed put f q b (Some r) = refl
 
-course-use : (ways : ℕ) (set : List Kept) (memory : List ℕ) (use_of : LineUse) (items : List (List ℕ))
+pub course-use : (ways : ℕ) (set : List Kept) (memory : List ℕ) (use_of : LineUse) (items : List (List ℕ))
     → course line_source (use_set ways set memory use_of) items
     ≡ fed_course (Fetch use_of.line) (set_settled ways set (victim ways set use_of.line))
     (option_map (λ (z : List ℕ × List (List ℕ)). ((set_after ways set use_of, z.0), z.1))

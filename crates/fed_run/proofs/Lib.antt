@@ -13,3 +13,4 @@ pub mod Left
 pub mod RunChains
 pub mod GoOn
 pub mod Cuts
+pub mod WholeChains

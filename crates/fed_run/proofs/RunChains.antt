@@ -91,14 +91,14 @@ outcomes-through {Q} {X} {R} {Y} {C} {H} {B} {A} P serve (Ask q b k) held h =
 
 -- ---- a run
 -- a fed run of so many instructions that ends so
-abbrev IsRun : ℕ → ℕ → Machine → Lines → List (List ℕ) → Lines → ℕ → Machine → FlatEnding → Type 0
+abbrev pub IsRun : ℕ → ℕ → Machine → Lines → List (List ℕ) → Lines → ℕ → Machine → FlatEnding → Type 0
 IsRun ways n machine lists lines now k next ending =
     (more : List (List ℕ)) → AreLines more
     → fed_run ways n machine (fed_by lists.memory lists.sets (lines ++ more))
     ≡ record { instructions = k; machine = next; feed = fed_by now.memory now.sets more; ending = EndsAs ending }
 
 -- a fed run that starves
-abbrev IsStarvedRun : ℕ → ℕ → Machine → Lines → List (List ℕ) → ℕ → Machine → Type 0
+abbrev pub IsStarvedRun : ℕ → ℕ → Machine → Lines → List (List ℕ) → ℕ → Machine → Type 0
 IsStarvedRun ways n machine lists lines k next =
     let run = fed_run ways n machine (fed_by lists.memory lists.sets lines) in
     (run.instructions ≡ k) × (run.machine ≡ next) × (run.feed.left ≡ []) × (run.ending ≡ Starves)
