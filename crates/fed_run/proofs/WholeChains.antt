@@ -1,6 +1,6 @@
 -- A whole run, from an empty cache on: its image lines fetch nothing, and its instructions are those of the machine that
 -- is fed.
-use Rattle.std.proofs.Common.{◌≡◌, ◌⊎◌, ℕ, zero, suc, ◌+◌, ◌-◌, ◌*◌, ◌%◌, ◌<◌, ◌≤◌, Bool, true, false, if◌then◌else◌, List, [], ◌∷◌, ◌++◌, Option, Some, None, Result, Ok, Err, length, drop, replicate, refl, sym, ap, subst, inl, inr, arith, ◌∙◌, append_assoc, append-nil, length-drop}
+use Rattle.std.proofs.Common.{◌≡◌, ◌⊎◌, ℕ, zero, suc, ◌+◌, ◌-◌, ◌*◌, ◌%◌, ◌<◌, ◌≤◌, Bool, true, false, if◌then◌else◌, List, [], ◌∷◌, ◌++◌, All, Option, Some, None, Result, Ok, Err, length, drop, replicate, refl, sym, ap, subst, inl, inr, arith, ◌∙◌, append_assoc, append-nil, length-drop}
 use Rattle.std.proofs.lemmas.List.{length-take-le}
 use Rattle.std.specs.Option.{option_map}
 use Rattle.request_plan.specs.Plan.{Plan, Done as Outcome, Ask, bind, through, Ends, Stops, Asks, Outcomes, Alike}
@@ -53,6 +53,11 @@ outcome_of none Astray = none
 abbrev pub Below : ℕ → List ℕ → Type 0
 Below count [] = Unit {0}
 Below count (line ∷ marked) = (line < count) × Below count marked
+
+pub below-all : (count : ℕ) (marked : List ℕ) → All (λ line. line < count) marked → Below count marked
+below-all count [] all = tt
+below-all count (line ∷ marked) all =
+    (all 0 line (omega arith), below-all count marked (λ k d lt. all (suc k) d (omega arith)))
 
 line-length : (image : List ℕ) (count line : ℕ) → length image ≡ 64 * count → line < count
     → length (line_in image line) ≡ 64

@@ -1,6 +1,6 @@
 //! Laws of chains of a store's steps below a core and a cache. The calls do nothing.
 
-ghost use Rattle.std.specs.Prelude.{◌≡◌, ℕ, ◌*◌, List, [], ◌++◌, Some, None};
+ghost use Rattle.std.specs.Prelude.{◌≡◌, ◌⊎◌, ℕ, ◌*◌, ◌<◌, List, [], ◌++◌, Some, None, All, length, replicate};
 ghost use Rattle.request_plan.specs.Plan.{Ends, Stops, through, Alike};
 ghost use Rattle.request_plan.specs.Laws.{NotesAnswers, StopsUnnoted};
 ghost use Rattle.rv32_core.specs.Machine.{Machine, IsCore};
@@ -8,11 +8,12 @@ ghost use Rattle.rv32_core.specs.RunPlan.{RunEnd, run_plan};
 ghost use Rattle.rv32_core.specs.StepPlan.{step_plan};
 ghost use Rattle.rv32_core.specs.declared.outcome.Done.{Done};
 ghost use Rattle.data_cache.specs.Lines.{IsLineAnswer};
-ghost use Rattle.data_cache.specs.CacheLists.{Sets, Lines};
+ghost use Rattle.data_cache.specs.CacheLists.{Sets, Lines, no_lines};
 ghost use Rattle.data_cache.specs.Contents.{Contents};
 ghost use Rattle.data_cache.specs.Cached.{cache_access, lists_access, StandsAs, StandsLeft};
 ghost use Rattle.fed_run.specs.Fed.{Ends as EndsAs, Starves, fed_step, fed_run};
 ghost use Rattle.fed_run.specs.Answered.{line_source, AreLines, feed_of};
+ghost use Rattle.fed_run.specs.Whole.{cache_run, lists_run, fed};
 
 use data_cache::LineStore;
 
@@ -57,6 +58,14 @@ pub fn instruction_is_fed<S: LineStore>()
 /// lines that were noted: as many instructions, the machine, and the ending. Where it is stopped, the machine that is
 /// fed with the lines noted until then finishes the same instructions, starves in the next one, and uses them all.
 pub fn run_is_fed<S: LineStore>()
+    ensures asks { (count ways n : ℕ) (machine : Machine) → IsCore machine.core → machine.core.size ≡ 64 * count
+        → (cache : Contents) (lists : Lines) → StandsAs count ways cache lists
+        → Alike IsLineAnswer
+        (λ (left : Contents × (ℕ × Machine)) (c : Sets × (ℕ × Machine)).
+        StandsLeft count (left.0) (c.0) × (left.1 ≡ c.1))
+        (λ (a : Contents × RunEnd) (d : Lines × RunEnd). StandsAs count ways (a.0) (d.0) × (a.1 ≡ d.1))
+        (through (cache_access machine.core.base) (run_plan n 0 machine) cache)
+        (through (lists_access machine.core.base ways) (run_plan n 0 machine) lists) }
     ensures ends { (count ways n : ℕ) (machine : Machine) → IsCore machine.core → machine.core.size ≡ 64 * count
         → (noted : S → List (List ℕ)) → NotesAnswers S.step line_source noted
         → (old new : S) (cache after : Contents) (lists : Lines) (end : RunEnd) → StandsAs count ways cache lists
@@ -80,4 +89,49 @@ pub fn run_is_fed<S: LineStore>()
         × (let run = fed_run ways n machine (feed_of lists lines) in
         (run.instructions ≡ (left.1).0) × (run.machine ≡ (left.1).1) × (run.feed.left ≡ [])
         × (run.ending ≡ Starves)) }
+{}
+
+/// A whole run over a cache that is empty at its start: the image lines, in their order, are written whole into it, and
+/// the instructions follow, in one plan. It asks as the cache's lists do, and by such a chain it is the run of the
+/// machine that is fed with exactly the lines that were noted. Where it is stopped, that was in the image lines, before
+/// which no line was noted; or in an instruction, for which the machine that is fed starves.
+pub fn whole_run_is_fed<S: LineStore>()
+    ensures asks { (count ways sets n : ℕ) (image marked : List ℕ) (machine : Machine) → 0 < sets → 0 < ways
+        → All (λ line. line < count) marked → length image ≡ 64 * count
+        → IsCore machine.core → machine.core.size ≡ 64 * count
+        → Alike IsLineAnswer
+        (λ (left : Contents × (ℕ × Machine)) (c : Sets × (ℕ × Machine)).
+        StandsLeft count (left.0) (c.0) × (left.1 ≡ c.1))
+        (λ (a : Contents × RunEnd) (d : Lines × RunEnd). StandsAs count ways (a.0) (d.0) × (a.1 ≡ d.1))
+        (cache_run image marked n machine (record { ways = ways; sets = replicate sets [] }))
+        (lists_run ways marked n machine (record { memory = image; sets = no_lines sets })) }
+    ensures ends { (count ways sets n : ℕ) (image marked : List ℕ) (machine : Machine) → 0 < sets → 0 < ways
+        → All (λ line. line < count) marked → length image ≡ 64 * count
+        → IsCore machine.core → machine.core.size ≡ 64 * count
+        → (noted : S → List (List ℕ)) → NotesAnswers S.step line_source noted
+        → (old new : S) (after : Contents) (end : RunEnd)
+        → Ends S.step (cache_run image marked n machine (record { ways = ways; sets = replicate sets [] })) old new
+        (after, end)
+        → (lines : List (List ℕ)) × (now : Lines) × (noted new ≡ noted old ++ lines) × AreLines lines
+        × StandsAs count ways after now
+        × ((more : List (List ℕ)) → AreLines more
+        → fed ways sets image marked n machine (lines ++ more)
+        ≡ record {
+          instructions = end.instructions;
+          machine = end.machine;
+          feed = feed_of now more;
+          ending = EndsAs end.ending;
+        }) }
+    ensures stops { (count ways sets n : ℕ) (image marked : List ℕ) (machine : Machine) → 0 < sets → 0 < ways
+        → All (λ line. line < count) marked → length image ≡ 64 * count
+        → IsCore machine.core → machine.core.size ≡ 64 * count
+        → (noted : S → List (List ℕ)) → NotesAnswers S.step line_source noted → StopsUnnoted S.step noted
+        → (old new : S) (stop : S.Stop) (left : Contents × (ℕ × Machine))
+        → Stops S.step (cache_run image marked n machine (record { ways = ways; sets = replicate sets [] })) old new
+        stop left
+        → ((noted new ≡ noted old) × (left.1 ≡ (0, machine)))
+        ⊎ ((lines : List (List ℕ)) × (noted new ≡ noted old ++ lines) × AreLines lines
+        × (let run = fed ways sets image marked n machine lines in
+        (run.instructions ≡ (left.1).0) × (run.machine ≡ (left.1).1) × (run.feed.left ≡ [])
+        × (run.ending ≡ Starves))) }
 {}

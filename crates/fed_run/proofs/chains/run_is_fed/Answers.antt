@@ -1,5 +1,9 @@
 use Rattle.fed_run.proofs.RunChains.{run-told, run-told-stop}
+use Rattle.fed_run.proofs.WholeChains.{run-alike}
 use Rattle.fed_run.proofs.chains.run_is_fed.Goals as goal
+
+pub returns-clause-asks : goal.returns-clause-asks
+returns-clause-asks g c = run-alike
 
 pub returns-clause-ends : goal.returns-clause-ends
 returns-clause-ends g c =
