@@ -14,3 +14,4 @@ pub mod RunChains
 pub mod GoOn
 pub mod Cuts
 pub mod WholeChains
+pub mod KeptChains

@@ -155,7 +155,7 @@ module _ (count ways : ℕ) (image : List ℕ) (size : length image ≡ 64 * cou
       (own-alike cache lists line (below.0) over)
 
   -- the sets after these lines
-  abbrev after_image : List ℕ → Lines → Lines
+  abbrev pub after_image : List ℕ → Lines → Lines
   after_image marked lists =
       record { memory = lists.memory; sets = sets_along ways lists.sets (used WholeWrite marked) }
 

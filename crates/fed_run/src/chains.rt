@@ -1,8 +1,11 @@
 //! Laws of chains of a store's steps below a core and a cache. The calls do nothing.
+//!
+//! What is asked of single steps is asked of those from where the store's `holds` alone. `noted` is a list in which such a
+//! step notes the line that a fetch is answered with, and nothing else.
 
 ghost use Rattle.std.specs.Prelude.{◌≡◌, ◌⊎◌, ℕ, ◌*◌, ◌<◌, List, [], ◌++◌, Some, None, All, length, replicate};
 ghost use Rattle.request_plan.specs.Plan.{Ends, Stops, through, Alike};
-ghost use Rattle.request_plan.specs.Laws.{NotesAnswers, StopsUnnoted};
+ghost use Rattle.request_plan.specs.Laws.{AnswersKeep, Within, NotesAnswers, StopsUnnoted};
 ghost use Rattle.rv32_core.specs.Machine.{Machine, IsCore};
 ghost use Rattle.rv32_core.specs.RunPlan.{RunEnd, run_plan};
 ghost use Rattle.rv32_core.specs.StepPlan.{step_plan};
@@ -17,11 +20,17 @@ ghost use Rattle.fed_run.specs.Whole.{cache_run, lists_run, fed};
 
 use data_cache::LineStore;
 
+/// A store with something that its answers keep, as that it isn't stopped. A stop may break it.
+pub trait KeptStore: LineStore {
+    /// It holds.
+    ghost holds: { Self → Type 0 };
+}
+
 /// An instruction of a core over a cache, whatever its store answers, asks as the cache's lists do. Where it is a chain
 /// of steps of a store that notes the lines which it answers, it is the instruction of the machine that is fed with
 /// exactly these lines, each for its fetch, in order: the machine, the answer, and the lists and the list of bytes that
 /// stand for the cache then. Where it is stopped, the machine that is fed with the lines noted until then starves.
-pub fn instruction_is_fed<S: LineStore>()
+pub fn instruction_is_fed<S: KeptStore>()
     ensures asks { (count ways : ℕ) (machine : Machine) → IsCore machine.core → machine.core.size ≡ 64 * count
         → (cache : Contents) (lists : Lines) → StandsAs count ways cache lists
         → Alike IsLineAnswer
@@ -31,18 +40,20 @@ pub fn instruction_is_fed<S: LineStore>()
         (through (cache_access machine.core.base) (step_plan machine) cache)
         (through (lists_access machine.core.base ways) (step_plan machine) lists) }
     ensures ends { (count ways : ℕ) (machine : Machine) → IsCore machine.core → machine.core.size ≡ 64 * count
-        → (noted : S → List (List ℕ)) → NotesAnswers S.step line_source noted
-        → (old new : S) (cache after : Contents) (lists : Lines) (end : Machine × Done)
+        → AnswersKeep S.step S.holds → (noted : S → List (List ℕ))
+        → NotesAnswers (Within S.holds S.step) line_source noted
+        → (old new : S) (cache after : Contents) (lists : Lines) (end : Machine × Done) → S.holds old
         → StandsAs count ways cache lists
         → Ends S.step (through (cache_access machine.core.base) (step_plan machine) cache) old new (after, end)
-        → (lines : List (List ℕ)) × (now : Lines) × (noted new ≡ noted old ++ lines) × AreLines lines
+        → (lines : List (List ℕ)) × (now : Lines) × (noted new ≡ noted old ++ lines) × AreLines lines × S.holds new
         × StandsAs count ways after now
         × ((more : List (List ℕ)) → AreLines more
         → fed_step ways machine (feed_of lists (lines ++ more))
         ≡ Some (record { machine = end.0; feed = feed_of now more; done = end.1 })) }
     ensures stops { (count ways : ℕ) (machine : Machine) → IsCore machine.core → machine.core.size ≡ 64 * count
-        → (noted : S → List (List ℕ)) → NotesAnswers S.step line_source noted → StopsUnnoted S.step noted
-        → (old new : S) (cache : Contents) (lists : Lines) (stop : S.Stop) (left : Contents × Machine)
+        → AnswersKeep S.step S.holds → (noted : S → List (List ℕ))
+        → NotesAnswers (Within S.holds S.step) line_source noted → StopsUnnoted (Within S.holds S.step) noted
+        → (old new : S) (cache : Contents) (lists : Lines) (stop : S.Stop) (left : Contents × Machine) → S.holds old
         → StandsAs count ways cache lists
         → Stops S.step (through (cache_access machine.core.base) (step_plan machine) cache) old new stop left
         → (lines : List (List ℕ)) × (noted new ≡ noted old ++ lines) × AreLines lines
@@ -57,7 +68,7 @@ pub fn instruction_is_fed<S: LineStore>()
 /// A run of at most n instructions over a cache, by such a chain, is the run of the machine that is fed with exactly the
 /// lines that were noted: as many instructions, the machine, and the ending. Where it is stopped, the machine that is
 /// fed with the lines noted until then finishes the same instructions, starves in the next one, and uses them all.
-pub fn run_is_fed<S: LineStore>()
+pub fn run_is_fed<S: KeptStore>()
     ensures asks { (count ways n : ℕ) (machine : Machine) → IsCore machine.core → machine.core.size ≡ 64 * count
         → (cache : Contents) (lists : Lines) → StandsAs count ways cache lists
         → Alike IsLineAnswer
@@ -67,10 +78,11 @@ pub fn run_is_fed<S: LineStore>()
         (through (cache_access machine.core.base) (run_plan n 0 machine) cache)
         (through (lists_access machine.core.base ways) (run_plan n 0 machine) lists) }
     ensures ends { (count ways n : ℕ) (machine : Machine) → IsCore machine.core → machine.core.size ≡ 64 * count
-        → (noted : S → List (List ℕ)) → NotesAnswers S.step line_source noted
-        → (old new : S) (cache after : Contents) (lists : Lines) (end : RunEnd) → StandsAs count ways cache lists
+        → AnswersKeep S.step S.holds → (noted : S → List (List ℕ))
+        → NotesAnswers (Within S.holds S.step) line_source noted
+        → (old new : S) (cache after : Contents) (lists : Lines) (end : RunEnd) → S.holds old → StandsAs count ways cache lists
         → Ends S.step (through (cache_access machine.core.base) (run_plan n 0 machine) cache) old new (after, end)
-        → (lines : List (List ℕ)) × (now : Lines) × (noted new ≡ noted old ++ lines) × AreLines lines
+        → (lines : List (List ℕ)) × (now : Lines) × (noted new ≡ noted old ++ lines) × AreLines lines × S.holds new
         × StandsAs count ways after now
         × ((more : List (List ℕ)) → AreLines more
         → fed_run ways n machine (feed_of lists (lines ++ more))
@@ -81,8 +93,9 @@ pub fn run_is_fed<S: LineStore>()
           ending = EndsAs end.ending;
         }) }
     ensures stops { (count ways n : ℕ) (machine : Machine) → IsCore machine.core → machine.core.size ≡ 64 * count
-        → (noted : S → List (List ℕ)) → NotesAnswers S.step line_source noted → StopsUnnoted S.step noted
-        → (old new : S) (cache : Contents) (lists : Lines) (stop : S.Stop) (left : Contents × (ℕ × Machine))
+        → AnswersKeep S.step S.holds → (noted : S → List (List ℕ))
+        → NotesAnswers (Within S.holds S.step) line_source noted → StopsUnnoted (Within S.holds S.step) noted
+        → (old new : S) (cache : Contents) (lists : Lines) (stop : S.Stop) (left : Contents × (ℕ × Machine)) → S.holds old
         → StandsAs count ways cache lists
         → Stops S.step (through (cache_access machine.core.base) (run_plan n 0 machine) cache) old new stop left
         → (lines : List (List ℕ)) × (noted new ≡ noted old ++ lines) × AreLines lines
@@ -95,7 +108,7 @@ pub fn run_is_fed<S: LineStore>()
 /// the instructions follow, in one plan. It asks as the cache's lists do, and by such a chain it is the run of the
 /// machine that is fed with exactly the lines that were noted. Where it is stopped, that was in the image lines, before
 /// which no line was noted; or in an instruction, for which the machine that is fed starves.
-pub fn whole_run_is_fed<S: LineStore>()
+pub fn whole_run_is_fed<S: KeptStore>()
     ensures asks { (count ways sets n : ℕ) (image marked : List ℕ) (machine : Machine) → 0 < sets → 0 < ways
         → All (λ line. line < count) marked → length image ≡ 64 * count
         → IsCore machine.core → machine.core.size ≡ 64 * count
@@ -108,11 +121,12 @@ pub fn whole_run_is_fed<S: LineStore>()
     ensures ends { (count ways sets n : ℕ) (image marked : List ℕ) (machine : Machine) → 0 < sets → 0 < ways
         → All (λ line. line < count) marked → length image ≡ 64 * count
         → IsCore machine.core → machine.core.size ≡ 64 * count
-        → (noted : S → List (List ℕ)) → NotesAnswers S.step line_source noted
-        → (old new : S) (after : Contents) (end : RunEnd)
+        → AnswersKeep S.step S.holds → (noted : S → List (List ℕ))
+        → NotesAnswers (Within S.holds S.step) line_source noted
+        → (old new : S) (after : Contents) (end : RunEnd) → S.holds old
         → Ends S.step (cache_run image marked n machine (record { ways = ways; sets = replicate sets [] })) old new
         (after, end)
-        → (lines : List (List ℕ)) × (now : Lines) × (noted new ≡ noted old ++ lines) × AreLines lines
+        → (lines : List (List ℕ)) × (now : Lines) × (noted new ≡ noted old ++ lines) × AreLines lines × S.holds new
         × StandsAs count ways after now
         × ((more : List (List ℕ)) → AreLines more
         → fed ways sets image marked n machine (lines ++ more)
@@ -125,8 +139,9 @@ pub fn whole_run_is_fed<S: LineStore>()
     ensures stops { (count ways sets n : ℕ) (image marked : List ℕ) (machine : Machine) → 0 < sets → 0 < ways
         → All (λ line. line < count) marked → length image ≡ 64 * count
         → IsCore machine.core → machine.core.size ≡ 64 * count
-        → (noted : S → List (List ℕ)) → NotesAnswers S.step line_source noted → StopsUnnoted S.step noted
-        → (old new : S) (stop : S.Stop) (left : Contents × (ℕ × Machine))
+        → AnswersKeep S.step S.holds → (noted : S → List (List ℕ))
+        → NotesAnswers (Within S.holds S.step) line_source noted → StopsUnnoted (Within S.holds S.step) noted
+        → (old new : S) (stop : S.Stop) (left : Contents × (ℕ × Machine)) → S.holds old
         → Stops S.step (cache_run image marked n machine (record { ways = ways; sets = replicate sets [] })) old new
         stop left
         → ((noted new ≡ noted old) × (left.1 ≡ (0, machine)))
