@@ -104,10 +104,10 @@ pub fn step_cached<S: LineStore>(
     requires size { core.old.size ≡ 64 * S.lines store.old }
     requires lines { CacheBelow (S.lines store.old) cache.old }
     ensures ok { IfOk result (λ done. Ends S.step
-        (through (cache_access base) (step_plan (machine_of core.old files.old)) cache.old)
+        (through (cache_access core.old.base) (step_plan (machine_of core.old files.old)) cache.old)
         store.old store.new (cache.new, (machine_of core.new files.new, done))) }
     ensures err { IfErr result (λ stop. Stops S.step
-        (through (cache_access base) (step_plan (machine_of core.old files.old)) cache.old)
+        (through (cache_access core.old.base) (step_plan (machine_of core.old files.old)) cache.old)
         store.old store.new stop (cache.new, machine_of core.new files.new)) }
     ensures unchanged { OnErr result (machine_of core.new files.new ≡ machine_of core.old files.old) }
     ensures below { CacheBelow (S.lines store.new) cache.new }

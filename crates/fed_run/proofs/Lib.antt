@@ -15,3 +15,4 @@ pub mod GoOn
 pub mod Cuts
 pub mod WholeChains
 pub mod KeptChains
+pub mod ToldRuns

@@ -216,7 +216,7 @@ after-bytes n before end No rest = rest
 after-bytes n before end (Exit status) rest = tt
 after-bytes n before end (Trap kind pc) rest = tt
 
-run-bytes : (n before : ℕ) (machine : Machine) → Asks HasBytes (run_plan n before machine)
+pub run-bytes : (n before : ℕ) (machine : Machine) → Asks HasBytes (run_plan n before machine)
 run-bytes zero before machine = subst (Asks HasBytes) (sym (run_plan-none before machine)) tt
 run-bytes (suc n) before machine =
     subst (Asks HasBytes) (sym (run_plan-next n before machine))

@@ -6,6 +6,8 @@
 ghost use Rattle.std.specs.Prelude.{◌≡◌, ◌⊎◌, ℕ, ◌*◌, ◌<◌, List, [], ◌++◌, Some, None, All, length, replicate};
 ghost use Rattle.request_plan.specs.Plan.{Ends, Stops, through, Alike};
 ghost use Rattle.request_plan.specs.Laws.{AnswersKeep, Within, NotesAnswers, StopsUnnoted};
+ghost use Rattle.rv32_core.specs.FlatMachine.{flat_step};
+ghost use Rattle.rv32_core.specs.FlatRun.{flat_run};
 ghost use Rattle.rv32_core.specs.Machine.{Machine, IsCore};
 ghost use Rattle.rv32_core.specs.RunPlan.{RunEnd, run_plan};
 ghost use Rattle.rv32_core.specs.StepPlan.{step_plan};
@@ -13,6 +15,7 @@ ghost use Rattle.rv32_core.specs.declared.outcome.Done.{Done};
 ghost use Rattle.data_cache.specs.Lines.{IsLineAnswer};
 ghost use Rattle.data_cache.specs.CacheLists.{Sets, Lines, no_lines};
 ghost use Rattle.data_cache.specs.Contents.{Contents};
+ghost use Rattle.data_cache.specs.Standing.{StandFor};
 ghost use Rattle.data_cache.specs.Cached.{cache_access, lists_access, StandsAs, StandsLeft};
 ghost use Rattle.fed_run.specs.Fed.{Ends as EndsAs, Starves, fed_step, fed_run};
 ghost use Rattle.fed_run.specs.Answered.{line_source, AreLines, feed_of};
@@ -149,4 +152,24 @@ pub fn whole_run_is_fed<S: KeptStore>()
         × (let run = fed ways sets image marked n machine lines in
         (run.instructions ≡ (left.1).0) × (run.machine ≡ (left.1).1) × (run.feed.left ≡ [])
         × (run.ending ≡ Starves))) }
+{}
+
+/// Over a store whose lines are told after an instruction or a run, where cache and store stood for a list of bytes
+/// before it, it is the flat machine's instruction, or the flat run, on that list; and they stand for its bytes then.
+pub fn told_run_is_flat<S: LineStore>()
+    ensures instruction { (count : ℕ) (machine : Machine) → IsCore machine.core → machine.core.size ≡ 64 * count
+        → (memory : List ℕ) (old new : S) (cache after : Contents) (end : Machine × Done) → S.lines old ≡ count
+        → ((list : List (List ℕ)) → S.told old ≡ Some list → StandFor cache list memory)
+        → Ends S.step (through (cache_access machine.core.base) (step_plan machine) cache) old new (after, end)
+        → (list : List (List ℕ)) → S.told new ≡ Some list
+        → (now : List ℕ) × (flat_step machine memory ≡ record { machine = end.0; memory = now; done = end.1 })
+        × StandFor after list now }
+    ensures run { (count : ℕ) (machine : Machine) → IsCore machine.core → machine.core.size ≡ 64 * count
+        → (n : ℕ) (memory : List ℕ) (old new : S) (cache after : Contents) (end : RunEnd) → S.lines old ≡ count
+        → ((list : List (List ℕ)) → S.told old ≡ Some list → StandFor cache list memory)
+        → Ends S.step (through (cache_access machine.core.base) (run_plan n 0 machine) cache) old new (after, end)
+        → (list : List (List ℕ)) → S.told new ≡ Some list
+        → let run = flat_run n machine memory in
+        (run.instructions ≡ end.instructions) × (run.machine ≡ end.machine) × (run.ending ≡ end.ending)
+        × StandFor after list run.memory }
 {}

@@ -7,7 +7,7 @@
 mod chains;
 mod runs;
 
-pub use chains::{KeptStore, instruction_is_fed, run_is_fed, whole_run_is_fed};
+pub use chains::{KeptStore, instruction_is_fed, run_is_fed, told_run_is_flat, whole_run_is_fed};
 pub use runs::{fed_runs_go_on, more_lines_go_on};
 
 ghost use Rattle.std.specs.Prelude.{◌≡◌, ℕ, List, [], ◌∷◌, ◌++◌, length, replicate};
