@@ -1,5 +1,5 @@
 -- A cache and its lists ask alike for an access.
-use Rattle.std.proofs.Common.{◌≡◌, ℕ, ◌+◌, ◌-◌, ◌*◌, ◌/◌, ◌%◌, ◌<◌, ◌≤◌, ◌==◌, Bool, false, if◌then◌else◌, List, [], length, refl, sym, subst, ◌∙◌, arith}
+use Rattle.std.proofs.Common.{◌≡◌, ℕ, ◌+◌, ◌*◌, ◌%◌, ◌<◌, ◌≤◌, ◌==◌, false, if◌then◌else◌, List, [], length, refl, sym, subst, ◌∙◌, arith}
 use Rattle.std.proofs.lemmas.Bool.Decides.{nat_tests}
 use Rattle.asc_base.specs.declared.block.Line.{Line}
 use Rattle.request_plan.specs.Plan.{Plan, Done, Ask, bind, Outcomes, Alike}
@@ -18,9 +18,12 @@ Alike-more : {Q X B C A D : Type 0} (Fine : Q → X → Type 0) (P : A → Type 
     → ((a : A) (d : D) → P a → Out a d → Out' a d) → (p : Plan Q X B A) (r : Plan Q X C D)
     → Outcomes P p → Alike Fine Left Out p r → Alike Fine Left' Out' p r
 Alike-more Fine P Left Left' Out Out' left out (Done a) (Done d) has same = out a d has same
-Alike-more Fine P Left Left' Out Out' left out (Ask q b k) (Ask r c l) has same =
-    (same.0, left b c (same.1), λ x fine. Alike-more Fine P Left Left' Out Out' left out (k x) (l x) (has x)
-    (same.2 x fine))
+Alike-more Fine P Left Left' Out Out' left out (Ask q b k) (Ask r c l) has same = (
+  same.0,
+  left b c (same.1),
+  λ x fine. Alike-more Fine P Left Left' Out Out' left out (k x) (l x) (has x)
+      (same.2 x fine),
+)
 Alike-more Fine P Left Left' Out Out' left out (Done a) (Ask r c l) has same = absurd same
 Alike-more Fine P Left Left' Out Out' left out (Ask q b k) (Done d) has same = absurd same
 
@@ -99,7 +102,8 @@ module _ (count base ways : ℕ) (aligned : base % 64 ≡ 0) where
       let line : address % 64 + len ≤ 64 = is.in_line in
       subst (λ p. Alike IsLineAnswer (StandsLeft count) (SameBeside (StandsAs count ways)) p
       (lists_access base ways lines (Load address len)))
-      (sym (some-bytes len (Done (cache, [])) (read_plan cache (line_at base address) (place_at base address) len) some))
+      (sym (some-bytes len (Done (cache, [])) (read_plan cache (line_at base address)
+      (place_at base address) len) some))
       (read-stands cache lines (line_at base address) (place_at base address) len stands (omega arith) (omega arith))
   access-alike cache lines (Store address bytes) stands is some =
       let low : base ≤ address = is.above in

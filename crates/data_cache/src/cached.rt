@@ -41,7 +41,8 @@ impl<'a, S: LineStore> Bytes for CachedBytes<'a, S> {
             return Ok(());
         }
         let from = address - self.base;
-        self.cache.read(&mut *self.store, from / 64, (from % 64) as usize, into)
+        self.cache
+            .read(&mut *self.store, from / 64, (from % 64) as usize, into)
     }
 
     fn store(&mut self, address: u32, bytes: &[u8]) -> Result<(), S::Stop> {
@@ -49,7 +50,8 @@ impl<'a, S: LineStore> Bytes for CachedBytes<'a, S> {
             return Ok(());
         }
         let from = address - self.base;
-        self.cache.write(&mut *self.store, from / 64, (from % 64) as usize, bytes)
+        self.cache
+            .write(&mut *self.store, from / 64, (from % 64) as usize, bytes)
     }
 
     ghost keeps_base = { λ b c access answer h. h.0 };

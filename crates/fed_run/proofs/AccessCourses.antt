@@ -1,14 +1,14 @@
 -- What the cache's lists ask for accesses, run on a list of lines, is the same accesses on a list of bytes that is fed.
-use Rattle.std.proofs.Common.{◌≡◌, ℕ, ◌+◌, ◌-◌, ◌*◌, ◌/◌, ◌%◌, Bool, true, false, ◌&&◌, not, if◌then◌else◌, List, [], ◌∷◌, Option, Some, None, refl, sym, ap, subst, ◌∙◌, arith}
+use Rattle.std.proofs.Common.{◌≡◌, ℕ, ◌+◌, ◌-◌, ◌*◌, Bool, true, false, ◌&&◌, not, if◌then◌else◌, List, [], ◌∷◌, Option, Some, None, refl, sym, ap, subst, ◌∙◌, arith}
 use Rattle.std.specs.Option.{option_map, option_and_then}
 use Rattle.request_plan.specs.Plan.{Plan, Done, Ask, bind, through}
 use Rattle.request_plan.specs.Course.{Course, Finished, Starved, Astray, after_course, course}
 use Rattle.request_plan.proofs.Courses.{course-bind}
 use Rattle.rv32_core.specs.Access.{Access, Load, Store, access_bytes, slice_of, spliced}
-use Rattle.rv32_core.specs.LineList.{LineKind, Read, Write, LineUse}
+use Rattle.rv32_core.specs.LineList.{Read, Write, LineUse}
 use Rattle.data_cache.specs.Lines.{LineRequest, Fetch}
 use Rattle.data_cache.specs.Lines as lines
-use Rattle.data_cache.specs.CacheLists.{Kept, Sets, Lines, needs, keeps, set_of, with_kept, set_after, sets_after, victim, line_in, stored, fetched, set_settled, ask_all, use_set, after_use, read_lines, write_lines}
+use Rattle.data_cache.specs.CacheLists.{Kept, Sets, Lines, needs, keeps, set_of, with_kept, set_after, sets_after, victim, line_in, stored, fetched, set_settled, ask_all, use_set, after_use, write_lines}
 use Rattle.data_cache.specs.Cached.{line_at, place_at, lists_access}
 use Rattle.fed_run.specs.Fed.{Feed, asks, fed_line, fed_use}
 use Rattle.fed_run.specs.Answered.{line_source}
@@ -100,7 +100,10 @@ load-out : (base ways : ℕ) (feed : Feed) (address count : ℕ) (left : List Ke
     → let line : ℕ = line_at base address in let use_of : LineUse = record { line = line; kind = Read } in
     after_course (with_kept feed.sets line)
     (λ (z : List Kept × List ℕ) (rest : List (List ℕ)).
-    Finished (after_use (lists_in feed) line (z.0) (z.1), slice_of (z.1) (64 * line + place_at base address) count) rest)
+    Finished (
+      after_use (lists_in feed) line (z.0) (z.1),
+      slice_of (z.1) (64 * line + place_at base address) count,
+    ) rest)
     (fed_course (Fetch line) left
     (option_map (λ (z : List ℕ × List (List ℕ)). ((set_after ways (set_of feed.sets line) use_of, z.0), z.1)) r))
     ≡ fed_course (Fetch line) (with_kept feed.sets line left)
@@ -108,8 +111,11 @@ load-out : (base ways : ℕ) (feed : Feed) (address count : ℕ) (left : List Ke
 load-out base ways feed address count left None = refl
 load-out base ways feed address count left (Some r) =
     let line : ℕ = line_at base address in
-    ap (λ (at : ℕ). Finished (after_use (lists_in feed) line
-    (set_after ways (set_of feed.sets line) (record { line = line; kind = Read })) (r.0), slice_of (r.0) at count) (r.1))
+    ap (λ (at : ℕ). Finished (
+      after_use (lists_in feed) line
+          (set_after ways (set_of feed.sets line) (record { line = line; kind = Read })) (r.0),
+      slice_of (r.0) at count,
+    ) (r.1))
     (line_and_place base address)
 
 store-out : (base ways : ℕ) (feed : Feed) (address : ℕ) (bytes : List ℕ) (left : List Kept)
@@ -126,8 +132,11 @@ store-out : (base ways : ℕ) (feed : Feed) (address : ℕ) (bytes : List ℕ) (
 store-out base ways feed address bytes left None = refl
 store-out base ways feed address bytes left (Some r) =
     let line : ℕ = line_at base address in
-    ap (λ (at : ℕ). Finished (after_use (lists_in feed) line
-    (set_after ways (set_of feed.sets line) (record { line = line; kind = Write })) (spliced (r.0) at bytes), []) (r.1))
+    ap (λ (at : ℕ). Finished (
+      after_use (lists_in feed) line
+          (set_after ways (set_of feed.sets line) (record { line = line; kind = Write })) (spliced (r.0) at bytes),
+      [],
+    ) (r.1))
     (line_and_place base address)
 
 access-course : (base ways : ℕ) (feed : Feed) (access : Access)

@@ -1,9 +1,9 @@
 -- The instructions that a run finished, by themselves; and what more lines add.
-use Rattle.std.proofs.Common.{◌≡◌, ◌⊎◌, ℕ, zero, suc, ◌+◌, ◌-◌, ◌≤◌, Bool, true, false, if◌then◌else◌, List, [], ◌∷◌, ◌++◌, Option, Some, None, refl, sym, ap, subst, inl, inr, arith, ◌∙◌, append_assoc, append-nil}
-use Rattle.std.specs.Option.{option_map, option_and_then}
+use Rattle.std.proofs.Common.{◌≡◌, ℕ, zero, suc, ◌+◌, ◌-◌, ◌≤◌, Bool, true, false, if◌then◌else◌, List, [], ◌++◌, Option, Some, None, refl, sym, ap, subst, arith, ◌∙◌, append_assoc, append-nil}
+use Rattle.std.specs.Option.{option_and_then}
 use Rattle.std.specs.Int.{from_le_bytes, w32}
 use Rattle.rv32_core.specs.FlatMachine.{bytes_at, effected, trap_at}
-use Rattle.rv32_core.specs.FlatRun.{FlatEnding, Exited, Trapped, Budget}
+use Rattle.rv32_core.specs.FlatRun.{Exited, Trapped, Budget}
 use Rattle.rv32_core.specs.Machine.{Machine, is_inside, effect_of_word, cost_of_word}
 use Rattle.rv32_core.specs.LineList.{fetch_line, word_lines}
 use Rattle.rv32_core.specs.declared.effect.Effect.{Effect}

@@ -1,9 +1,9 @@
 -- A use of a line that is fed: what it changes, and that it can go before or behind a write to another line.
-use Rattle.std.proofs.Common.{◌≡◌, ◌⊎◌, ℕ, ◌+◌, ◌*◌, ◌/◌, ◌<◌, ◌≤◌, Bool, true, false, List, [], ◌∷◌, ◌++◌, Option, Some, None, length, refl, sym, ap, subst, ◌∙◌, arith, inl, inr}
+use Rattle.std.proofs.Common.{◌≡◌, ◌⊎◌, ℕ, ◌+◌, ◌*◌, ◌≤◌, Bool, true, false, List, [], ◌∷◌, ◌++◌, Option, Some, None, length, refl, ap, ◌∙◌, arith, inl, inr}
 use Rattle.std.specs.Option.{option_map, option_and_then}
 use Rattle.rv32_core.specs.Access.{slice_of, spliced, length-spliced}
 use Rattle.rv32_core.specs.LineList.{LineUse}
-use Rattle.data_cache.specs.CacheLists.{Sets, sets_after}
+use Rattle.data_cache.specs.CacheLists.{sets_after}
 use Rattle.fed_run.specs.Fed.{Feed, asks, fed_line, fed_use, fed_uses}
 use Rattle.fed_run.specs.Answered.{AreLines}
 use Rattle.fed_run.proofs.Splices.{lines-commute, slice-elsewhere}

@@ -1,16 +1,13 @@
 -- Runs that are fed go on, and with more lines they go on further.
-use Rattle.std.proofs.Common.{◌≡◌, ◌⊎◌, ℕ, zero, suc, ◌+◌, Bool, true, false, if◌then◌else◌, List, [], ◌∷◌, ◌++◌, Option, Some, None, refl, sym, ap, subst, inl, inr, arith, ◌∙◌}
+use Rattle.std.proofs.Common.{◌≡◌, ℕ, zero, suc, ◌+◌, Bool, true, false, if◌then◌else◌, List, [], ◌∷◌, ◌++◌, Option, Some, None, refl, sym, ap, arith, ◌∙◌}
 use Rattle.std.specs.Option.{option_map, option_and_then}
 use Rattle.std.specs.Int.{from_le_bytes, w32}
 use Rattle.rv32_core.specs.FlatMachine.{bytes_at, effected, trap_at}
 use Rattle.rv32_core.specs.FlatRun.{FlatEnding, Exited, Trapped, Budget}
 use Rattle.rv32_core.specs.Machine.{Machine, is_inside, effect_of_word, cost_of_word}
 use Rattle.rv32_core.specs.LineList.{LineUse, fetch_line, word_lines}
-use Rattle.rv32_core.specs.declared.effect.Effect.{Effect}
-use Rattle.rv32_core.specs.declared.effect.Effect.TheVariants.{Passes, Sets, Jumps, Loads, Stores, Answers, Breaks, Reads, Writes, Exits, Traps}
 use Rattle.rv32_core.specs.declared.outcome.Ended.{Ended}
 use Rattle.rv32_core.specs.declared.outcome.Ended.TheVariants.{No, Exit, Trap}
-use Rattle.rv32_core.specs.declared.outcome.TrapKind.{TrapKind}
 use Rattle.rv32_core.specs.declared.outcome.TrapKind.TheVariants.{FetchFault}
 use Rattle.data_cache.specs.CacheLists.{sets_after}
 use Rattle.fed_run.specs.Fed.{Feed, asks, fed_line, fed_use, fed_uses, FedStep, fed_after, fed_word, fed_step, FedEnding, Ends, Starves, FedRun, one_before, fed_on, fed_from, fed_run, fed_before, fed_on_from, fed_gone_on, with_more, run_with_more}
@@ -135,7 +132,8 @@ step-if-more ways more machine feed step true e =
     λ now. fed_word ways machine (from_le_bytes w32 (bytes_at machine now.memory machine.core.pc 4)) now in
     let found = then-found go (fed_use ways feed (fetch_line machine.core)) step e in
     ap (option_and_then go) (use-more ways more feed (found.0) (fetch_line machine.core) (found.1))
-    ∙ word-more ways more machine (from_le_bytes w32 (bytes_at machine (found.0).memory machine.core.pc 4)) (found.0) step
+    ∙ word-more ways more machine
+    (from_le_bytes w32 (bytes_at machine (found.0).memory machine.core.pc 4)) (found.0) step
     (found.2)
 
 step-more : (ways : ℕ) (more : List (List ℕ)) (machine : Machine) (feed : Feed) (step : FedStep)

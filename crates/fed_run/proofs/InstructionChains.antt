@@ -1,15 +1,14 @@
 -- An instruction of a core over a cache, by a chain of a store's steps, is that of the machine that is fed with the
 -- lines that the store answered.
-use Rattle.std.proofs.Common.{◌≡◌, ℕ, ◌+◌, ◌*◌, ◌%◌, ◌<◌, ◌≤◌, List, [], ◌∷◌, ◌++◌, Option, Some, None, Result, Ok, Err, length, refl, sym, ap, subst, arith, ◌∙◌}
+use Rattle.std.proofs.Common.{◌≡◌, ℕ, ◌*◌, ◌%◌, ◌<◌, ◌≤◌, List, ◌++◌, Option, Some, None, Result, Ok, length, refl, sym, ap, subst, arith, ◌∙◌}
 use Rattle.std.proofs.lemmas.List.{length-map}
 use Rattle.std.specs.Option.{option_map}
-use Rattle.asc_base.specs.Memory.{IsMemory}
-use Rattle.request_plan.specs.Plan.{Plan, Done as Outcome, Ask, Ends, Stops, through, Asks, Alike}
+use Rattle.request_plan.specs.Plan.{Plan, Ends, Stops, through, Asks, Alike}
 use Rattle.request_plan.specs.Course.{Course, Finished, Starved, Astray, course}
 use Rattle.request_plan.specs.Laws.{NotesAnswers, StopsUnnoted}
-use Rattle.request_plan.proofs.Alike.{SameBeside, Alike-through, Alike-ends, Alike-stops, Asks-bind}
-use Rattle.rv32_core.specs.Access.{Access, Load, Store, IsAccess}
-use Rattle.rv32_core.specs.Machine.{CoreState, Machine, IsCore}
+use Rattle.request_plan.proofs.Alike.{SameBeside, Alike-through, Alike-ends, Alike-stops}
+use Rattle.rv32_core.specs.Access.{IsAccess}
+use Rattle.rv32_core.specs.Machine.{Machine, IsCore}
 use Rattle.rv32_core.specs.StepPlan.{step_plan}
 use Rattle.rv32_core.specs.declared.outcome.Done.{Done}
 use Rattle.rv32_core.proofs.PlanLaws.{Asks-step_plan}
@@ -61,13 +60,15 @@ stands-room count ways cache lists stands =
           (subst (λ k. k ≤ ways)
           (sym (length-map (held_in cache n) mark))
           (subst (λ w. length (held_in cache n) ≤ w) (stands.1)
-          (mirrors.fits (n % length cache.sets) (let inside : n % length cache.sets < length cache.sets = omega arith in inside))));
+          (mirrors.fits (n % length cache.sets) (let inside : n % length cache.sets
+          < length cache.sets = omega arith in inside))));
     })
 
 module _ (count ways : ℕ) (machine : Machine) (is : IsCore machine.core) (size : machine.core.size ≡ 64 * count) where
   -- the cache's plan and that of its lists
   pub instruction-alike : (cache : Contents) (lines : Lines) → StandsAs count ways cache lines
-      → Alike IsLineAnswer (SameBeside {A = Machine} (StandsLeft count)) (SameBeside {A = Machine × Done} (StandsAs count ways))
+      → Alike IsLineAnswer (SameBeside {A = Machine} (StandsLeft count))
+      (SameBeside {A = Machine × Done} (StandsAs count ways))
       (through (cache_access machine.core.base) (step_plan machine) cache)
       (through (lists_access machine.core.base ways) (step_plan machine) lines)
   instruction-alike cache lines stands =
@@ -170,6 +171,7 @@ module _ (count ways : ℕ) (machine : Machine) (is : IsCore machine.core) (size
           ran.2,
           none-of (fed_step ways machine feed)
               (sym (served-step ways machine feed is.memory (record { long = long ∙ sym size; lines = ran.2 }))
-              ∙ starved-none (course line_source plan (ran.0)) (fed_served machine.core.base ways (step_plan machine) feed)
+              ∙ starved-none (course line_source plan (ran.0))
+              (fed_served machine.core.base ways (step_plan machine) feed)
               (ran.3) (plan-course machine.core.base ways (step_plan machine) feed)),
         )

@@ -1,5 +1,5 @@
 -- An instruction's plan over a list of bytes that is fed: its lines are used, and then it has its effect.
-use Rattle.std.proofs.Common.{◌≡◌, ℕ, ◌+◌, ◌*◌, ◌%◌, ◌<◌, ◌≤◌, Bool, true, false, if◌then◌else◌, List, [], ◌∷◌, ◌++◌, Option, Some, None, length, refl, sym, ap, subst, ◌∙◌, arith}
+use Rattle.std.proofs.Common.{◌≡◌, ℕ, ◌+◌, ◌*◌, ◌%◌, ◌<◌, ◌≤◌, Bool, true, false, if◌then◌else◌, List, [], ◌∷◌, Option, Some, None, length, refl, sym, ap, subst, ◌∙◌, arith}
 use Rattle.std.specs.Option.{option_map, option_and_then}
 use Rattle.std.specs.Int.{from_le_bytes, w32}
 use Rattle.asc_base.specs.Memory.{IsMemory}
@@ -10,7 +10,7 @@ use Rattle.rv32_core.specs.Machine.{CoreState, Machine, IsEffect, is_inside, at_
 use Rattle.rv32_core.specs.FlatMachine.{bytes_at, stored_bytes, after_load, after_read, after_write, going_on, effected, trap_at}
 use Rattle.rv32_core.specs.Transfer.{pieces, stores_plan, loads_plan}
 use Rattle.rv32_core.specs.StepPlan.{effect_plan, word_plan, step_plan}
-use Rattle.rv32_core.specs.LineList.{Read, Write, LineUse, line_of, lines_of, used, data_lines, word_lines, fetch_line}
+use Rattle.rv32_core.specs.LineList.{Read, Write, line_of, lines_of, used, data_lines, fetch_line}
 use Rattle.rv32_core.specs.declared.effect.Effect.{Effect}
 use Rattle.rv32_core.specs.declared.effect.Effect.TheVariants.{Passes, Sets, Jumps, Loads, Stores, Answers, Breaks, Reads, Writes, Exits, Traps}
 use Rattle.rv32_core.specs.declared.outcome.Done.{Done}
@@ -19,7 +19,6 @@ use Rattle.rv32_core.proofs.EffectLaws.{is_buffer-above, is_buffer-below, load-i
 use Rattle.rv32_core.proofs.LineLaws.{lines_of-one}
 use Rattle.rv32_core.proofs.Served.{length-slice_of}
 use Rattle.rv32_core.proofs.StepLines.{is_inside-place, load_width-some, store_width-some}
-use Rattle.data_cache.specs.Cached.{line_at}
 use Rattle.fed_run.specs.Fed.{Feed, fed_use, fed_uses, FedStep, fed_after, fed_word, fed_step}
 use Rattle.fed_run.proofs.AccessCourses.{fed_served, use_at, accessed}
 use Rattle.fed_run.proofs.Feeds.{IsFeed, use-cases}

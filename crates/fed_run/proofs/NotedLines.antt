@@ -1,9 +1,8 @@
 -- A chain of a store's steps that notes the lines it answers: its plan is run on exactly these, and they are lines.
-use Rattle.std.proofs.Common.{◌≡◌, ℕ, List, [], ◌∷◌, ◌++◌, Option, Some, Result, Ok, Err, length, refl, sym, ap, subst, inl, inr, ◌∙◌, append_assoc, append-nil}
-use Rattle.request_plan.specs.Plan.{Plan, Done, Ask, Ends, Stops, bind}
-use Rattle.request_plan.specs.Course.{Course, Finished, Starved, Astray, after_read, after_source, after_course, course}
+use Rattle.std.proofs.Common.{◌≡◌, ℕ, List, [], ◌∷◌, ◌++◌, Result, Ok, length, sym, ap, subst, inl, inr, ◌∙◌, append_assoc, append-nil}
+use Rattle.request_plan.specs.Plan.{Plan, Done, Ask, Ends, Stops}
+use Rattle.request_plan.specs.Course.{Course, Finished, Starved, Astray, after_source, after_course, course}
 use Rattle.request_plan.specs.Laws.{NotesAnswers, StopsUnnoted}
-use Rattle.request_plan.proofs.Courses.{course-bind}
 use Rattle.data_cache.specs.Lines.{LineRequest, Fetch, Store, IsLineAnswer}
 use Rattle.fed_run.specs.Answered.{line_source, AreLines}
 use Rattle.fed_run.proofs.Feeds.{AreLines-append}

@@ -6,7 +6,7 @@ use Rattle.rv32_core.specs.LineList.{lines_from}
 use Rattle.rv32_table.specs.Table.{decoded, table}
 use Rattle.rv32_table.specs.Meaning.{register_meaning, load_meaning}
 use Rattle.rv32_core.specs.Access.{slice_of}
-use Rattle.fed_run.specs.Fed.{Ends, Starves, fed_run, program_line, over_line, over_image_line, reading_line, writing_line}
+use Rattle.fed_run.specs.Fed.{Ends, Starves, fed_run, program_line, over_line, over_image_line, reading_line, writing_line, eight_bytes}
 
 -- It is fed with line 1 and then with line 0, and exits.
 pub fed-exits : let run = fed_run 1 9 (machine_at_start 0 0 128 0 [] output_limit)
@@ -22,7 +22,7 @@ unfolding fed_run lines_from decoded table register_meaning load_meaning
 fed-starves = (refl, refl)
 
 -- A read into lines 0 and 1, over two ways.
-pub read-crosses : let run = fed_run 2 9 (machine_at_start 0 0 128 0 (1 ∷ 2 ∷ 3 ∷ 4 ∷ 5 ∷ 6 ∷ 7 ∷ 8 ∷ []) output_limit)
+pub read-crosses : let run = fed_run 2 9 (machine_at_start 0 0 128 0 eight_bytes output_limit)
     (over_line reading_line (replicate 64 9 ∷ [])) in
     (run.ending ≡ Ends (Exited 8)) × (run.instructions ≡ 6) × (run.feed.left ≡ [])
     × (slice_of run.feed.memory 60 10 ≡ 1 ∷ 2 ∷ 3 ∷ 4 ∷ 5 ∷ 6 ∷ 7 ∷ 8 ∷ 9 ∷ 9 ∷ [])
@@ -38,7 +38,7 @@ unfolding fed_run lines_from decoded table register_meaning load_meaning
 write-crosses = (refl, refl, refl, refl)
 
 -- With no line they starve, and nothing of the call is done.
-pub read-starves : let run = fed_run 2 9 (machine_at_start 0 0 128 0 (1 ∷ 2 ∷ 3 ∷ 4 ∷ 5 ∷ 6 ∷ 7 ∷ 8 ∷ []) output_limit)
+pub read-starves : let run = fed_run 2 9 (machine_at_start 0 0 128 0 eight_bytes output_limit)
     (over_line reading_line []) in
     (run.ending ≡ Starves) × (run.instructions ≡ 3) × (run.machine.files.position ≡ 0)
 unfolding fed_run lines_from decoded table register_meaning load_meaning

@@ -1,11 +1,10 @@
 -- A run of a core over a cache, by a chain of a store's steps, is that of the machine that is fed with the lines that
 -- the store answered.
-use Rattle.std.proofs.Common.{◌≡◌, ◌⊎◌, ℕ, zero, suc, ◌+◌, ◌*◌, List, [], ◌++◌, Option, Some, None, Result, Ok, Err, refl, sym, ap, subst, inl, inr, arith, ◌∙◌, append_assoc, append-nil}
+use Rattle.std.proofs.Common.{◌≡◌, ◌⊎◌, ℕ, zero, suc, ◌+◌, ◌*◌, List, [], ◌++◌, Some, None, Result, Ok, refl, sym, ap, subst, inl, inr, arith, ◌∙◌, append_assoc, append-nil}
 use Rattle.request_plan.specs.Plan.{Plan, Done as Outcome, Ask, bind, through, Ends, Stops, Outcomes}
 use Rattle.request_plan.specs.Laws.{NotesAnswers, StopsUnnoted}
 use Rattle.request_plan.proofs.Chains.{Ends-bind, Stops-bind, Stops-bind-next, Ends-unbind, Stops-unbind}
 use Rattle.request_plan.proofs.Keeps.{Ends-has}
-use Rattle.rv32_core.specs.Access.{Access}
 use Rattle.rv32_core.specs.FlatRun.{FlatEnding, Exited, Trapped, Budget}
 use Rattle.rv32_core.specs.Machine.{Machine, IsCore}
 use Rattle.rv32_core.specs.RunPlan.{RunEnd, MachineRun, after_instruction, run_plan}
@@ -18,7 +17,7 @@ use Rattle.data_cache.specs.Lines.{LineRequest, IsLineAnswer}
 use Rattle.data_cache.specs.CacheLists.{Lines}
 use Rattle.data_cache.specs.Contents.{Contents}
 use Rattle.data_cache.specs.Cached.{cache_access, StandsAs}
-use Rattle.fed_run.specs.Fed.{Feed, FedStep, fed_step, FedEnding, Ends as EndsAs, Starves, FedRun, one_before, fed_on, fed_from, fed_run}
+use Rattle.fed_run.specs.Fed.{fed_step, Ends as EndsAs, Starves, FedRun, one_before, fed_on, fed_from, fed_run}
 use Rattle.fed_run.specs.Answered.{line_source, AreLines}
 use Rattle.fed_run.proofs.Feeds.{AreLines-append}
 use Rattle.fed_run.proofs.HonestLaws.{fed_by, fed_run-zero, fed_run-suc}
@@ -51,28 +50,29 @@ module _ {S Q X P Y E H C : Type 0} (step : S → P → Result Y E → S → Typ
       × Stops step (through serve (next (r.1)) (r.0)) m t e left)
   stops-parts put (Outcome a) next held s t e left h = inr ((held, a), s, (refl, refl), h)
   stops-parts {B} {C'} {A} {D} put (Ask q b k) next held s t e left h =
-      elim (Stops-unbind step (λ c. (c, put b)) (serve held q) (λ r. through serve (bind put (k (r.1)) next) (r.0)) s t e
+      elim (Stops-unbind step (λ c. (c, put b)) (serve held q)
+      (λ r. through serve (bind put (k (r.1)) next) (r.0)) s t e
       left h) [
         | inl one ↦ inl (
-            (one.0, b),
-            Stops-bind step (λ c. (c, b)) (serve held q) (λ z. through serve (k (z.1)) (z.0)) s t e (one.0) (one.1),
-            one.2,
-          )
+          (one.0, b),
+          Stops-bind step (λ c. (c, b)) (serve held q) (λ z. through serve (k (z.1)) (z.0)) s t e (one.0) (one.1),
+          one.2,
+        )
         | inr two ↦
             elim (stops-parts put (k ((two.0).1)) next ((two.0).0) (two.1) t e left (two.3)) [
               | inl one ↦ inl (
-                  one.0,
-                  Stops-bind-next step (λ c. (c, b)) (serve held q) (λ z. through serve (k (z.1)) (z.0)) s (two.1) t
-                      (two.0) e (one.0) (two.2) (one.1),
-                  one.2,
-                )
+                one.0,
+                Stops-bind-next step (λ c. (c, b)) (serve held q) (λ z. through serve (k (z.1)) (z.0)) s (two.1) t
+                    (two.0) e (one.0) (two.2) (one.1),
+                one.2,
+              )
               | inr rest ↦ inr (
-                  rest.0,
-                  rest.1,
-                  Ends-bind step (λ c. (c, b)) (serve held q) (λ z. through serve (k (z.1)) (z.0)) s (two.1) (rest.1)
-                      (two.0) (rest.0) (two.2) (rest.2),
-                  rest.3,
-                )
+                rest.0,
+                rest.1,
+                Ends-bind step (λ c. (c, b)) (serve held q) (λ z. through serve (k (z.1)) (z.0)) s (two.1) (rest.1)
+                    (two.0) (rest.0) (two.2) (rest.2),
+                rest.3,
+              )
             ]
       ]
 
@@ -129,7 +129,11 @@ module _ (count ways : ℕ) {S E : Type 0} (step : S → LineRequest → Result 
   run-on : (n : ℕ) (machine next : Machine) (done : Done) (lists now : Lines) (lines rest : List (List ℕ))
       → Step machine lists lines now next done → AreLines rest
       → fed_run ways (suc n) machine (fed_by lists.memory lists.sets (lines ++ rest))
-      ≡ fed_on (fed_run ways n) (record { machine = next; feed = fed_by now.memory now.sets rest; done = done }) done.ended
+      ≡ fed_on (fed_run ways n) (record {
+        machine = next;
+        feed = fed_by now.memory now.sets rest;
+        done = done;
+      }) done.ended
   run-on n machine next done lists now lines rest first whole =
       fed_run-suc ways n machine (fed_by lists.memory lists.sets (lines ++ rest))
       ∙ ap (fed_from (fed_run ways n) machine (fed_by lists.memory lists.sets (lines ++ rest))) (first rest whole)
@@ -137,7 +141,8 @@ module _ (count ways : ℕ) {S E : Type 0} (step : S → LineRequest → Result 
   run-on-append : (n : ℕ) (machine next : Machine) (done : Done) (lists now : Lines) (lines rest more : List (List ℕ))
       → Step machine lists lines now next done → AreLines (rest ++ more)
       → fed_run ways (suc n) machine (fed_by lists.memory lists.sets ((lines ++ rest) ++ more))
-      ≡ fed_on (fed_run ways n) (record { machine = next; feed = fed_by now.memory now.sets (rest ++ more); done = done })
+      ≡ fed_on (fed_run ways n)
+      (record { machine = next; feed = fed_by now.memory now.sets (rest ++ more); done = done })
       done.ended
   run-on-append n machine next done lists now lines rest more first whole =
       ap (λ l. fed_run ways (suc n) machine (fed_by lists.memory lists.sets l)) (append_assoc lines rest more)
@@ -150,10 +155,12 @@ module _ (count ways : ℕ) {S E : Type 0} (step : S → LineRequest → Result 
       → Step machine lists lines now next done
       → (Ends step (through (cache_access base) (run_plan n (before + 1) next) cache) m t (after, end)
       → RunTold n next now (before + 1) m t after end)
-      → Ends step (through (cache_access base) (after_instruction before (run_plan n (before + 1)) next ended) cache) m t
+      → Ends step (through (cache_access base) (after_instruction before (run_plan n (before + 1)) next ended) cache) m
+      t
       (after, end)
       → RunTold (suc n) machine lists before s t after end
-  after-first n before base machine next done No lists now lines s m t cache after end is noted1 whole stands first go h =
+  after-first n before base machine next done No lists now lines s m t cache after end is noted1 whole
+      stands first go h =
       let rest = go h in (
         lines ++ rest.0,
         rest.1,
@@ -195,7 +202,8 @@ module _ (count ways : ℕ) {S E : Type 0} (step : S → LineRequest → Result 
               ending = EndsAs z.ending;
             } in r) (sym same),
       )
-  after-first n before base machine next done (Trap kind pc) lists now lines s m t cache after end is noted1 whole stands
+  after-first n before base machine next done (Trap kind pc) lists now lines s m t cache after end is
+      noted1 whole stands
       first go h =
       let same : end ≡ record { instructions = before; machine = next; ending = Trapped kind pc } =
       ap (λ (z : Contents × RunEnd). z.1) h.0 in (
@@ -220,7 +228,8 @@ module _ (count ways : ℕ) {S E : Type 0} (step : S → LineRequest → Result 
             } in r) (sym same),
       )
 
-  pub run-ends : (n before base : ℕ) (machine : Machine) (lists : Lines) (s t : S) (cache after : Contents) (end : RunEnd)
+  pub run-ends : (n before base : ℕ) (machine : Machine) (lists : Lines) (s t : S)
+      (cache after : Contents) (end : RunEnd)
       → IsCore machine.core → machine.core.base ≡ base → machine.core.size ≡ 64 * count
       → StandsAs count ways cache lists
       → Ends step (through (cache_access base) (run_plan n before machine) cache) s t (after, end)
@@ -250,7 +259,8 @@ module _ (count ways : ℕ) {S E : Type 0} (step : S → LineRequest → Result 
   run-ends (suc n) before base machine lists s t cache after end is at long stands h =
       let next : Machine × Done → MachineRun =
       λ e. after_instruction before (run_plan n (before + 1)) (e.0) ((e.1).ended) in
-      let parts = ends-parts step (cache_access base) (λ (left : Machine). (before, left)) (step_plan machine) next cache
+      let parts = ends-parts step (cache_access base) (λ (left : Machine). (before, left))
+      (step_plan machine) next cache
       s t (after, end)
       (subst (λ (p : MachineRun). Ends step (through (cache_access base) p cache) s t (after, end))
       (run_plan-next n before machine) h) in
@@ -259,7 +269,8 @@ module _ (count ways : ℕ) {S E : Type 0} (step : S → LineRequest → Result 
       let done : Done = ((parts.0).1).1 in
       let own : Ends step (through (cache_access machine.core.base) (step_plan machine) cache) s (parts.1)
       (cache', ((parts.0).1)) =
-      subst (λ b. Ends step (through (cache_access b) (step_plan machine) cache) s (parts.1) (parts.0)) (sym at) (parts.2) in
+      subst (λ b. Ends step (through (cache_access b) (step_plan machine) cache) s (parts.1) (parts.0))
+      (sym at) (parts.2) in
       let keeps = Ends-has step (λ (r : Contents × (Machine × Done)). IsCore (((r.1).0).core)
       × (((r.1).0).core.base ≡ machine.core.base) × (((r.1).0).core.size ≡ machine.core.size))
       (through (cache_access base) (step_plan machine) cache)
@@ -268,7 +279,8 @@ module _ (count ways : ℕ) {S E : Type 0} (step : S → LineRequest → Result 
       (step_plan machine) cache (step_plan-keeps machine is)) s (parts.1) (parts.0) (parts.2) in
       let first = instruction-ends count ways machine is long step noted notes answers s (parts.1) cache cache'
       lists.memory lists.sets ((parts.0).1) stands own in
-      after-first n before base machine machine' done done.ended lists (first.1) (first.0) s (parts.1) t cache' after end
+      after-first n before base machine machine' done done.ended lists (first.1) (first.0) s
+      (parts.1) t cache' after end
       refl (first.2) (first.3) (first.4) (first.5)
       (λ rest. run-ends n (before + 1) base machine' (first.1) (parts.1) t cache' after end (keeps.0) (keeps.1 ∙ at)
       (keeps.2 ∙ long) (first.4) rest)
@@ -281,7 +293,8 @@ module _ (count ways : ℕ) {S E : Type 0} (step : S → LineRequest → Result 
       → Step machine lists lines now next done
       → (Stops step (through (cache_access base) (run_plan n (before + 1) next) cache) m t stop left
       → StopTold n next now (before + 1) m t (left.1))
-      → Stops step (through (cache_access base) (after_instruction before (run_plan n (before + 1)) next ended) cache) m t
+      → Stops step (through (cache_access base) (after_instruction before (run_plan n (before + 1)) next ended) cache) m
+      t
       stop left
       → StopTold (suc n) machine lists before s t (left.1)
   stops-after n before base machine next done No lists now lines s m t cache stop left is noted1 whole first go h =
@@ -375,7 +388,8 @@ module _ (count ways : ℕ) {S E : Type 0} (step : S → LineRequest → Result 
             (step_plan machine) cache (step_plan-keeps machine is)) s (parts.1) (parts.0) (parts.2) in
             let first = instruction-ends count ways machine is long step noted notes answers s (parts.1) cache cache'
             lists.memory lists.sets ((parts.0).1) stands own in
-            stops-after n before base machine machine' done done.ended lists (first.1) (first.0) s (parts.1) t cache' stop
+            stops-after n before base machine machine' done done.ended lists (first.1) (first.0) s
+            (parts.1) t cache' stop
             left refl (first.2) (first.3) (first.5)
             (λ rest. run-stops same n (before + 1) base machine' (first.1) (parts.1) t cache' stop left (keeps.0)
             (keeps.1 ∙ at) (keeps.2 ∙ long) (first.4) rest)
@@ -414,7 +428,8 @@ pub run-told-stop : (count ways n : ℕ) {S E : Type 0} (step : S → LineReques
     → (lines : List (List ℕ)) × (noted t ≡ noted s ++ lines) × AreLines lines
     × IsStarvedRun ways n machine lists lines ((left.1).0) ((left.1).1)
 run-told-stop count ways n step answers machine is long noted notes same s t cache lists stop left stands h =
-    let told = run-stops count ways step noted notes answers same n 0 machine.core.base machine lists s t cache stop left
+    let told = run-stops count ways step noted notes answers same n 0 machine.core.base machine lists s
+    t cache stop left
     is refl long stands h in
     let all : (left.1).0 ≡ told.1 = told.4 ∙ (let e : 0 + told.1 ≡ told.1 = omega arith in e) in (
       told.0,

@@ -1,10 +1,10 @@
 -- A step asks for some bytes each time.
-use Rattle.std.proofs.Common.{◌≡◌, ℕ, zero, suc, ◌+◌, ◌-◌, ◌<◌, ◌≤◌, Bool, true, false, if◌then◌else◌, List, [], ◌∷◌, ◌++◌, length, take, drop, refl, sym, subst, arith, length-drop}
+use Rattle.std.proofs.Common.{◌≡◌, ℕ, zero, suc, ◌+◌, ◌-◌, ◌<◌, ◌≤◌, Bool, true, false, if◌then◌else◌, List, ◌++◌, length, take, drop, sym, subst, arith, length-drop}
 use Rattle.std.proofs.lemmas.List.{length-take-le}
 use Rattle.std.specs.Int.{from_le_bytes, w32}
 use Rattle.request_plan.specs.Plan.{Plan, Done as Outcome, Ask, Asks}
 use Rattle.request_plan.proofs.Alike.{Asks-bind}
-use Rattle.rv32_core.specs.Access.{Access, Load, slice_of}
+use Rattle.rv32_core.specs.Access.{Load, slice_of}
 use Rattle.rv32_core.specs.Machine.{Machine, IsEffect, is_inside, effect_of_word, cost_of_word}
 use Rattle.rv32_core.specs.FlatMachine.{going_on, after_read, after_write}
 use Rattle.rv32_core.specs.Transfer.{pieces_within, pieces, stores_plan, loads_plan}

@@ -1,5 +1,6 @@
--- A core over a cache over a store whose lines are told: its plans are served by the list of bytes for which both stand.
-use Rattle.std.proofs.Common.{◌≡◌, ℕ, ◌+◌, ◌-◌, ◌*◌, ◌/◌, ◌%◌, ◌<◌, ◌≤◌, ◌==◌, Bool, false, if◌then◌else◌, List, [], Option, Some, Result, Ok, Err, length, refl, sym, ap, subst, arith, ◌∙◌}
+-- A core over a cache over a store whose lines are told: its plans are served by the list of bytes for which both
+-- stand.
+use Rattle.std.proofs.Common.{◌≡◌, ℕ, ◌+◌, ◌-◌, ◌*◌, ◌%◌, ◌<◌, ◌≤◌, ◌==◌, false, if◌then◌else◌, List, [], Option, Some, Result, Ok, length, refl, sym, ap, subst, arith, ◌∙◌}
 use Rattle.std.proofs.lemmas.Bool.Decides.{nat_tests}
 use Rattle.request_plan.specs.Plan.{Plan, Done as Outcome, Ask, bind, through, Ends, Asks}
 use Rattle.request_plan.specs.Play.{served}
@@ -124,14 +125,16 @@ module _ {S E : Type 0} (step : S → LineRequest → Result (List ℕ) E → S 
         let first = λ (l : List (List ℕ)) (d : told m ≡ Some l).
         access-told access cache after1 memory bytes s m (asks.0.0) (asks.0.1) all stand (parts.2) l d in
         let kept : lines_of m ≡ count =
-        Ends-keeps step lines_of (λ u v q x g. keeps_lines u v q (Ok x) g) (cache_access base cache access) s m (parts.0)
+        Ends-keeps step lines_of (λ u v q x g. keeps_lines u v q (Ok x) g)
+        (cache_access base cache access) s m (parts.0)
         (parts.2) ∙ all in
         let rest = plan-told (k bytes) (asks.1 bytes) after1 after ((access_bytes base memory access).1) m t a kept
         (λ l d. (first l d).1) (parts.3) list e in
         let answer : access_bytes base memory access ≡ (bytes, (access_bytes base memory access).1) =
         (first (mid.0) (mid.1)).0 in (
           rest.0,
-          ap (λ (z : List ℕ × List ℕ). served (access_bytes base) (k (z.0)) ((access_bytes base memory access).1)) answer
+          ap (λ (z : List ℕ × List ℕ). served (access_bytes base) (k (z.0))
+              ((access_bytes base memory access).1)) answer
               ∙ rest.1,
           rest.2,
         )

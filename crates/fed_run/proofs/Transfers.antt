@@ -1,7 +1,6 @@
 -- A host call's bytes, in pieces: its lines are used first, and then its bytes move at once.
-use Rattle.std.proofs.Common.{◌≡◌, ℕ, zero, suc, ◌+◌, ◌-◌, ◌*◌, ◌/◌, ◌%◌, ◌<◌, ◌≤◌, min, List, [], ◌∷◌, ◌++◌, Option, Some, None, length, take, drop, refl, sym, ap, subst, ◌∙◌, arith, append_assoc, append-nil, length-drop, inl, inr}
+use Rattle.std.proofs.Common.{◌≡◌, ℕ, zero, suc, ◌+◌, ◌-◌, ◌*◌, ◌%◌, ◌<◌, ◌≤◌, List, [], ◌∷◌, ◌++◌, Option, Some, None, length, take, drop, refl, sym, ap, subst, ◌∙◌, arith, append_assoc, append-nil, length-drop}
 use Rattle.std.proofs.lemmas.List.{length-take-le, take-append-drop}
-use Rattle.std.proofs.lemmas.Bool.{cases_lt}
 use Rattle.std.specs.Option.{option_map, option_and_then}
 use Rattle.request_plan.specs.Plan.{Plan}
 use Rattle.rv32_core.specs.Access.{Access, slice_of, spliced}
@@ -11,7 +10,7 @@ use Rattle.rv32_core.specs.LineList.{LineKind, Read, Write, LineUse, line_of, li
 use Rattle.rv32_core.proofs.TransferLaws.{first_length, pieces_within-none, pieces_within-more, spliced-spliced, spliced-none, slice_of-append}
 use Rattle.rv32_core.proofs.LineLaws.{lines_of-more}
 use Rattle.data_cache.specs.Cached.{line_at, place_at}
-use Rattle.fed_run.specs.Fed.{Feed, fed_use, fed_uses}
+use Rattle.fed_run.specs.Fed.{Feed, fed_uses}
 use Rattle.fed_run.proofs.AccessCourses.{fed_served}
 use Rattle.fed_run.proofs.Feeds.{IsFeed, put, put-is, use-cases, Elsewhere, uses-put, uses-slice}
 
@@ -92,7 +91,8 @@ module _ (core : CoreState) (size : ℕ) (place : IsPlace core size) where
         → (0 < length bytes → core.base ≤ address) → (0 < length bytes → address + length bytes ≤ core.base + size)
         → IsFeed size feed
         → fed_served core.base ways (stores_plan bytes (pieces_within most address (length bytes))) feed
-        ≡ option_map (stored core address bytes) (fed_uses ways feed (used Write (lines_of core address (length bytes))))
+        ≡ option_map (stored core address bytes)
+        (fed_uses ways feed (used Write (lines_of core address (length bytes))))
     stores-within most address [] feed fits low high is =
         ap (λ l. fed_served core.base ways (stores_plan [] l) feed) (pieces_within-none most address)
         ∙ ap (λ (m : List ℕ). let z : Unit {0} × Feed = (tt, record feed { memory = m }) in Some z)
@@ -150,15 +150,18 @@ module _ (core : CoreState) (size : ℕ) (place : IsPlace core size) where
         → (0 < length bytes → core.base ≤ address) → (0 < length bytes → address + length bytes ≤ core.base + size)
         → IsFeed size feed
         → fed_served core.base ways (stores_plan bytes (pieces address (length bytes))) feed
-        ≡ option_map (stored core address bytes) (fed_uses ways feed (used Write (lines_of core address (length bytes))))
+        ≡ option_map (stored core address bytes)
+        (fed_uses ways feed (used Write (lines_of core address (length bytes))))
     served-stores address bytes feed low high is =
         stores-within (length bytes) address bytes feed (omega arith) low high is
 
     -- ---- a host write
     loaded-twice : (address count part : ℕ) (so_far : List ℕ) → core.base ≤ address → part ≤ count → (now : Feed)
-        → ◌≡◌ {A = List ℕ × Feed}
-        ((so_far ++ slice_of now.memory (address - core.base) part)
-        ++ slice_of now.memory ((address + part) - core.base) (count - part), now)
+        → ◌≡◌ {A = List ℕ × Feed} (
+          (so_far ++ slice_of now.memory (address - core.base) part)
+              ++ slice_of now.memory ((address + part) - core.base) (count - part),
+          now,
+        )
         (loaded core address count so_far now)
     loaded-twice address count part so_far low less now =
         let from : ℕ = address - core.base in
@@ -216,7 +219,8 @@ module _ (core : CoreState) (size : ℕ) (place : IsPlace core size) where
         ∙ sym (uses-slice size ways (line_at core.base address) (place_at core.base address) part make piece within now
         others good beyond same)
         ∙ ap (λ k. option_map (λ (f : Feed). make (slice_of f.memory k part) f) (fed_uses ways now others)) at
-        ∙ map-same (λ (f : Feed). make (slice_of f.memory (address - core.base) part) f) (loaded core address count so_far)
+        ∙ map-same (λ (f : Feed). make (slice_of f.memory (address - core.base) part) f)
+        (loaded core address count so_far)
         (loaded-twice address count part so_far base (omega arith)) (fed_uses ways now others))
         ∙ ap (λ l. option_map (loaded core address count so_far) (fed_uses ways feed (used Read l)))
         (sym (lines_of-more core address count aligned base some))

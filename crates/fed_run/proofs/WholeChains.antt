@@ -1,20 +1,19 @@
--- A whole run, from an empty cache on: its image lines fetch nothing, and its instructions are those of the machine that
+-- A whole run, from an empty cache on: its image lines fetch nothing, and its instructions are those of the machine
+-- that
 -- is fed.
-use Rattle.std.proofs.Common.{◌≡◌, ◌⊎◌, ℕ, zero, suc, ◌+◌, ◌-◌, ◌*◌, ◌%◌, ◌<◌, ◌≤◌, Bool, true, false, if◌then◌else◌, List, [], ◌∷◌, ◌++◌, All, Option, Some, None, Result, Ok, Err, length, drop, replicate, refl, sym, ap, subst, inl, inr, arith, ◌∙◌, append_assoc, append-nil, length-drop}
+use Rattle.std.proofs.Common.{◌≡◌, ◌⊎◌, ℕ, zero, suc, ◌+◌, ◌-◌, ◌*◌, ◌%◌, ◌<◌, Bool, true, false, if◌then◌else◌, List, [], ◌∷◌, ◌++◌, All, Option, Some, None, Result, Ok, length, drop, replicate, refl, sym, ap, subst, inl, inr, arith, ◌∙◌, append-nil, length-drop}
 use Rattle.std.proofs.lemmas.List.{length-take-le}
-use Rattle.std.specs.Option.{option_map}
-use Rattle.request_plan.specs.Plan.{Plan, Done as Outcome, Ask, bind, through, Ends, Stops, Asks, Outcomes, Alike}
+use Rattle.request_plan.specs.Plan.{Plan, Done as Outcome, Ask, through, Ends, Stops, Asks, Outcomes, Alike}
 use Rattle.request_plan.specs.Course.{Course, Finished, Starved, Astray, after_course, course, UsesAll}
 use Rattle.request_plan.specs.Laws.{NotesAnswers, StopsUnnoted}
 use Rattle.request_plan.proofs.Chains.{Ends-unbind, Stops-unbind}
 use Rattle.request_plan.proofs.Courses.{course-bind, Stops-noted}
 use Rattle.request_plan.proofs.Keeps.{Outcomes-bind}
 use Rattle.request_plan.proofs.Alike.{SameBeside, Alike-bind, Alike-through, Alike-ends, Alike-stops, Asks-bind}
-use Rattle.rv32_core.specs.Access.{Access, IsAccess, spliced}
-use Rattle.rv32_core.specs.FlatRun.{FlatEnding}
+use Rattle.rv32_core.specs.Access.{IsAccess, spliced}
 use Rattle.rv32_core.specs.LineList.{LineUse, WholeWrite, used}
 use Rattle.rv32_core.specs.Machine.{Machine, IsCore}
-use Rattle.rv32_core.specs.RunPlan.{RunEnd, MachineRun, after_instruction, run_plan}
+use Rattle.rv32_core.specs.RunPlan.{RunEnd, after_instruction, run_plan}
 use Rattle.rv32_core.specs.StepPlan.{step_plan}
 use Rattle.rv32_core.specs.declared.outcome.Done.{Done}
 use Rattle.rv32_core.specs.declared.outcome.Ended.{Ended}
@@ -22,13 +21,12 @@ use Rattle.rv32_core.specs.declared.outcome.Ended.TheVariants.{No, Exit, Trap}
 use Rattle.rv32_core.proofs.RunLaws.{run_plan-none, run_plan-next, Asks-run_plan}
 use Rattle.data_cache.specs.Lines.{LineRequest, IsLineAnswer, Fetch}
 use Rattle.data_cache.specs.Lines as lines
-use Rattle.data_cache.specs.CacheLists.{Kept, Sets, Lines, no_lines, line_in, set_of, with_kept, set_after, sets_after, set_settled, victim, stored, ask_all, use_set, after_use, write_whole_line}
+use Rattle.data_cache.specs.CacheLists.{Kept, Sets, Lines, no_lines, line_in, set_of, with_kept, set_after, sets_after, victim, stored, ask_all, use_set, after_use, write_whole_line}
 use Rattle.data_cache.specs.Contents.{Contents, write_line_plan}
 use Rattle.data_cache.specs.Cached.{cache_access, lists_access, HasBytes, StandsAs, StandsLeft}
 use Rattle.data_cache.proofs.AccessAlike.{access-alike, whole-stands-as}
 use Rattle.data_cache.proofs.Parts.{patched_own}
 use Rattle.data_cache.proofs.UseLaws.{empty-mirrors}
-use Rattle.asc_base.specs.declared.block.Line.{Line}
 use Rattle.fed_run.specs.Fed.{sets_along}
 use Rattle.fed_run.specs.Answered.{line_source, AreLines}
 use Rattle.fed_run.specs.Whole.{cache_image, cache_run, lists_image, lists_run}
@@ -178,7 +176,7 @@ module _ (count ways : ℕ) (image : List ℕ) (size : length image ≡ 64 * cou
       (notes : NotesAnswers step line_source noted)
       (answers : (s t : S) (q : LineRequest) (bytes : List ℕ) → step s q (Ok bytes) t → IsLineAnswer q bytes) where
     -- The image lines note no line.
-    image-ends : (marked : List ℕ) (cache after : Contents) (lists : Lines) (s t : S) → Below count marked
+    pub image-ends : (marked : List ℕ) (cache after : Contents) (lists : Lines) (s t : S) → Below count marked
         → OverImage cache lists → Ends step (cache_image image marked cache) s t after
         → (noted t ≡ noted s) × OverImage after (after_image marked lists)
     image-ends marked cache after lists s t below over h =
@@ -195,7 +193,7 @@ module _ (count ways : ℕ) (image : List ℕ) (size : length image ≡ 64 * cou
           subst (OverImage after) (sym is) (other.2),
         )
 
-    image-stops : StopsUnnoted step noted → (marked : List ℕ) (cache : Contents) (lists : Lines) (s t : S) (e : E)
+    pub image-stops : StopsUnnoted step noted → (marked : List ℕ) (cache : Contents) (lists : Lines) (s t : S) (e : E)
         (left : Contents) → Below count marked → OverImage cache lists
         → Stops step (cache_image image marked cache) s t e left → noted t ≡ noted s
     image-stops same marked cache lists s t e left below over h =
@@ -288,7 +286,8 @@ module _ (count ways sets n : ℕ) (image marked : List ℕ) (machine : Machine)
         (through (cache_access machine.core.base) (run_plan n 0 machine)) s t (after, end) h in
         let first = image-ends count ways image size step noted notes answers marked (empty_cache sets ways) (parts.0)
         (empty_lists sets image) s (parts.1) below empty-over (parts.2) in
-        let told = run-told count ways n step answers machine is long noted notes (parts.1) t (parts.0) after started end
+        let told = run-told count ways n step answers machine is long noted notes (parts.1) t
+        (parts.0) after started end
         ((first.1).0) (parts.3) in
         (told.0, told.1, told.2 ∙ ap (λ l. l ++ told.0) (first.0), told.3, told.4, told.5)
 
@@ -302,10 +301,10 @@ module _ (count ways sets n : ℕ) (image marked : List ℕ) (machine : Machine)
         elim (Stops-unbind step (λ left. (left, (0, machine))) (cache_image image marked (empty_cache sets ways))
         (through (cache_access machine.core.base) (run_plan n 0 machine)) s t e left h) [
           | inl one ↦ inl (
-              image-stops count ways image size step noted notes answers same marked (empty_cache sets ways)
-                  (empty_lists sets image) s t e (one.0) below empty-over (one.1),
-              ap (λ (z : Contents × (ℕ × Machine)). z.1) (one.2),
-            )
+            image-stops count ways image size step noted notes answers same marked (empty_cache sets ways)
+                (empty_lists sets image) s t e (one.0) below empty-over (one.1),
+            ap (λ (z : Contents × (ℕ × Machine)). z.1) (one.2),
+          )
           | inr parts ↦
               let first = image-ends count ways image size step noted notes answers marked (empty_cache sets ways)
               (parts.0) (empty_lists sets image) s (parts.1) below empty-over (parts.2) in

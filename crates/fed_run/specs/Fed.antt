@@ -188,6 +188,10 @@ over_image_line left = over_line program_line left
 abbrev pub line_of_words : List ℕ → List ℕ
 line_of_words words = take 64 (flat_map (to_le_bytes w32) words ++ replicate 64 0)
 
+-- an input
+abbrev pub eight_bytes : List ℕ
+eight_bytes = 1 ∷ 2 ∷ 3 ∷ 4 ∷ 5 ∷ 6 ∷ 7 ∷ 8 ∷ []
+
 -- `addi x11, x0, 60; addi x12, x0, 8; addi x17, x0, 63; ecall; addi x17, x0, 93; ecall`: it reads eight bytes of its
 -- input to address 60
 abbrev pub reading_line : List ℕ

@@ -1,20 +1,21 @@
 //! Laws of chains of a store's steps below a core and a cache. The calls do nothing.
 //!
-//! What is asked of single steps is asked of those from where the store's `holds` alone. `noted` is a list in which such a
-//! step notes the line that a fetch is answered with, and nothing else.
+//! What is asked of single steps is asked of those from where the store's `holds` alone. `noted` is a list in which
+//! such a step notes the line that a fetch is answered with, and nothing else.
 
 ghost use Rattle.std.specs.Prelude.{◌≡◌, ◌⊎◌, ℕ, ◌*◌, ◌<◌, List, [], ◌++◌, Some, None, All, length, replicate};
 ghost use Rattle.request_plan.specs.Plan.{Ends, Stops, through, Alike};
 ghost use Rattle.request_plan.specs.Laws.{AnswersKeep, Within, NotesAnswers, StopsUnnoted};
 ghost use Rattle.rv32_core.specs.FlatMachine.{flat_step};
 ghost use Rattle.rv32_core.specs.FlatRun.{flat_run};
+ghost use Rattle.rv32_core.specs.LineList.{WholeWrite};
 ghost use Rattle.rv32_core.specs.Machine.{Machine, IsCore};
 ghost use Rattle.rv32_core.specs.RunPlan.{RunEnd, run_plan};
 ghost use Rattle.rv32_core.specs.StepPlan.{step_plan};
 ghost use Rattle.rv32_core.specs.declared.outcome.Done.{Done};
 ghost use Rattle.data_cache.specs.Lines.{IsLineAnswer};
-ghost use Rattle.data_cache.specs.CacheLists.{Sets, Lines, no_lines};
-ghost use Rattle.data_cache.specs.Contents.{Contents};
+ghost use Rattle.data_cache.specs.CacheLists.{Sets, Lines, no_lines, sets_after, line_in};
+ghost use Rattle.data_cache.specs.Contents.{Contents, write_line_plan};
 ghost use Rattle.data_cache.specs.Standing.{StandFor};
 ghost use Rattle.data_cache.specs.Cached.{cache_access, lists_access, StandsAs, StandsLeft};
 ghost use Rattle.fed_run.specs.Fed.{Ends as EndsAs, Starves, fed_step, fed_run};
@@ -28,6 +29,29 @@ pub trait KeptStore: LineStore {
     /// It holds.
     ghost holds: { Self → Type 0 };
 }
+
+/// An image line that is written whole into a cache, with its bytes of the list of bytes, notes no line, also where it is
+/// stopped. The list of bytes then stands for the cache as before, and the lists after this use of the line.
+pub fn image_line_is_fed<S: KeptStore>()
+    ensures ends { (count ways line : ℕ) (memory : List ℕ) → line < count → length memory ≡ 64 * count
+        → AnswersKeep S.step S.holds → (noted : S → List (List ℕ))
+        → NotesAnswers (Within S.holds S.step) line_source noted
+        → (old new : S) (cache after : Contents) (sets : Sets) → S.holds old
+        → StandsAs count ways cache (record { memory = memory; sets = sets })
+        → Ends S.step (write_line_plan cache line (record { 0 = line_in memory line })) old new after
+        → (noted new ≡ noted old) × S.holds new
+        × StandsAs count ways after (record {
+          memory = memory;
+          sets = sets_after ways sets (record { line = line; kind = WholeWrite });
+        }) }
+    ensures stops { (count ways line : ℕ) (memory : List ℕ) → line < count → length memory ≡ 64 * count
+        → AnswersKeep S.step S.holds → (noted : S → List (List ℕ))
+        → NotesAnswers (Within S.holds S.step) line_source noted → StopsUnnoted (Within S.holds S.step) noted
+        → (old new : S) (cache left : Contents) (sets : Sets) (stop : S.Stop) → S.holds old
+        → StandsAs count ways cache (record { memory = memory; sets = sets })
+        → Stops S.step (write_line_plan cache line (record { 0 = line_in memory line })) old new stop left
+        → noted new ≡ noted old }
+{}
 
 /// An instruction of a core over a cache, whatever its store answers, asks as the cache's lists do. Where it is a chain
 /// of steps of a store that notes the lines which it answers, it is the instruction of the machine that is fed with
@@ -68,9 +92,9 @@ pub fn instruction_is_fed<S: KeptStore>()
         × ((end.0).core.base ≡ machine.core.base) × ((end.0).core.size ≡ machine.core.size) }
 {}
 
-/// A run of at most n instructions over a cache, by such a chain, is the run of the machine that is fed with exactly the
-/// lines that were noted: as many instructions, the machine, and the ending. Where it is stopped, the machine that is
-/// fed with the lines noted until then finishes the same instructions, starves in the next one, and uses them all.
+/// A run of at most n instructions over a cache, by such a chain, is the run of the machine that is fed with exactly
+/// the lines that were noted: as many instructions, the machine, and the ending. Where it is stopped, the machine that
+/// is fed with the lines noted until then finishes the same instructions, starves in the next one, and uses them all.
 pub fn run_is_fed<S: KeptStore>()
     ensures asks { (count ways n : ℕ) (machine : Machine) → IsCore machine.core → machine.core.size ≡ 64 * count
         → (cache : Contents) (lists : Lines) → StandsAs count ways cache lists
@@ -83,7 +107,8 @@ pub fn run_is_fed<S: KeptStore>()
     ensures ends { (count ways n : ℕ) (machine : Machine) → IsCore machine.core → machine.core.size ≡ 64 * count
         → AnswersKeep S.step S.holds → (noted : S → List (List ℕ))
         → NotesAnswers (Within S.holds S.step) line_source noted
-        → (old new : S) (cache after : Contents) (lists : Lines) (end : RunEnd) → S.holds old → StandsAs count ways cache lists
+        → (old new : S) (cache after : Contents) (lists : Lines) (end : RunEnd) → S.holds old
+        → StandsAs count ways cache lists
         → Ends S.step (through (cache_access machine.core.base) (run_plan n 0 machine) cache) old new (after, end)
         → (lines : List (List ℕ)) × (now : Lines) × (noted new ≡ noted old ++ lines) × AreLines lines × S.holds new
         × StandsAs count ways after now
@@ -98,7 +123,8 @@ pub fn run_is_fed<S: KeptStore>()
     ensures stops { (count ways n : ℕ) (machine : Machine) → IsCore machine.core → machine.core.size ≡ 64 * count
         → AnswersKeep S.step S.holds → (noted : S → List (List ℕ))
         → NotesAnswers (Within S.holds S.step) line_source noted → StopsUnnoted (Within S.holds S.step) noted
-        → (old new : S) (cache : Contents) (lists : Lines) (stop : S.Stop) (left : Contents × (ℕ × Machine)) → S.holds old
+        → (old new : S) (cache : Contents) (lists : Lines) (stop : S.Stop) (left : Contents × (ℕ × Machine))
+        → S.holds old
         → StandsAs count ways cache lists
         → Stops S.step (through (cache_access machine.core.base) (run_plan n 0 machine) cache) old new stop left
         → (lines : List (List ℕ)) × (noted new ≡ noted old ++ lines) × AreLines lines

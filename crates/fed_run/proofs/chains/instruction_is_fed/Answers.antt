@@ -9,12 +9,14 @@ returns-clause-asks g c = instruction-alike
 pub returns-clause-ends : goal.returns-clause-ends
 returns-clause-ends g c =
     λ count ways machine is size keeps noted notes.
-    kept-instruction g.S.LineStore.step g.met.S.LineStore.answers g.S.KeptStore.holds keeps noted notes count ways machine is size
+    kept-instruction g.S.LineStore.step g.met.S.LineStore.answers g.S.KeptStore.holds keeps noted notes count
+    ways machine is size
 
 pub returns-clause-stops : goal.returns-clause-stops
 returns-clause-stops g c =
     λ count ways machine is size keeps noted notes same.
-    kept-instruction-stop g.S.LineStore.step g.met.S.LineStore.answers g.S.KeptStore.holds keeps noted notes count ways machine is size
+    kept-instruction-stop g.S.LineStore.step g.met.S.LineStore.answers g.S.KeptStore.holds keeps noted notes count
+    ways machine is size
     same
 
 pub returns-clause-keeps : goal.returns-clause-keeps

@@ -10,11 +10,13 @@ returns-clause-asks g c =
 pub returns-clause-ends : goal.returns-clause-ends
 returns-clause-ends g c =
     λ count ways sets n image marked machine some room all size is long keeps noted notes.
-    kept-whole g.S.LineStore.step g.met.S.LineStore.answers g.S.KeptStore.holds keeps noted notes count ways machine is long sets n
+    kept-whole g.S.LineStore.step g.met.S.LineStore.answers g.S.KeptStore.holds keeps noted notes count ways
+    machine is long sets n
     image marked some room all size
 
 pub returns-clause-stops : goal.returns-clause-stops
 returns-clause-stops g c =
     λ count ways sets n image marked machine some room all size is long keeps noted notes same.
-    kept-whole-stop g.S.LineStore.step g.met.S.LineStore.answers g.S.KeptStore.holds keeps noted notes count ways machine is long sets n
+    kept-whole-stop g.S.LineStore.step g.met.S.LineStore.answers g.S.KeptStore.holds keeps noted notes count ways
+    machine is long sets n
     image marked some room all size same
