@@ -4,3 +4,5 @@ pub mod KeptLaws
 pub mod MirrorLaws
 pub mod UseLaws
 pub mod ToldLaws
+pub mod CachedLaws
+pub mod AccessAlike

@@ -3,3 +3,4 @@ pub mod CacheLists
 pub mod Contents
 pub mod Mirror
 pub mod Standing
+pub mod Cached

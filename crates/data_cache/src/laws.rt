@@ -1,10 +1,10 @@
 //! Laws of the cache's lists. The calls do nothing.
 
-ghost use Rattle.std.specs.Prelude.{◌≡◌, ℕ, ◌+◌, ◌*◌, ◌<◌, ◌≤◌, List, [], ◌∷◌, length, replicate};
+ghost use Rattle.std.specs.Prelude.{◌≡◌, ℕ, ◌+◌, ◌*◌, ◌%◌, ◌<◌, ◌≤◌, List, [], ◌∷◌, length, replicate};
 ghost use Rattle.std.specs.Prelude.{Some, slice_index_or};
 ghost use Rattle.std.specs.Option.{option_map_or};
 ghost use Rattle.request_plan.specs.Plan.{Alike, Ends};
-ghost use Rattle.rv32_core.specs.Access.{slice_of, spliced};
+ghost use Rattle.rv32_core.specs.Access.{Access, IsAccess, slice_of, spliced};
 ghost use Rattle.rv32_core.specs.LineList.{LineUse, Read, Write, WholeWrite};
 ghost use Rattle.data_cache.specs.Lines.{Fetch, Store, IsLineAnswer};
 ghost use Rattle.data_cache.specs.CacheLists.{Sets, Lines, no_lines, set_of, requests_of, requests_along, use_set, Requests, line_in};
@@ -12,6 +12,7 @@ ghost use Rattle.data_cache.specs.CacheLists.{read_lines, write_lines, write_who
 ghost use Rattle.data_cache.specs.Contents.{Contents, read_plan, write_plan, write_line_plan, find_line, held_in};
 ghost use Rattle.data_cache.specs.declared.set.Held.{Held};
 ghost use Rattle.data_cache.specs.Mirror.{Mirrors};
+ghost use Rattle.data_cache.specs.Cached.{cache_access, lists_access, HasBytes, StandsAs, StandsLeft};
 ghost use Rattle.data_cache.specs.Standing.{StandFor};
 ghost use Rattle.asc_base.specs.declared.block.Line.{Line};
 
@@ -38,6 +39,11 @@ pub fn asks_as_its_lists()
         → Alike IsLineAnswer
         (λ (left : Contents) (sets : Sets). Mirrors count left (record { memory = lines.memory; sets = sets }))
         (Mirrors count) (write_line_plan cache line value) (write_whole_line (cache.ways) lines line (value.0)) }
+    ensures access { (count base ways : ℕ) → base % 64 ≡ 0 → (cache : Contents) (lines : Lines) (access : Access)
+        → StandsAs count ways cache lines → IsAccess base (64 * count) access → HasBytes access
+        → Alike IsLineAnswer (StandsLeft count)
+        (λ (a : Contents × List ℕ) (d : Lines × List ℕ). StandsAs count ways (a.0) (d.0) × (a.1 ≡ d.1))
+        (cache_access base cache access) (lists_access base ways lines access) }
 {}
 
 /// A use makes exactly the requests of the lists, in order, whatever is answered: a dirty victim's store, and then

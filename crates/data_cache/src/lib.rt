@@ -8,12 +8,14 @@
 #![tactic(auto)]
 
 mod cache;
+mod cached;
 mod flat;
 mod laws;
 mod set;
 mod store;
 
 pub use cache::Cache;
+pub use cached::{CachedBytes, step_cached};
 pub use flat::{FlatLines, Never, read_flat};
 pub use laws::{
     asks_as_its_lists, empty_cache_has_empty_lists, reads_the_flat_bytes, stand_for_one_list,

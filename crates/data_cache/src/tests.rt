@@ -1,8 +1,9 @@
-ghost use Rattle.std.specs.Prelude.{◌≡◌, length};
+ghost use Rattle.std.specs.Prelude.{◌≡◌, ◌*◌, length};
 ghost use Rattle.data_cache.specs.Contents.{CacheBelow};
 
-use crate::{Cache, FlatLines, LineStore, Never, read_flat};
+use crate::{Cache, FlatLines, LineStore, Never, read_flat, step_cached};
 use asc_base::Line;
+use rv32_core::{Core, Ended, Files};
 use std::test::Fail;
 
 /// A line of 64 times this byte.
@@ -84,6 +85,60 @@ fn uses_as_a_plain_list(rt: HostRuntime) -> Result<(), Fail> {
                 "seed {seed}, step {step}"
             );
         }
+    }
+    Ok(())
+}
+
+/// At most 20 instructions over a cache and a memory of lines from address 0 on.
+fn run_over(core: &mut Core, files: &mut Files, cache: &mut Cache, flat: &mut FlatLines) -> Ended
+    requires base { core.old.base ≡ 0 }
+    requires size { core.old.size ≡ 64 * length flat.old }
+    requires below { CacheBelow (length flat.old) cache.old }
+{
+    for _step in 0..20 {
+        let done = answered(step_cached(core, files, 0, cache, flat));
+        match done.ended {
+            Ended::No => (),
+            ended => return ended,
+        }
+    }
+    Ended::No
+}
+
+/// A program that reads eight bytes of its input to address 60, writes them from there, and exits with their number:
+/// each call crosses from line 0 into line 1.
+#[test]
+fn host_calls_cross_a_line(rt: HostRuntime) -> Result<(), Fail> {
+    // addi x11, x0, 60; addi x12, x0, 8; addi x17, x0, 63; ecall; addi x10, x0, 1; addi x17, x0, 64; ecall;
+    // addi x17, x0, 93; ecall
+    let program: [u32; 9] = [
+        0x03c0_0593,
+        0x0080_0613,
+        0x03f0_0893,
+        0x0000_0073,
+        0x0010_0513,
+        0x0400_0893,
+        0x0000_0073,
+        0x05d0_0893,
+        0x0000_0073,
+    ];
+    let mut first = [0u8; 64];
+    for i in 0..program.len() {
+        first[4 * i..4 * i + 4].copy_from_slice(&program[i].to_le_bytes());
+    }
+    for (sets, ways) in [(1, 1), (1, 2), (4, 2)] {
+        let mut lines = [filled(0); 64];
+        lines[0] = Line(first);
+        let mut flat = FlatLines::new(rt.alloc(), &lines)?;
+        let mut cache = Cache::new(rt.alloc(), sets, ways)?;
+        let mut files = Files::new(rt.alloc(), b"crossing", 16)?;
+        let mut core = Core::new(0, 0, 4096, 4096);
+        let ended = run_over(&mut core, &mut files, &mut cache, &mut flat);
+        assert!(rt;
+            ended == Ended::Exit { status: 8 },
+            "sets {sets}, ways {ways}"
+        );
+        assert!(rt; files.output() == b"crossing".as_slice());
     }
     Ok(())
 }

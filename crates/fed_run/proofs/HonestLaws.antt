@@ -20,7 +20,7 @@ use Rattle.data_cache.proofs.Parts.{patched_own}
 use Rattle.fed_run.specs.Fed.{Feed, asks, fed_line, fed_use, fed_uses, fed_after, fed_word, fed_step, Ends, FedRun, fed_on, fed_from, fed_run, answers_of, sets_along, answers_on, flat_answers}
 
 -- a list of bytes, its lists, and the lines left
-abbrev fed_by : List ℕ → Sets → List (List ℕ) → Feed
+abbrev pub fed_by : List ℕ → Sets → List (List ℕ) → Feed
 fed_by memory sets left = record { memory = memory; sets = sets; left = left }
 
 -- the lines lie in the list of bytes
@@ -118,13 +118,13 @@ IsFlat fed run more =
     (fed.instructions ≡ run.instructions) × (fed.machine ≡ run.machine) × (fed.feed.memory ≡ run.memory)
     × (fed.feed.left ≡ more) × (fed.ending ≡ Ends run.ending)
 
-fed_run-zero : (ways : ℕ) (machine : Machine) (feed : Feed)
+pub fed_run-zero : (ways : ℕ) (machine : Machine) (feed : Feed)
     → fed_run ways 0 machine feed
     ≡ record { instructions = 0; machine = machine; feed = feed; ending = Ends Budget }
 unfolding fed_run
 fed_run-zero ways machine feed = refl
 
-fed_run-suc : (ways n : ℕ) (machine : Machine) (feed : Feed)
+pub fed_run-suc : (ways n : ℕ) (machine : Machine) (feed : Feed)
     → fed_run ways (suc n) machine feed ≡ fed_from (fed_run ways n) machine feed (fed_step ways machine feed)
 unfolding fed_run
 fed_run-suc ways n machine feed = refl

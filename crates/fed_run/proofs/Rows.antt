@@ -5,7 +5,8 @@ use Rattle.rv32_core.specs.FlatRun.{Exited, machine_at_start, output_limit}
 use Rattle.rv32_core.specs.LineList.{lines_from}
 use Rattle.rv32_table.specs.Table.{decoded, table}
 use Rattle.rv32_table.specs.Meaning.{register_meaning, load_meaning}
-use Rattle.fed_run.specs.Fed.{Ends, Starves, fed_run, program_line, over_image_line}
+use Rattle.rv32_core.specs.Access.{slice_of}
+use Rattle.fed_run.specs.Fed.{Ends, Starves, fed_run, program_line, over_line, over_image_line, reading_line, writing_line, eight_bytes}
 
 -- It is fed with line 1 and then with line 0, and exits.
 pub fed-exits : let run = fed_run 1 9 (machine_at_start 0 0 128 0 [] output_limit)
@@ -19,3 +20,31 @@ pub fed-starves : let run = fed_run 1 9 (machine_at_start 0 0 128 0 [] output_li
     (over_image_line (replicate 64 7 ∷ [])) in (run.ending ≡ Starves) × (run.instructions ≡ 1)
 unfolding fed_run lines_from decoded table register_meaning load_meaning
 fed-starves = (refl, refl)
+
+-- A read into lines 0 and 1, over two ways.
+pub read-crosses : let run = fed_run 2 9 (machine_at_start 0 0 128 0 eight_bytes output_limit)
+    (over_line reading_line (replicate 64 9 ∷ [])) in
+    (run.ending ≡ Ends (Exited 8)) × (run.instructions ≡ 6) × (run.feed.left ≡ [])
+    × (slice_of run.feed.memory 60 10 ≡ 1 ∷ 2 ∷ 3 ∷ 4 ∷ 5 ∷ 6 ∷ 7 ∷ 8 ∷ 9 ∷ 9 ∷ [])
+unfolding fed_run lines_from decoded table register_meaning load_meaning
+read-crosses = (refl, refl, refl, refl)
+
+-- A write of bytes of lines 0 and 1, over one way.
+pub write-crosses : let run = fed_run 1 9 (machine_at_start 0 0 128 0 [] output_limit)
+    (over_line writing_line (replicate 64 9 ∷ writing_line ∷ [])) in
+    (run.ending ≡ Ends (Exited 8)) × (run.instructions ≡ 7) × (run.feed.left ≡ [])
+    × (run.machine.files.output ≡ 0 ∷ 0 ∷ 0 ∷ 0 ∷ 9 ∷ 9 ∷ 9 ∷ 9 ∷ [])
+unfolding fed_run lines_from decoded table register_meaning load_meaning
+write-crosses = (refl, refl, refl, refl)
+
+-- With no line they starve, and nothing of the call is done.
+pub read-starves : let run = fed_run 2 9 (machine_at_start 0 0 128 0 eight_bytes output_limit)
+    (over_line reading_line []) in
+    (run.ending ≡ Starves) × (run.instructions ≡ 3) × (run.machine.files.position ≡ 0)
+unfolding fed_run lines_from decoded table register_meaning load_meaning
+read-starves = (refl, refl, refl)
+
+pub write-starves : let run = fed_run 1 9 (machine_at_start 0 0 128 0 [] output_limit) (over_line writing_line []) in
+    (run.ending ≡ Starves) × (run.instructions ≡ 4) × (run.machine.files.output ≡ [])
+unfolding fed_run lines_from decoded table register_meaning load_meaning
+write-starves = (refl, refl, refl)

@@ -1,8 +1,9 @@
 -- Fed: the flat run taken use by use of its lines, where each line for which the cache's lists ask a fetch first takes
 -- its bytes from a list of lines.
-use Rattle.std.specs.Prelude.{ℕ, zero, suc, ◌+◌, ◌*◌, Bool, true, false, ◌&&◌, not, if◌then◌else◌, List, [], ◌∷◌, ◌++◌, replicate, Option, Some, None}
+use Rattle.std.specs.Prelude.{ℕ, zero, suc, ◌+◌, ◌*◌, Bool, true, false, ◌&&◌, not, if◌then◌else◌, List, [], ◌∷◌, ◌++◌, take, replicate, Option, Some, None}
+use Rattle.std.specs.List.{flat_map}
 use Rattle.std.specs.Option.{option_map, option_and_then}
-use Rattle.std.specs.Int.{from_le_bytes, w32}
+use Rattle.std.specs.Int.{from_le_bytes, to_le_bytes, w32}
 use Rattle.rv32_core.specs.Access.{spliced}
 use Rattle.rv32_core.specs.Machine.{Machine, is_inside, effect_of_word, cost_of_word}
 use Rattle.rv32_core.specs.FlatMachine.{FlatStep, bytes_at, effected, trap_at, flat_step}
@@ -110,6 +111,36 @@ fed_run ways zero machine feed =
     record { instructions = 0; machine = machine; feed = feed; ending = Ends Budget }
 fed_run ways (suc n) machine feed = fed_from (fed_run ways n) machine feed (fed_step ways machine feed)
 
+-- ---- runs that go on
+-- a run before which so many more instructions finished
+abbrev pub fed_before : ℕ → FedRun → FedRun
+fed_before count run = record run { instructions = count + run.instructions }
+
+-- A run that may go on: where its instructions finished with Budget, so many more from there; one that ended stays as
+-- it is.
+abbrev pub fed_on_from : ℕ → ℕ → FedRun → FedEnding → FedRun
+fed_on_from ways more run (Ends Budget) = fed_before run.instructions (fed_run ways more run.machine run.feed)
+fed_on_from ways more run (Ends (Exited status)) = run
+fed_on_from ways more run (Ends (Trapped kind pc)) = run
+fed_on_from ways more run Starves = run
+
+abbrev pub fed_gone_on : ℕ → ℕ → FedRun → FedRun
+fed_gone_on ways more run = fed_on_from ways more run run.ending
+
+-- All instructions that were to finish did, or there was an exit.
+abbrev pub IsDone : FedEnding → Type 0
+IsDone (Ends Budget) = Unit {0}
+IsDone (Ends (Exited status)) = Unit {0}
+IsDone (Ends (Trapped kind pc)) = ⊥
+IsDone Starves = ⊥
+
+-- a feed with more lines behind those that are left, and what a run leaves with them
+abbrev pub with_more : List (List ℕ) → Feed → Feed
+with_more more feed = record feed { left = feed.left ++ more }
+
+abbrev pub run_with_more : List (List ℕ) → FedRun → FedRun
+run_with_more more run = record run { feed = with_more more run.feed }
+
 -- ---- what an honest store answers
 -- the lines for which uses ask, as a list of bytes has them, and the lists after these uses
 abbrev pub answers_of : ℕ → List ℕ → Sets → List LineUse → List (List ℕ)
@@ -142,10 +173,33 @@ flat_answers ways (suc n) sets machine memory =
 abbrev pub program_line : List ℕ
 program_line = 0x83 ∷ 0x22 ∷ 0 ∷ 4 ∷ 0x93 ∷ 0x08 ∷ 0xd0 ∷ 0x05 ∷ 0x73 ∷ 0 ∷ 0 ∷ 0 ∷ replicate 52 0
 
--- two lines, the first of which is kept as an image line, and these lines to be fed with
-abbrev pub over_image_line : List (List ℕ) → Feed
-over_image_line left = record {
-  memory = program_line ++ replicate 64 0;
+-- two lines, the first of which is this, and is kept as an image line; and these lines to be fed with
+abbrev pub over_line : List ℕ → List (List ℕ) → Feed
+over_line line left = record {
+  memory = line ++ replicate 64 0;
   sets = (record { line = 0; dirty = true } ∷ []) ∷ [];
   left = left;
 }
+
+abbrev pub over_image_line : List (List ℕ) → Feed
+over_image_line left = over_line program_line left
+
+-- the line of a program in words, least byte first, with zeros behind it
+abbrev pub line_of_words : List ℕ → List ℕ
+line_of_words words = take 64 (flat_map (to_le_bytes w32) words ++ replicate 64 0)
+
+-- an input
+abbrev pub eight_bytes : List ℕ
+eight_bytes = 1 ∷ 2 ∷ 3 ∷ 4 ∷ 5 ∷ 6 ∷ 7 ∷ 8 ∷ []
+
+-- `addi x11, x0, 60; addi x12, x0, 8; addi x17, x0, 63; ecall; addi x17, x0, 93; ecall`: it reads eight bytes of its
+-- input to address 60
+abbrev pub reading_line : List ℕ
+reading_line = line_of_words
+    (0x03c00593 ∷ 0x00800613 ∷ 0x03f00893 ∷ 0x00000073 ∷ 0x05d00893 ∷ 0x00000073 ∷ [])
+
+-- `addi x10, x0, 1; addi x11, x0, 60; addi x12, x0, 8; addi x17, x0, 64; ecall; addi x17, x0, 93; ecall`: it writes the
+-- eight bytes from address 60 on
+abbrev pub writing_line : List ℕ
+writing_line = line_of_words
+    (0x00100513 ∷ 0x03c00593 ∷ 0x00800613 ∷ 0x04000893 ∷ 0x00000073 ∷ 0x05d00893 ∷ 0x00000073 ∷ [])

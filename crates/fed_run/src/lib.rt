@@ -4,12 +4,24 @@
 //! fetch first takes its bytes from a list of lines, whatever they are. The crate has laws alone; the calls do nothing.
 #![tactic(auto)]
 
+mod chains;
+mod runs;
+
 ghost use Rattle.std.specs.Prelude.{◌≡◌, ℕ, List, [], ◌∷◌, ◌++◌, length, replicate};
 ghost use Rattle.asc_base.specs.Memory.{IsMemory};
 ghost use Rattle.rv32_core.specs.Machine.{Machine};
 ghost use Rattle.rv32_core.specs.FlatRun.{Exited, flat_run, machine_at_start, output_limit};
 ghost use Rattle.data_cache.specs.CacheLists.{Sets};
-ghost use Rattle.fed_run.specs.Fed.{Ends, Starves, fed_run, flat_answers, program_line, over_image_line};
+ghost use Rattle.rv32_core.specs.Access.{slice_of};
+ghost use Rattle.fed_run.specs.Fed.{Ends, Starves, fed_run, flat_answers};
+ghost use Rattle.fed_run.specs.Fed.{program_line, over_line, over_image_line, reading_line, writing_line, eight_bytes};
+ghost use Rattle.fed_run.specs.Whole.{feed_at_start};
+
+pub use chains::{
+    KeptStore, image_line_is_fed, instruction_is_fed, run_is_fed, told_run_is_flat,
+    whole_run_is_fed,
+};
+pub use runs::{fed_runs_go_on, more_lines_go_on};
 
 /// Where each line that is answered is the flat list's at that time, a run that is fed is the flat run, whatever lines
 /// are kept at its start: as many instructions, the machine, the bytes and the ending; and it uses these lines, in
@@ -36,4 +48,27 @@ pub fn worked_fed_runs()
         (run.ending ≡ Ends (Exited 0)) × (run.instructions ≡ 3) × (run.feed.left ≡ []) }
     ensures starves { let run = fed_run 1 9 (machine_at_start 0 0 128 0 [] output_limit)
         (over_image_line (replicate 64 7 ∷ [])) in (run.ending ≡ Starves) × (run.instructions ≡ 1) }
+    ensures same_start { feed_at_start 1 1 (program_line ++ replicate 64 0) (0 ∷ []) (replicate 64 7 ∷ [])
+        ≡ over_image_line (replicate 64 7 ∷ []) }
+{}
+
+/// Worked rows of host calls whose eight bytes from address 60 on cross from line 0, which is kept, into line 1. A read
+/// over one set of two ways fetches line 1, and puts the input into both; a write over one set of one way fetches line
+/// 1 and then line 0 again, and appends bytes of both; and with no line they starve, after the instructions before
+/// them.
+pub fn worked_crossings()
+    ensures read { let run = fed_run 2 9 (machine_at_start 0 0 128 0 eight_bytes output_limit)
+        (over_line reading_line (replicate 64 9 ∷ [])) in
+        (run.ending ≡ Ends (Exited 8)) × (run.instructions ≡ 6) × (run.feed.left ≡ [])
+        × (slice_of run.feed.memory 60 10 ≡ 1 ∷ 2 ∷ 3 ∷ 4 ∷ 5 ∷ 6 ∷ 7 ∷ 8 ∷ 9 ∷ 9 ∷ []) }
+    ensures write { let run = fed_run 1 9 (machine_at_start 0 0 128 0 [] output_limit)
+        (over_line writing_line (replicate 64 9 ∷ writing_line ∷ [])) in
+        (run.ending ≡ Ends (Exited 8)) × (run.instructions ≡ 7) × (run.feed.left ≡ [])
+        × (run.machine.files.output ≡ 0 ∷ 0 ∷ 0 ∷ 0 ∷ 9 ∷ 9 ∷ 9 ∷ 9 ∷ []) }
+    ensures read_starves { let run = fed_run 2 9 (machine_at_start 0 0 128 0 eight_bytes output_limit)
+        (over_line reading_line []) in
+        (run.ending ≡ Starves) × (run.instructions ≡ 3) × (run.machine.files.position ≡ 0) }
+    ensures write_starves { let run = fed_run 1 9 (machine_at_start 0 0 128 0 [] output_limit)
+        (over_line writing_line []) in
+        (run.ending ≡ Starves) × (run.instructions ≡ 4) × (run.machine.files.output ≡ []) }
 {}

@@ -1,3 +1,4 @@
+use Rattle.std.proofs.Common.{refl}
 use Rattle.fed_run.proofs.Rows.{fed-exits, fed-starves}
 use Rattle.fed_run.proofs.worked_fed_runs.Goals as goal
 
@@ -6,3 +7,6 @@ returns-clause-exits c = fed-exits
 
 pub returns-clause-starves : goal.returns-clause-starves
 returns-clause-starves c = fed-starves
+
+pub returns-clause-same_start : goal.returns-clause-same_start
+returns-clause-same_start c = refl

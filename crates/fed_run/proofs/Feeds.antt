@@ -1,0 +1,142 @@
+-- A use of a line that is fed: what it changes, and that it can go before or behind a write to another line.
+use Rattle.std.proofs.Common.{◌≡◌, ◌⊎◌, ℕ, ◌+◌, ◌*◌, ◌≤◌, Bool, true, false, List, [], ◌∷◌, ◌++◌, Option, Some, None, length, refl, ap, ◌∙◌, arith, inl, inr}
+use Rattle.std.specs.Option.{option_map, option_and_then}
+use Rattle.rv32_core.specs.Access.{slice_of, spliced, length-spliced}
+use Rattle.rv32_core.specs.LineList.{LineUse}
+use Rattle.data_cache.specs.CacheLists.{sets_after}
+use Rattle.fed_run.specs.Fed.{Feed, asks, fed_line, fed_use, fed_uses}
+use Rattle.fed_run.specs.Answered.{AreLines}
+use Rattle.fed_run.proofs.Splices.{lines-commute, slice-elsewhere}
+
+-- lines behind lines
+pub AreLines-append : (first rest : List (List ℕ)) → AreLines first → AreLines rest → AreLines (first ++ rest)
+AreLines-append [] rest h g = g
+AreLines-append (bytes ∷ more) rest h g = (h.0, AreLines-append more rest (h.1) g)
+
+-- A feed of so many bytes, whose lines are lines.
+pub record IsFeed (size : ℕ) (feed : Feed) : Type 0 where
+  pub long : length feed.memory ≡ size
+  pub lines : AreLines feed.left
+
+-- a feed with bytes put into its list of bytes
+abbrev pub put : ℕ → List ℕ → Feed → Feed
+put at bytes feed = record feed { memory = spliced feed.memory at bytes }
+
+pub put-is : (size at : ℕ) (bytes : List ℕ) (feed : Feed) → IsFeed size feed → at + length bytes ≤ size
+    → IsFeed size (put at bytes feed)
+put-is size at bytes feed is fits =
+    let long : length feed.memory ≡ size = is.long in
+    record { long = length-spliced feed.memory at bytes (omega arith) ∙ long; lines = is.lines }
+
+-- a list of bytes is another, or that with a line put in
+abbrev pub Patched : ℕ → List ℕ → List ℕ → Type 0
+Patched line memory now =
+    (now ≡ memory) ⊎ ((bytes : List ℕ) × (length bytes ≡ 64) × (now ≡ spliced memory (64 * line) bytes))
+
+-- ---- one use
+-- what a use leaves
+abbrev after_line : ℕ → Feed → LineUse → List ℕ × List (List ℕ) → Feed
+after_line ways feed use_of r = record { memory = r.0; sets = sets_after ways feed.sets use_of; left = r.1 }
+
+module _ (size ways : ℕ) (feed : Feed) (use_of : LineUse) where
+  cases : (P : Option Feed → Type 0) → length feed.memory ≡ size → 64 * use_of.line + 64 ≤ size → P None
+      → ((now : Feed) → IsFeed size now → Patched use_of.line feed.memory now.memory → P (Some now))
+      → (left : List (List ℕ)) → AreLines left → (b : Bool)
+      → P (option_map (after_line ways feed use_of) (fed_line feed.memory use_of.line left b))
+  cases P long room none some left lines false =
+      some (after_line ways feed use_of (feed.memory, left)) (record { long = long; lines = lines }) (inl refl)
+  cases P long room none some [] lines true = none
+  cases P long room none some (bytes ∷ rest) lines true =
+      let whole : length bytes ≡ 64 = lines.0 in
+      some (after_line ways feed use_of (spliced feed.memory (64 * use_of.line) bytes, rest))
+      (record {
+        long = length-spliced feed.memory (64 * use_of.line) bytes (omega arith) ∙ long;
+        lines = lines.1;
+      }) (inr (bytes, whole, refl))
+
+  -- What holds where none is left, and of each feed that a use may leave, holds of what it leaves.
+  pub use-cases : (P : Option Feed → Type 0) → IsFeed size feed → 64 * use_of.line + 64 ≤ size → P None
+      → ((now : Feed) → IsFeed size now → Patched use_of.line feed.memory now.memory → P (Some now))
+      → P (fed_use ways feed use_of)
+  use-cases P is room none some = cases P is.long room none some feed.left is.lines (asks feed.sets use_of)
+
+-- ---- a write to another line
+module _ (size ways line place : ℕ) (bytes : List ℕ) (fits : place + length bytes ≤ 64)
+    (inside : 64 * line + 64 ≤ size) where
+  line-put : (memory : List ℕ) (n : ℕ) → length memory ≡ size → 64 * n + 64 ≤ size → (n ≡ line → ⊥)
+      → (left : List (List ℕ)) → AreLines left → (b : Bool)
+      → fed_line (spliced memory (64 * line + place) bytes) n left b
+      ≡ option_map (λ (r : List ℕ × List (List ℕ)). (spliced (r.0) (64 * line + place) bytes, r.1))
+      (fed_line memory n left b)
+  line-put memory n long room ne left lines false = refl
+  line-put memory n long room ne [] lines true = refl
+  line-put memory n long room ne (x ∷ rest) lines true =
+      ap (λ (z : List ℕ). Some (z, rest))
+      (lines-commute memory x bytes n line place ne (lines.0) fits (omega arith) (omega arith))
+
+  built-put : (feed : Feed) (use_of : LineUse) (r : Option (List ℕ × List (List ℕ)))
+      → option_map (after_line ways (put (64 * line + place) bytes feed) use_of)
+      (option_map (λ (r : List ℕ × List (List ℕ)). (spliced (r.0) (64 * line + place) bytes, r.1)) r)
+      ≡ option_map (put (64 * line + place) bytes) (option_map (after_line ways feed use_of) r)
+  built-put feed use_of None = refl
+  built-put feed use_of (Some r) = refl
+
+  use-put : (feed : Feed) (use_of : LineUse) → IsFeed size feed → 64 * use_of.line + 64 ≤ size
+      → (use_of.line ≡ line → ⊥)
+      → fed_use ways (put (64 * line + place) bytes feed) use_of
+      ≡ option_map (put (64 * line + place) bytes) (fed_use ways feed use_of)
+  use-put feed use_of is room ne =
+      ap (option_map (after_line ways (put (64 * line + place) bytes feed) use_of))
+      (line-put feed.memory use_of.line is.long room ne feed.left is.lines (asks feed.sets use_of))
+      ∙ built-put feed use_of (fed_line feed.memory use_of.line feed.left (asks feed.sets use_of))
+
+-- uses of other lines, which lie in the list of bytes
+abbrev pub Elsewhere : ℕ → ℕ → List LineUse → Type 0
+Elsewhere size line [] = Unit {0}
+Elsewhere size line (first ∷ others) =
+    (first.line ≡ line → ⊥) × (64 * first.line + 64 ≤ size) × Elsewhere size line others
+
+pub uses-put : (size ways line place : ℕ) (bytes : List ℕ) → place + length bytes ≤ 64 → 64 * line + 64 ≤ size
+    → (feed : Feed) (uses : List LineUse) → IsFeed size feed → Elsewhere size line uses
+    → fed_uses ways (put (64 * line + place) bytes feed) uses
+    ≡ option_map (put (64 * line + place) bytes) (fed_uses ways feed uses)
+uses-put size ways line place bytes fits inside feed [] is other = refl
+uses-put size ways line place bytes fits inside feed (first ∷ others) is other =
+    ap (option_and_then (λ (now : Feed). fed_uses ways now others))
+    (use-put size ways line place bytes fits inside feed first is (other.1) (other.0))
+    ∙ use-cases size ways feed first
+    (λ r. option_and_then (λ (now : Feed). fed_uses ways now others)
+    (option_map (put (64 * line + place) bytes) r)
+    ≡ option_map (put (64 * line + place) bytes) (option_and_then (λ (now : Feed). fed_uses ways now others) r))
+    is (other.1) refl
+    (λ now good patched. uses-put size ways line place bytes fits inside now others good (other.2))
+
+-- ---- bytes of another line
+slice-patched : (memory now : List ℕ) (n line place count : ℕ) → (n ≡ line → ⊥) → place + count ≤ 64
+    → 64 * n + 64 ≤ length memory → Patched n memory now
+    → slice_of now (64 * line + place) count ≡ slice_of memory (64 * line + place) count
+slice-patched memory now n line place count ne fits room (inl same) =
+    ap (λ m. slice_of m (64 * line + place) count) same
+slice-patched memory now n line place count ne fits room (inr one) =
+    ap (λ m. slice_of m (64 * line + place) count) (one.2)
+    ∙ slice-elsewhere memory (one.0) n line place count ne (one.1) fits room
+
+-- What is made of the bytes of a line after uses of other lines is made of the bytes before them.
+pub uses-slice : {Z : Type 0} (size ways line place count : ℕ) (make : List ℕ → Feed → Z) (piece : List ℕ)
+    → place + count ≤ 64 → (feed : Feed) (uses : List LineUse) → IsFeed size feed → Elsewhere size line uses
+    → slice_of feed.memory (64 * line + place) count ≡ piece
+    → option_map (λ (now : Feed). make (slice_of now.memory (64 * line + place) count) now) (fed_uses ways feed uses)
+    ≡ option_map (λ (now : Feed). make piece now) (fed_uses ways feed uses)
+uses-slice size ways line place count make piece fits feed [] is other same =
+    ap (λ (z : List ℕ). Some (make z feed)) same
+uses-slice {Z} size ways line place count make piece fits feed (first ∷ others) is other same =
+    let long : length feed.memory ≡ size = is.long in
+    use-cases size ways feed first
+    (λ r. ◌≡◌ {A = Option Z}
+    (option_map (λ (now : Feed). make (slice_of now.memory (64 * line + place) count) now)
+    (option_and_then (λ (now : Feed). fed_uses ways now others) r))
+    (option_map (λ (now : Feed). make piece now) (option_and_then (λ (now : Feed). fed_uses ways now others) r)))
+    is (other.1) refl
+    (λ now good patched. uses-slice size ways line place count make piece fits now others good (other.2)
+    (slice-patched feed.memory now.memory first.line line place count (other.0) fits (omega (arith, other.1)) patched
+    ∙ same))
