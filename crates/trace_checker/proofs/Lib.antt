@@ -1,0 +1,5 @@
+pub mod HeaderLaws
+pub mod Allowed
+pub mod StepLaws
+pub mod EndLaws
+pub mod VerdictLaws

@@ -1,0 +1,11 @@
+//! The check of a trace: whether some choices of rates make its slots those of the timetable and of the schedule.
+//!
+//! `specs/Checker.antt` says what a check says; `specs/Steps.antt` what its steps do.
+#![tactic(auto)]
+
+mod checking;
+mod progress;
+mod verdict;
+
+pub use checking::check;
+pub use verdict::Verdict;
