@@ -8,6 +8,9 @@ ghost use Rattle.bus_trace.specs.Reading.{BeginsNoDigit, BeginsNumber};
 ghost use Rattle.bus_trace.specs.Trace.{line};
 ghost use Rattle.bus_trace.specs.declared.number.Three.{Three as ThreeNumbers};
 
+/// The digit that stands first in the number 0 alone.
+const ZERO: u8 = b'0';
+
 /// Three numbers of a line.
 #[derive(Clone, Copy, Debug)]
 pub(crate) struct Three {
@@ -55,7 +58,7 @@ fn number(digits: &[u8]) -> Option<u64>
     if digits.len() > 10 {
         return None;
     }
-    if digits[0] == b'0' && digits.len() > 1 {
+    if digits[0] == ZERO && digits.len() > 1 {
         return None;
     }
     Some(value(digits))

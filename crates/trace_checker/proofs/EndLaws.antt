@@ -27,7 +27,7 @@ use Rattle.trace_checker.proofs.StepLaws.{index_agrees, index_start, open_choice
 
 -- ---- the slots so far start before the end
 
-seen_of : (t : TraceLists) (k : ℕ) → k < length t.accesses → (seen : Seen) × (slice_get t.accesses k ≡ Some seen)
+pub seen_of : (t : TraceLists) (k : ℕ) → k < length t.accesses → (seen : Seen) × (slice_get t.accesses k ≡ Some seen)
 seen_of t k small =
     let nil : Seen = record { start = 0; leaf = record { 0 = 0 }; moves = 0 } in
     let seen = get_or t.accesses k nil in

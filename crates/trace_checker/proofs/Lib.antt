@@ -3,3 +3,5 @@ pub mod Allowed
 pub mod StepLaws
 pub mod EndLaws
 pub mod VerdictLaws
+pub mod OfLog
+pub mod Verdicts

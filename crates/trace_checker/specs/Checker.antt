@@ -75,3 +75,11 @@ pub data Says (t : TraceLists) : Verdict → Type 0 where
   holds : (code : ℕ) → IsLeast (Fits t) code → Says t (Holds code (bits_by t code))
   fails : (k found wanted : ℕ) → IsAllowed t k → ¬ IsAllowed t (suc k) → Tells t k found wanted
       → Says t (Fails (7 + k) found wanted)
+
+-- the verdict holds by a code that fits the trace and isn't greater than this one
+pub record HoldsBy (t : TraceLists) (code : ℕ) (verdict : Verdict) : Type 0 where
+  pub least : ℕ
+  pub bits : ℕ
+  pub is : verdict ≡ Holds least bits
+  pub fits : Fits t least
+  pub below : least ≤ code

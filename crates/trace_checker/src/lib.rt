@@ -4,8 +4,13 @@
 #![tactic(auto)]
 
 mod checking;
+mod laws;
 mod progress;
 mod verdict;
 
 pub use checking::check;
+pub use laws::{scheduled_logs_hold, verdicts_are_exact};
 pub use verdict::Verdict;
+
+#[cfg(test)]
+mod tests;
