@@ -1,3 +1,9 @@
 mod Counts
-mod Lines
+mod TextLaws
+pub mod NumberLaws
+pub mod RateLaws
+pub mod PlaceLaws
+pub mod ReadLaws
+pub mod OneTrace
+pub mod OneFault
 mod SeenIn

@@ -1,5 +1,6 @@
 pub mod Trace
 pub mod Grammar
 pub mod Reader
+pub mod Reading
 pub mod OfLog
 pub mod Rows

@@ -5,6 +5,7 @@ use Rattle.std.specs.List.{flat_map}
 use Rattle.bus_schedule.specs.Timetable.{Public}
 use Rattle.bus_trace.specs.declared.trace.Header.{Header}
 use Rattle.bus_trace.specs.declared.trace.Seen.{Seen}
+use Rattle.bus_trace.specs.declared.trace.Trace.{Trace}
 
 -- What a trace means: the public part of a configuration, the accesses in order, and the time of the end.
 pub record TraceLists : Type 0 where
@@ -21,6 +22,10 @@ public_of h = record {
   epoch = h.epoch;
   leak = h.leak;
 }
+
+-- what a trace means
+abbrev pub lists_of : Trace → TraceLists
+lists_of t = record { header = public_of t.header; accesses = t.accesses.items; end = t.end }
 
 -- A line is the list of its bytes, without its line feed.
 abbrev pub Line : Type 0

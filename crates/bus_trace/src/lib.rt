@@ -6,15 +6,20 @@
 
 mod fault;
 mod laws;
+mod lines;
+mod number;
 mod printer;
+mod rates;
+mod reader;
 mod seen;
 mod trace;
 
 pub use asc_base::NoMemory;
-pub use fault::TraceKind;
-pub use laws::{trace_rows, traces_have_one_text};
+pub use fault::{TraceFault, TraceKind};
+pub use laws::{texts_have_one_meaning, trace_rows, traces_have_one_text};
 pub use printer::print;
-pub use trace::{Header, Seen};
+pub use reader::read;
+pub use trace::{Header, Seen, Trace};
 
 #[cfg(test)]
 mod tests;

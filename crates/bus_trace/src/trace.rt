@@ -25,3 +25,14 @@ pub struct Seen {
     /// How many moves are made in it: 1 to `2 * (levels + 1)`.
     pub moves: u32,
 }
+
+/// A trace: what is seen of a run.
+#[derive(Debug, Drop)]
+pub struct Trace {
+    /// The public part of the configuration. Its rates are 0 from their `count` on.
+    pub header: Header,
+    /// The slots, in the order of their starts.
+    pub accesses: Vec<Seen>,
+    /// The cycle up to which the run is shown: at most 536,870,912.
+    pub end: u64,
+}

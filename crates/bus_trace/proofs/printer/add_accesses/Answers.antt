@@ -5,7 +5,7 @@ use Rattle.std.specs.Fmt.{decimal}
 use Rattle.std.proofs.lemmas.List.{map_more}
 use Rattle.bus_trace.specs.Trace.{access_line, text_of}
 use Rattle.bus_trace.specs.declared.trace.Seen.{Seen}
-use Rattle.bus_trace.proofs.Lines.{text_of_none, text_of_join, text_of_one, access_is}
+use Rattle.bus_trace.proofs.TextLaws.{text_of_none, text_of_join, text_of_one, access_is}
 use Rattle.bus_trace.proofs.printer.add_accesses.Goals as goal
 
 abbrev nothing : Seen

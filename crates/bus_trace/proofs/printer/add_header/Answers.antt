@@ -4,7 +4,7 @@ use Rattle.std.specs.Prelude.{string_bytes, OnOk, codes, Result, Ok, Err}
 use Rattle.std.specs.Fmt.{decimal}
 use Rattle.bus_trace.specs.Trace.{header_lines, public_of, spaced, text_of}
 use Rattle.bus_schedule.specs.Timetable.{Public}
-use Rattle.bus_trace.proofs.Lines.{header_is, first_on}
+use Rattle.bus_trace.proofs.TextLaws.{header_is, first_on}
 use Rattle.bus_trace.proofs.printer.add_header.Goals as goal
 
 onok : {E : Type 0} (r : Result (Unit {0}) E) (x y z : List ℕ) → OnOk r (x ≡ y) → y ≡ z → OnOk r (x ≡ z)

@@ -5,7 +5,7 @@ use Rattle.std.specs.Fmt.{decimal}
 use Rattle.bus_watch.specs.Recorder.{lists_of}
 use Rattle.bus_trace.specs.Trace.{header_lines, access_line, end_line, public_of, text_of}
 use Rattle.bus_trace.specs.OfLog.{seen_in}
-use Rattle.bus_trace.proofs.Lines.{text_of_join, text_of_one}
+use Rattle.bus_trace.proofs.TextLaws.{text_of_join, text_of_one}
 use Rattle.bus_trace.proofs.printer.text.Goals as goal
 
 pub returns : goal.returns
