@@ -1,5 +1,9 @@
 //! Why a text isn't assembled.
 
+ghost use Rattle.std.specs.Prelude.{◌≡◌};
+
+use asc_base::NoMemory;
+
 /// What is wrong in a line.
 #[derive(Clone, Copy, Debug, PartialEq, Eq)]
 pub enum AsmKind {
@@ -27,4 +31,14 @@ pub enum AsmFault {
     Bad { line: u32, kind: AsmKind },
     /// Want of memory.
     NoMemory,
+}
+
+impl From<NoMemory> for AsmFault {
+    ghost use Rattle.rv32_asm.specs.declared.fault.AsmFault.TheVariants as fault;
+
+    ghost from_gives = { λ _ found. found ≡ fault.NoMemory };
+
+    fn from(_want: NoMemory) -> AsmFault {
+        AsmFault::NoMemory
+    }
 }

@@ -68,7 +68,7 @@ fn low_word(number: i64) -> u32
 }
 
 /// Appends bytes.
-fn push_all(bytes: &[u8], into: &mut Vec<u8>) -> Result<(), NoMemory>
+pub(crate) fn push_all(bytes: &[u8], into: &mut Vec<u8>) -> Result<(), NoMemory>
     ensures { OnOk result (into.new.items ≡ into.old.items ++ bytes.now) }
 {
     into.extend_from_slice(bytes).map_err(|_| NoMemory)
