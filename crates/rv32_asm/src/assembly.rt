@@ -27,8 +27,8 @@ fn program_bytes(alloc: Global, text: &[u8], at: u32) -> Result<Vec<u8>, AsmFaul
 /// bytes. The grammar, the statements and the file are those of `specs/`.
 ///
 /// A text that is no program is refused with its first fault: of a first pass over its lines the one in the least line,
-/// where a line's faults come in the order of [`crate::AsmKind`]'s variants, and where that pass found none, of a second the
-/// one in the least line. `NoMemory` is want of memory, and may come for any text.
+/// where a line's faults come in the order of [`crate::AsmKind`]'s variants, and where that pass found none, of a
+/// second the one in the least line. `NoMemory` is want of memory, and may come for any text.
 pub fn assemble(alloc: Global, text: &[u8], at: u32) -> Result<Vec<u8>, AsmFault>
     requires place { at ≤ 4_294_901_760 }
     requires short { length text.now ≤ 4_194_304 }
