@@ -1,3 +1,4 @@
+pub mod AssembledLaws
 pub mod EndLaws
 pub mod FlatLaws
 pub mod RunLaws

@@ -1,3 +1,4 @@
+pub mod Assembled
 pub mod Command
 pub mod Flat
 pub mod FlatRun

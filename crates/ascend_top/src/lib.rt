@@ -5,6 +5,7 @@
 #![tactic(auto)]
 
 mod commands;
+mod laws;
 mod refusal;
 mod status;
 mod steps;
@@ -26,6 +27,7 @@ use crate::commands::{flat, run};
 use crate::refusal::Refusal;
 use asc_outside::{Host, HostFault};
 use ascend_words::{Command, WordFault, Words, read_words};
+pub use laws::assembled_files_are_accepted;
 pub use status::{HOST_FAILED, NO_MEMORY};
 use std::alloc::Global;
 
