@@ -1,11 +1,13 @@
 #!/usr/bin/env python3
-"""Prints rows of words and their statements for the tests of rv32_asm. The words are those that LLVM's assembler (Debian's
-package llvm) gives for the statements; where it is missing, nothing is printed.
+"""Prints rows of words and their statements for the tests of rv32_asm, and rows of texts and their bytes. Words and bytes are
+those that LLVM's assembler (Debian's package llvm) gives; where it is missing, nothing is printed.
 """
 import re
 import shutil
 import subprocess
 import sys
+import tempfile
+from pathlib import Path
 
 REGISTERS = "add sub sll slt sltu xor srl sra or and mul mulh mulhsu mulhu div divu rem remu".split()
 IMMEDIATES = "addi slti sltiu xori ori andi".split()
@@ -50,6 +52,57 @@ def words(texts):
     return [int.from_bytes(bytes(int(byte, 16) for byte in found.split(",")), "little") for found in encodings]
 
 
+NAMES = "zero ra sp gp tp t0 t1 t2 s0 s1 a0 a1 a2 a3 a4 a5 a6 a7 s2 s3 s4 s5 s6 s7 s8 s9 s10 s11 t3 t4 t5 t6 fp".split()
+PUT = [0, 1, -1, 2047, 2048, -2048, -2049, 0x7FFF_FFFF, 0x8000_0000, -0x8000_0000, 0xFFFF_FFFF, 0x1234_5FFF]
+
+
+def halves(register, value):
+    """The two statements that put a number into a register, with LLVM's own words for the parts of a number."""
+    return f"lui {register}, %hi({value})\naddi {register}, {register}, %lo({value})"
+
+
+def programs():
+    """Texts, with what LLVM reads in place of each where it reads it otherwise. The first place is 67,584, whose low twelve
+    bits are 2,048."""
+    yield "\n".join(f"add {name}, {name}, x0" for name in NAMES), None
+    yield "nop\nret\nj -2\naddi x5, x6, 0x7fF", None
+    yield " \t lw\tx7 , -4 ( x8 ) # a comment", "lw x7, -4(x8)"
+    yield "a: nop\nb:nop # b\n beq x1, x2, a\n jal x1, c\n bne x3, x4, b\nc: j c\n j a\n", None
+    yield "j end\r\nx1: .word x1\nnop: .word end\nend:", "j end\nx1: .word 67588\nnop: .word 67596\nend:"
+    yield ".word 4294967295\n.word -2147483648\n.word 0xdeadbeef", None
+    for value in PUT:
+        yield f"li x5, {value}", halves("x5", value)
+    yield "la x9, far\nfar: la sp, end\nend:", f"{halves('x9', 67592)}\n{halves('sp', 67600)}"
+    yield ".byte 255\n.byte -128\n.byte 7\n.zero 2\n.byte 1\n.balign 8\n.byte 2\n.balign 1\n.balign 4", None
+    yield '.ascii "a\\n\\t\\0\\\\\\"# : b" # "c"\r\n.ascii ""', '.ascii "a\\n\\t\\0\\\\\\"# : b"\n.ascii ""'
+
+
+def far_programs():
+    """Texts with jumps and branches as far as they go."""
+    yield "back: .zero 4096\n beq x1, x2, back", 4096
+    yield "bltu x3, x4, far\n.zero 4088\n.byte 0\n.byte 0\nfar:", 0
+    yield "back: .zero 1048576\n jal x5, back", 1_048_576
+    yield "jal x6, far\n.zero 1048568\n.byte 0\n.byte 0\nfar:", 0
+
+
+def contents(text):
+    """The bytes of a text, by LLVM's assembler."""
+    with tempfile.TemporaryDirectory() as folder:
+        source, made, flat = (Path(folder) / name for name in ("a.s", "a.o", "a.bin"))
+        source.write_text(".data\n" + text + "\n")
+        assemble = ["llvm-mc", "-triple=riscv32", "-mattr=+m", "-filetype=obj", source, "-o", made]
+        subprocess.run(assemble, check=True)
+        subprocess.run(["llvm-objcopy", "-O", "binary", "-j", ".data", made, flat], check=True)
+        return flat.read_bytes()
+
+
+def quoted(text):
+    """A text as Rust writes it."""
+    for shown, letter in [("\\", "\\"), ('"', '"'), ("\n", "n"), ("\t", "t"), ("\r", "r")]:
+        text = text.replace(shown, "\\" + letter)
+    return f'"{text}"'
+
+
 def main():
     if shutil.which("llvm-mc") is None:
         print("llvm-mc is missing", file=sys.stderr)
@@ -57,6 +110,15 @@ def main():
     texts = list(statements())
     for word, text in zip(words(texts), texts, strict=True):
         print(f'(0x{word >> 16:04x}_{word % 2**16:04x}, "{text}"),')
+    for text, read in programs():
+        found = contents(text if read is None else read)
+        words_of = [f"0x{int.from_bytes(found[at:at + 2], 'little'):04x}" for at in range(0, len(found), 2)]
+        pairs = zip(words_of[1::2], words_of[::2])
+        shown = [f"{high}_{low[2:]}" for high, low in pairs] if len(found) % 4 == 0 else [f"0x{b:02x}" for b in found]
+        print(f"({quoted(text)}, &[{', '.join(shown)}]),")
+    for text, place in far_programs():
+        word = int.from_bytes(contents(text)[place : place + 4], "little")
+        print(f"({quoted(text)}, {84 + place}, 0x{word >> 16:04x}_{word % 2**16:04x}),")
 
 
 if __name__ == "__main__":

@@ -2,7 +2,7 @@
 -- memory.
 use Rattle.std.proofs.Common.{◌≡◌, ◌⊎◌, ℕ, ◌≤◌, List, [], ◌∷◌, true, Option, Some, None, Result, Ok, Err, length}
 use Rattle.std.proofs.Common.{refl, sym, ap, subst, ◌∙◌, inl, inr, arith, rules}
-use Rattle.std.specs.Prelude.{IsSome, is_some}
+use Rattle.std.specs.Prelude.{IsOk, IsSome, is_some}
 use Rattle.std.specs.List.{AllByRecursion}
 use Rattle.asc_base.specs.declared.settings.Settings.{Settings}
 use Rattle.asc_outside.specs.Host.{Files, HostState, IsLonger}
@@ -12,20 +12,26 @@ use Rattle.elf_loader.specs.declared.fault.ElfFault.{ElfFault}
 use Rattle.ascend_words.specs.Grammar.{Pair, Read}
 use Rattle.ascend_words.specs.Settings.{text_in, settings_of}
 use Rattle.ascend_words.specs.declared.table.Command.{Command}
-use Rattle.ascend_words.specs.declared.table.Command.TheVariants.{Run, Flat}
-use Rattle.ascend_words.specs.declared.table.Name.TheVariants.{Input}
-use Rattle.ascend_top.specs.Command.{AreRight, CommandEnds, Completes, IsFirstRefusal, IsOfFiles, StepsEnd, Tells}
-use Rattle.ascend_top.specs.Command.{steps_of}
+use Rattle.ascend_words.specs.declared.table.Command.TheVariants.{Run, Flat, Asm, Disasm}
+use Rattle.ascend_words.specs.declared.table.Name.{Name}
+use Rattle.ascend_words.specs.declared.table.Name.TheVariants.{Input, At}
+use Rattle.rv32_asm.specs.declared.fault.AsmFault.{AsmFault}
+use Rattle.rv32_asm.specs.declared.fault.AsmFault.TheVariants.{Bad}
+use Rattle.rv32_asm.specs.File.{assembled}
+use Rattle.ascend_top.specs.Command.{AreRight, CommandEnds, Completes, IsFirstRefusal, IsOfFiles, StepsEnd, Tells, WorkEnds}
+use Rattle.ascend_top.specs.Command.{last_steps, lifted, made_of, steps_of}
 use Rattle.ascend_top.specs.Flat.{input_steps, report_steps}
-use Rattle.ascend_top.specs.FlatRun.{Report, flat_report}
-use Rattle.ascend_top.specs.Status.{status_of, status_of_ending, status_of_refusal}
+use Rattle.ascend_top.specs.Asm.{place_in}
+use Rattle.ascend_top.specs.Made.{Made, Ran, Assembled, Listed}
+use Rattle.ascend_top.specs.Status.{status_of, status_of_made, status_of_refusal}
+use Rattle.ascend_top.specs.Steps.{AText, IsInRange, IsNumberCause, JudgesNumber, Keeps}
 use Rattle.ascend_top.specs.Steps.{AKey, AllDone, AnElf, Anything, Breaks, Does, IsCause, IsDone, IsReadCause}
 use Rattle.ascend_top.specs.Steps.{IsRefused, IsRight, IsSettingCause, IsWriteCause, IsWrong, Judges, Prints, Reads}
 use Rattle.ascend_top.specs.Steps.{Refuses, Rule, Step, Writes, limit_of}
 use Rattle.ascend_top.specs.Texts.{refusal_text}
 use Rattle.ascend_top.specs.declared.refusal.Refusal.{Refusal}
 use Rattle.ascend_top.specs.declared.refusal.Refusal.TheVariants.{Usage, OutOfRange, Elf, KeyLength, TooLong, Host}
-use Rattle.ascend_top.specs.declared.refusal.Refusal.TheVariants.{NoMemory}
+use Rattle.ascend_top.specs.declared.refusal.Refusal.TheVariants.{NoMemory, NumberOutOfRange, Assembler}
 use Rattle.ascend_top.specs.declared.refusal.Source.{Source}
 use Rattle.ascend_top.proofs.StepLaws.{asks_none}
 
@@ -45,10 +51,22 @@ judge_lost settings state = record {
   asked = inl refl;
 }
 
+number_lost : (name : Name) (number : ℕ) (state : HostState) → Refuses (JudgesNumber name number) NoMemory state state
+number_lost name number state = record {
+  cause = λ files told. tt;
+  fault = λ e. absurd (let no : ⊥ = cc in no);
+  files = refl;
+  printed = refl;
+  later = omega arith;
+  asked = inl refl;
+}
+
 pub lost_at_start : (command : Command) (given : List Pair) (state : HostState)
     → IsRefused (steps_of command given) NoMemory state state
 lost_at_start Run given state = inl (judge_lost (settings_of given) state)
 lost_at_start Flat given state = inl (judge_lost (settings_of given) state)
+lost_at_start Asm given state = inl (number_lost At (place_in given) state)
+lost_at_start Disasm given state = inl (judge_lost (settings_of given) state)
 
 pub tells_nothing : (state : HostState) → Tells NoMemory NoMemory state state
 tells_nothing state = record {
@@ -72,12 +90,14 @@ tells_no_text word state = record {
 -- a step that leaves all files
 abbrev IsReading : Step → Type 0
 IsReading (Judges settings) = Unit {0}
+IsReading (JudgesNumber name number) = Unit {0}
 IsReading (Reads source name rule) = Unit {0}
 IsReading (Writes name bytes) = ⊥
 IsReading (Prints text) = ⊥
 
 does_files : (step : Step) (old new : HostState) → IsReading step → Does step old new → new.files ≡ old.files
 does_files (Judges settings) old new is does = does.files
+does_files (JudgesNumber name number) old new is does = does.files
 does_files (Reads source name rule) old new is does = does.files
 does_files (Writes name bytes) old new is does = absurd is
 does_files (Prints text) old new is does = absurd is
@@ -100,6 +120,8 @@ input_reading (Some name) = (tt, tt)
 steps_reading : (command : Command) (given : List Pair) → AllByRecursion IsReading (steps_of command given)
 steps_reading Run given = (tt, (tt, (tt, input_reading (text_in given Input))))
 steps_reading Flat given = (tt, (tt, input_reading (text_in given Input)))
+steps_reading Asm given = (tt, (tt, tt))
+steps_reading Disasm given = (tt, (tt, tt))
 
 -- the input was read, where a file is named, which left all files
 pub input_files : (o : Option (List ℕ)) (old new : HostState) → AllDone (input_steps o) old new → new.files ≡ old.files
@@ -127,8 +149,34 @@ setting_free settings files NoMemory done cause = inl refl
 setting_free settings files Host done cause = absurd cause
 setting_free settings files (Usage word) done cause = absurd cause
 setting_free settings files (Elf fault) done cause = absurd cause
+setting_free settings files (NumberOutOfRange name) done cause = absurd cause
+setting_free settings files (Assembler number kind) done cause = absurd cause
 setting_free settings files (KeyLength count) done cause = absurd cause
 setting_free settings files (TooLong source) done cause = absurd cause
+
+number_free : (name : Name) (number : ℕ) (refusal : Refusal) → IsInRange name number
+    → IsNumberCause name number refusal → HasNone refusal
+number_free name number (NumberOutOfRange other) done cause = absurd (cause.1 done)
+number_free name number NoMemory done cause = inl refl
+number_free name number refusal done cause = absurd cause
+
+not_both : (answer : Result (List ℕ) AsmFault) (fault : AsmFault) → IsOk answer → answer ≡ Err fault → ⊥
+not_both (Ok file) fault ok e = let no : ⊥ = cc in no
+not_both (Err other) fault ok e = search rules
+
+-- bytes that keep a rule don't break it
+keeps_breaks : (rule : Rule) (bytes : List ℕ) (refusal : Refusal) → Keeps rule bytes → Breaks rule bytes refusal → ⊥
+keeps_breaks AKey bytes (KeyLength count) keeps breaks = omega (arith, keeps, breaks.0, breaks.1)
+keeps_breaks (AnElf base size) bytes (Elf fault) keeps breaks = keeps fault breaks.present
+keeps_breaks (AText at) bytes (Assembler number kind) keeps breaks =
+    not_both (assembled at bytes) (Bad number kind) keeps breaks
+keeps_breaks rule bytes refusal keeps breaks = breaks
+
+wrong_free : {P : Type 0} (files : Files) (source : Source) (name : List ℕ) (rule : Rule) (refusal : Refusal)
+    → IsRight files source name rule → IsWrong files source name rule refusal → P
+wrong_free files source name rule refusal right wrong =
+    absurd (keeps_breaks rule wrong.bytes refusal (subst (Keeps rule)
+    (one_file files name right.bytes wrong.bytes right.is wrong.is) right.keeps) wrong.breaks)
 
 read_free : (files : Files) (source : Source) (name : List ℕ) (rule : Rule) (refusal : Refusal)
     → IsRight files source name rule
@@ -136,21 +184,16 @@ read_free : (files : Files) (source : Source) (name : List ℕ) (rule : Rule) (r
 read_free files source name rule (TooLong other) right (same, longer) =
     let e = ap length (one_file files name right.bytes (longer.0) right.is (longer.1)) in
     absurd (let no : ⊥ = omega (arith, e, right.within, longer.2) in no)
-read_free files source name Anything (KeyLength count) right cause = absurd cause.breaks
-read_free files source name AKey (KeyLength count) right cause =
-    let e = ap length (one_file files name right.bytes cause.bytes right.is cause.is) in
-    absurd (let no : ⊥ = omega (arith, e, right.keeps, cause.breaks.0, cause.breaks.1) in no)
-read_free files source name (AnElf base size) (KeyLength count) right cause = absurd cause.breaks
-read_free files source name Anything (Elf fault) right cause = absurd cause.breaks
-read_free files source name AKey (Elf fault) right cause = absurd cause.breaks
-read_free files source name (AnElf base size) (Elf fault) right cause =
-    let faultless : IsFaultless base size cause.bytes = subst (λ bytes. IsFaultless base size bytes)
-    (one_file files name right.bytes cause.bytes right.is cause.is) right.keeps in
-    absurd (faultless fault cause.breaks.present)
+read_free files source name rule (KeyLength count) right cause =
+    wrong_free files source name rule (KeyLength count) right cause
+read_free files source name rule (Elf fault) right cause = wrong_free files source name rule (Elf fault) right cause
+read_free files source name rule (Assembler number kind) right cause =
+    wrong_free files source name rule (Assembler number kind) right cause
 read_free files source name rule Host right cause = inr refl
 read_free files source name rule NoMemory right cause = inl refl
 read_free files source name rule (Usage word) right cause = absurd cause
 read_free files source name rule (OutOfRange setting) right cause = absurd cause
+read_free files source name rule (NumberOutOfRange other) right cause = absurd cause
 
 write_free : (refusal : Refusal) → IsWriteCause refusal → HasNone refusal
 write_free Host cause = inr refl
@@ -158,12 +201,15 @@ write_free NoMemory cause = inl refl
 write_free (Usage word) cause = absurd cause
 write_free (OutOfRange setting) cause = absurd cause
 write_free (Elf fault) cause = absurd cause
+write_free (NumberOutOfRange name) cause = absurd cause
+write_free (Assembler number kind) cause = absurd cause
 write_free (KeyLength count) cause = absurd cause
 write_free (TooLong source) cause = absurd cause
 
 cause_free : (files : Files) (step : Step) (refusal : Refusal) → IsDone files step → IsCause files step refusal
     → HasNone refusal
 cause_free files (Judges settings) refusal done cause = setting_free settings files refusal done cause
+cause_free files (JudgesNumber name number) refusal done cause = number_free name number refusal done cause
 cause_free files (Reads source name rule) refusal done cause = read_free files source name rule refusal done cause
 cause_free files (Writes name bytes) refusal done cause = write_free refusal cause
 cause_free files (Prints text) refusal done cause = write_free refusal cause
@@ -194,42 +240,49 @@ still_told old None files e told = let t : is_some old ≡ true = ap (is_some {T
     (let no : ⊥ = cc in no)
 still_told old (Some after) files e told = (after, refl)
 
-after_free : (given : List Pair) (report : Report) (files : Files) (refusal : Refusal) (old new : HostState)
+-- what follows the work: a write or a print, or both
+after_free : (given : List Pair) (made : Made) (files : Files) (refusal : Refusal) (old new : HostState)
     → old.files ≡ Some files
-    → IsRefused (report_steps given report) refusal old new → IsFree refusal old.faults new.faults
-after_free given report files refusal old new told (inl refuses) = step_free files _ refusal old new tt told refuses
-after_free given report files refusal old new told (inr (mid, does, inl refuses)) =
+    → IsRefused (last_steps given made) refusal old new → IsFree refusal old.faults new.faults
+after_free given (Ran report) files refusal old new told (inl refuses) =
+    step_free files _ refusal old new tt told refuses
+after_free given (Ran report) files refusal old new told (inr (mid, does, inl refuses)) =
     let still = still_told old.files mid.files files (does.files.0).told told in
     free_later refusal old.faults mid.faults new.faults new.faults does.later (omega arith)
     (step_free still.0 _ refusal mid new tt still.1 refuses)
-after_free given report files refusal old new told (inr (mid, does, inr (end, print, none))) = absurd none
+after_free given (Ran report) files refusal old new told (inr (mid, does, inr (end, print, none))) = absurd none
+after_free given (Assembled file) files refusal old new told (inl refuses) =
+    step_free files _ refusal old new tt told refuses
+after_free given (Assembled file) files refusal old new told (inr (mid, does, none)) = absurd none
+after_free given (Listed text) files refusal old new told (inl refuses) =
+    step_free files _ refusal old new tt told refuses
+after_free given (Listed text) files refusal old new told (inr (mid, does, none)) = absurd none
 
 steps_free : (read : Read) (files : Files) (refusal : Refusal) (old new : HostState) → old.files ≡ Some files
     → AreRight read files
-    → StepsEnd (steps_of read.command read.given) read.given (Err refusal) old new
+    → WorkEnds read.command read.given (Err refusal) old new
     → IsFree refusal old.faults new.faults
 steps_free read files refusal old new told right (inl refused) =
     before_free files (steps_of read.command read.given) refusal old new (steps_reading read.command read.given)
     right told refused
 steps_free read files refusal old new told right (inr (at, done, inl (e, same))) = inl e
-steps_free read files refusal old new told right (inr (at, done, inr (report, flat, refused))) =
+steps_free read files refusal old new told right (inr (at, done, inr (made, meant, refused))) =
     let reading = steps_reading read.command read.given in
     free_later refusal old.faults at.faults new.faults new.faults
     (all_later (steps_of read.command read.given) old at done) (omega arith)
-    (after_free read.given report files refusal at new (all_files (steps_of read.command read.given) old at reading
+    (after_free read.given made files refusal at new (all_files (steps_of read.command read.given) old at reading
     done ∙ told) refused)
 
-pub completes : (read : Read) (files : Files) (status : ℕ) (end : Result Report Refusal) (old new : HostState)
+pub completes : (read : Read) (files : Files) (status : ℕ) (end : Result Made Refusal) (old new : HostState)
     → status ≡ status_of end → CommandEnds read end old new
     → old.files ≡ Some files → AreRight read files → ¬ Rose old.faults new.faults → Completes read files status old new
-completes read files status (Ok report) old new is (at, before, flat, after) told right safe =
+completes read files status (Ok made) old new is (at, before, meant, after) told right safe =
     let reading = steps_reading read.command read.given in
-    let e : report ≡ flat_report read.given files = flat files
+    let e : made ≡ made_of read.command read.given files = meant files
     (all_files (steps_of read.command read.given) old at reading before ∙ told) in
     inr (
-      is ∙ ap (λ (r : Report). status_of_ending r.ending) e,
-      subst
-          (λ (r : Report). CommandEnds read (Ok r) old new) e (at, before, flat, after),
+      is ∙ ap status_of_made e,
+      subst (λ m. CommandEnds read (Ok m) old new) e (at, before, meant, after),
     )
 completes read files status (Err end) old new is (refusal, mid, steps, tells) told right safe = go tells.same
     (steps_free read files refusal old mid told right steps)
@@ -256,11 +309,20 @@ wrong_not_long files source name rule refusal wrong longer =
     let e = ap length (one_file files name wrong.bytes (longer.0) wrong.is (longer.1)) in
     absurd (let no : ⊥ = omega (arith, e, wrong.within, longer.2) in no)
 
-key_not_elf : {P : Type 0} (rule : Rule) (x y : List ℕ) (count : ℕ) (fault : ElfFault)
-    → Breaks rule x (KeyLength count) → Breaks rule y (Elf fault) → P
-key_not_elf Anything x y count fault h k = absurd h
-key_not_elf AKey x y count fault h k = absurd k
-key_not_elf (AnElf base size) x y count fault h k = absurd h
+-- how a rule is broken gives one status
+breaks_agree : (rule : Rule) (x y : List ℕ) (a b : Refusal) → Breaks rule x a → Breaks rule y b
+    → status_of_refusal a ≡ status_of_refusal b
+breaks_agree AKey x y (KeyLength m) (KeyLength n) h k = refl
+breaks_agree (AnElf base size) x y (Elf m) (Elf n) h k = refl
+breaks_agree (AText at) x y (Assembler m one) (Assembler n other) h k = refl
+breaks_agree AKey x y (KeyLength m) b h k = absurd k
+breaks_agree (AnElf base size) x y (Elf m) b h k = absurd k
+breaks_agree (AText at) x y (Assembler m one) b h k = absurd k
+breaks_agree rule x y a b h k = absurd h
+
+wrong_agrees : (files : Files) (source : Source) (name : List ℕ) (rule : Rule) (a b : Refusal)
+    → IsWrong files source name rule a → IsWrong files source name rule b → Agrees a b
+wrong_agrees files source name rule a b h k = inr (breaks_agree rule h.bytes k.bytes a b h.breaks k.breaks)
 
 read_agrees : (files : Files) (source : Source) (name : List ℕ) (rule : Rule) (a b : Refusal)
     → IsReadCause files source name rule a
@@ -269,25 +331,43 @@ read_agrees files source name rule Host b h k of = inl (inr refl)
 read_agrees files source name rule NoMemory b h k of = inl (inl refl)
 read_agrees files source name rule (Usage word) b h k of = absurd h
 read_agrees files source name rule (OutOfRange setting) b h k of = absurd h
+read_agrees files source name rule (NumberOutOfRange number) b h k of = absurd h
 read_agrees files source name rule a Host h k of = absurd of
 read_agrees files source name rule a NoMemory h k of = absurd of
 read_agrees files source name rule a (Usage word) h k of = absurd k
 read_agrees files source name rule a (OutOfRange setting) h k of = absurd k
+read_agrees files source name rule a (NumberOutOfRange number) h k of = absurd k
 read_agrees files source name rule (TooLong other) (TooLong another) h k of = inr refl
-read_agrees files source name rule (TooLong other) (KeyLength count) h k of = wrong_not_long files source name rule
-    (KeyLength count) k (h.1)
-read_agrees files source name rule (TooLong other) (Elf fault) h k of = wrong_not_long files source name rule
-    (Elf fault) k (h.1)
-read_agrees files source name rule (KeyLength count) (TooLong other) h k of = wrong_not_long files source name rule
-    (KeyLength count) h (k.1)
-read_agrees files source name rule (KeyLength count) (KeyLength other) h k of = inr refl
-read_agrees files source name rule (KeyLength count) (Elf fault) h k of = key_not_elf rule h.bytes k.bytes count
-    fault h.breaks k.breaks
-read_agrees files source name rule (Elf fault) (TooLong other) h k of = wrong_not_long files source name rule
-    (Elf fault) h (k.1)
-read_agrees files source name rule (Elf fault) (KeyLength count) h k of = key_not_elf rule k.bytes h.bytes count
-    fault k.breaks h.breaks
-read_agrees files source name rule (Elf fault) (Elf other) h k of = inr refl
+read_agrees files source name rule (TooLong other) (KeyLength count) h k of =
+    wrong_not_long files source name rule (KeyLength count) k (h.1)
+read_agrees files source name rule (KeyLength count) (TooLong other) h k of =
+    wrong_not_long files source name rule (KeyLength count) h (k.1)
+read_agrees files source name rule (TooLong other) (Elf fault) h k of =
+    wrong_not_long files source name rule (Elf fault) k (h.1)
+read_agrees files source name rule (Elf fault) (TooLong other) h k of =
+    wrong_not_long files source name rule (Elf fault) h (k.1)
+read_agrees files source name rule (TooLong other) (Assembler number kind) h k of =
+    wrong_not_long files source name rule (Assembler number kind) k (h.1)
+read_agrees files source name rule (Assembler number kind) (TooLong other) h k of =
+    wrong_not_long files source name rule (Assembler number kind) h (k.1)
+read_agrees files source name rule (KeyLength count) (KeyLength length) h k of =
+    wrong_agrees files source name rule (KeyLength count) (KeyLength length) h k
+read_agrees files source name rule (KeyLength count) (Elf other) h k of =
+    wrong_agrees files source name rule (KeyLength count) (Elf other) h k
+read_agrees files source name rule (KeyLength count) (Assembler line problem) h k of =
+    wrong_agrees files source name rule (KeyLength count) (Assembler line problem) h k
+read_agrees files source name rule (Elf fault) (KeyLength length) h k of =
+    wrong_agrees files source name rule (Elf fault) (KeyLength length) h k
+read_agrees files source name rule (Elf fault) (Elf other) h k of =
+    wrong_agrees files source name rule (Elf fault) (Elf other) h k
+read_agrees files source name rule (Elf fault) (Assembler line problem) h k of =
+    wrong_agrees files source name rule (Elf fault) (Assembler line problem) h k
+read_agrees files source name rule (Assembler number kind) (KeyLength length) h k of =
+    wrong_agrees files source name rule (Assembler number kind) (KeyLength length) h k
+read_agrees files source name rule (Assembler number kind) (Elf other) h k of =
+    wrong_agrees files source name rule (Assembler number kind) (Elf other) h k
+read_agrees files source name rule (Assembler number kind) (Assembler line problem) h k of =
+    wrong_agrees files source name rule (Assembler number kind) (Assembler line problem) h k
 
 setting_agrees : (settings : Settings) (a b : Refusal) → IsSettingCause settings a → IsSettingCause settings b
     → IsOfFiles b → Agrees a b
@@ -297,17 +377,30 @@ setting_agrees settings (OutOfRange x) NoMemory h k of = absurd of
 setting_agrees settings (OutOfRange x) Host h k of = absurd of
 setting_agrees settings (OutOfRange x) (Usage word) h k of = absurd k
 setting_agrees settings (OutOfRange x) (Elf fault) h k of = absurd k
+setting_agrees settings (OutOfRange x) (NumberOutOfRange name) h k of = absurd k
+setting_agrees settings (OutOfRange x) (Assembler number kind) h k of = absurd k
 setting_agrees settings (OutOfRange x) (KeyLength count) h k of = absurd k
 setting_agrees settings (OutOfRange x) (TooLong source) h k of = absurd k
 setting_agrees settings Host b h k of = absurd h
 setting_agrees settings (Usage word) b h k of = absurd h
 setting_agrees settings (Elf fault) b h k of = absurd h
+setting_agrees settings (NumberOutOfRange name) b h k of = absurd h
+setting_agrees settings (Assembler number kind) b h k of = absurd h
 setting_agrees settings (KeyLength count) b h k of = absurd h
 setting_agrees settings (TooLong source) b h k of = absurd h
+
+number_agrees : (name : Name) (number : ℕ) (a b : Refusal) → IsNumberCause name number a → IsNumberCause name number b
+    → IsOfFiles b → Agrees a b
+number_agrees name number NoMemory b h k of = inl (inl refl)
+number_agrees name number (NumberOutOfRange x) (NumberOutOfRange y) h k of = inr refl
+number_agrees name number (NumberOutOfRange x) NoMemory h k of = absurd of
+number_agrees name number (NumberOutOfRange x) b h k of = absurd k
+number_agrees name number a b h k of = absurd h
 
 cause_agrees : (files : Files) (step : Step) (a b : Refusal) → IsCause files step a → IsCause files step b
     → IsOfFiles b → Agrees a b
 cause_agrees files (Judges settings) a b h k of = setting_agrees settings a b h k of
+cause_agrees files (JudgesNumber name number) a b h k of = number_agrees name number a b h k of
 cause_agrees files (Reads source name rule) a b h k of = read_agrees files source name rule a b h k of
 cause_agrees files (Writes name bytes) a b h k of = of_files_not_free b of (write_free b k)
 cause_agrees files (Prints text) a b h k of = of_files_not_free b of (write_free b k)
@@ -349,18 +442,18 @@ module _ (files : Files) (refusal : Refusal) (of : IsOfFiles refusal) where
       go (inr e) = inr e
 
 -- where a refusal comes first over the files, and the host never fails, it gives the status
-pub refuses_first : (read : Read) (files : Files) (refusal : Refusal) (status : ℕ) (end : Result Report Refusal)
+pub refuses_first : (read : Read) (files : Files) (refusal : Refusal) (status : ℕ) (end : Result Made Refusal)
     (old new : HostState) → status ≡ status_of end
     → CommandEnds read end old new → old.files ≡ Some files → IsOfFiles refusal
     → IsFirstRefusal files (steps_of read.command read.given) refusal
     → ¬ Rose old.faults new.faults → (status ≡ 11) ⊎ (status ≡ status_of_refusal refusal)
-refuses_first read files refusal status (Ok report) old new is (at, before, flat, after) told of first safe =
+refuses_first read files refusal status (Ok made) old new is (at, before, meant, after) told of first safe =
     absurd (never_done files refusal of (steps_of read.command read.given) old at
     (steps_reading read.command read.given) told before first)
 refuses_first read files refusal status (Err end) old new is (other, mid, steps, tells) told of first safe = go
     tells.same (ends steps)
   where
-    ends : StepsEnd (steps_of read.command read.given) read.given (Err other) old mid
+    ends : WorkEnds read.command read.given (Err other) old mid
         → IsFree other old.faults mid.faults ⊎ (status_of_refusal other ≡ status_of_refusal refusal)
     ends (inl refused) = refused_first files refusal of (steps_of read.command read.given) other old mid
         (steps_reading read.command read.given) told refused first
@@ -375,3 +468,20 @@ refuses_first read files refusal status (Err end) old new is (other, mid, steps,
     go (inl same) (inl (inl none)) = inl (is ∙ ap status_of_refusal (same ∙ none))
     go (inl same) (inl (inr (host, rose))) = absurd (safe (omega (arith, rose, tells.later)))
     go (inl same) (inr e) = inr (is ∙ ap status_of_refusal same ∙ e)
+
+-- the end of one command's work is a command's
+module _ {A : Type 0} (make : A → Made) (after : A → List Step) (meant : Files → A) (given : List Pair)
+    (before : List Step) (same : (made : A) → after made ≡ last_steps given (make made)) where
+  pub lift_ends : (end : Result A Refusal) (old new : HostState) → StepsEnd before after meant end old new
+      → StepsEnd before (last_steps given) (λ files. make (meant files)) (lifted make end) old new
+  lift_ends (Ok made) old new (at, done, told, last) = (
+    at,
+    done,
+    (λ files is. ap make (told files is)),
+    subst (λ steps. AllDone steps at new) (same made) last,
+  )
+  lift_ends (Err refusal) old new (inl refused) = inl refused
+  lift_ends (Err refusal) old new (inr (at, done, inl lost)) = inr (at, done, inl lost)
+  lift_ends (Err refusal) old new (inr (at, done, inr (made, told, refused))) =
+      inr (at, done, inr (make made, (λ files is. ap make (told files is)),
+      subst (λ steps. IsRefused steps refusal at new) (same made) refused))

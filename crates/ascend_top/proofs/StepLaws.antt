@@ -14,10 +14,13 @@ use Rattle.asc_outside.specs.declared.host.HostFault.TheVariants.{NoMemory as Ou
 use Rattle.elf_loader.specs.declared.fault.ElfFault.{ElfFault}
 use Rattle.ascend_top.specs.FlatRun.{bytes_in}
 use Rattle.ascend_top.specs.Parts.{WasRead, unread, unwritten}
-use Rattle.ascend_top.specs.Steps.{AsksMore, PrintsMore, Breaks, Keeps, Does, Refuses, Rule, Judges, Reads, Writes}
-use Rattle.ascend_top.specs.Steps.{Prints, IsWrong, limit_of}
+use Rattle.ascend_top.specs.Steps.{AsksMore, PrintsMore, Breaks, Keeps, Does, Refuses, Rule, Judges, JudgesNumber, Reads, Writes}
+use Rattle.ascend_top.specs.Steps.{Prints, IsInRange, IsWrong, limit_of}
+use Rattle.ascend_words.specs.declared.table.Name.{Name}
+use Rattle.rv32_asm.specs.declared.fault.AsmKind.{AsmKind}
 use Rattle.ascend_top.specs.declared.refusal.Refusal.{Refusal}
 use Rattle.ascend_top.specs.declared.refusal.Refusal.TheVariants.{OutOfRange, Elf, KeyLength, NoMemory}
+use Rattle.ascend_top.specs.declared.refusal.Refusal.TheVariants.{NumberOutOfRange, Assembler}
 use Rattle.ascend_top.specs.declared.refusal.Source.{Source}
 
 -- what holds of the value that is there
@@ -48,6 +51,28 @@ pub misjudged : (settings : Settings) (setting : Setting) (state : HostState) �
     → Refuses (Judges settings) (OutOfRange setting) state state
 misjudged settings setting state first = record {
   cause = λ files told. first;
+  fault = λ e. absurd (let no : ⊥ = cc in no);
+  files = refl;
+  printed = refl;
+  later = omega arith;
+  asked = asks_none state.asked state.asked refl;
+}
+
+-- the number of a name was judged
+pub number_judged : (name : Name) (number : ℕ) (state : HostState) → IsInRange name number
+    → Does (JudgesNumber name number) state state
+number_judged name number state within = record {
+  done = λ files told. within;
+  files = refl;
+  printed = prints_none state.printed state.printed refl;
+  later = omega arith;
+  asked = asks_none state.asked state.asked refl;
+}
+
+pub number_misjudged : (name : Name) (number : ℕ) (state : HostState) → ¬ IsInRange name number
+    → Refuses (JudgesNumber name number) (NumberOutOfRange name) state state
+number_misjudged name number state beyond = record {
+  cause = λ files told. (refl, beyond);
   fault = λ e. absurd (let no : ⊥ = cc in no);
   files = refl;
   printed = refl;
@@ -142,6 +167,17 @@ module _ (source : Source) (name bytes : List ℕ) (rule : Rule) (old new : Host
       → Refuses (Reads source name rule) (Elf fault) old new
   elf_faulty fault breaks = record {
     cause = wrong (Elf fault) breaks;
+    fault = λ e. absurd (let no : ⊥ = cc in no);
+    files = read.files;
+    printed = read.printed;
+    later = read.later;
+    asked = read.asked;
+  }
+
+  pub text_faulty : (number : ℕ) (kind : AsmKind) → Breaks rule bytes (Assembler number kind)
+      → Refuses (Reads source name rule) (Assembler number kind) old new
+  text_faulty number kind breaks = record {
+    cause = wrong (Assembler number kind) breaks;
     fault = λ e. absurd (let no : ⊥ = cc in no);
     files = read.files;
     printed = read.printed;

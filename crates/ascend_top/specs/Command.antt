@@ -6,37 +6,63 @@ use Rattle.asc_outside.specs.Host.{HostCall, Prints as PrintsText, HostState, Fi
 use Rattle.asc_outside.specs.Rose.{Rose}
 use Rattle.ascend_words.specs.Grammar.{Pair, Read}
 use Rattle.ascend_words.specs.declared.table.Command.{Command}
-use Rattle.ascend_words.specs.declared.table.Command.TheVariants.{Run, Flat}
+use Rattle.ascend_words.specs.declared.table.Command.TheVariants.{Run, Flat, Asm, Disasm}
+use Rattle.ascend_top.specs.Asm.{asm_steps, asm_file, write_steps}
+use Rattle.ascend_top.specs.Disasm.{disasm_steps, disasm_listing, print_steps}
 use Rattle.ascend_top.specs.Flat.{flat_steps, report_steps}
 use Rattle.ascend_top.specs.FlatRun.{Report, flat_report, outcome_report}
+use Rattle.ascend_top.specs.Made.{Made, Ran, Assembled, Listed}
 use Rattle.ascend_top.specs.Run.{run_steps}
-use Rattle.ascend_top.specs.Status.{status_of_ending}
+use Rattle.ascend_top.specs.Status.{status_of_made}
 use Rattle.ascend_top.specs.Steps.{AllDone, AsksMore, IsCause, IsDone, IsRefused, PrintsMore, Step}
 use Rattle.ascend_top.specs.Texts.{refusal_text}
 use Rattle.ascend_top.specs.declared.commands.flat.Outcome.{Outcome}
+use Rattle.ascend_top.specs.declared.commands.Product.{Product}
+use Rattle.ascend_top.specs.declared.commands.Product.TheVariants as product
 use Rattle.ascend_top.specs.declared.refusal.Refusal.{Refusal}
 use Rattle.ascend_top.specs.declared.refusal.Refusal.TheVariants.{Usage, OutOfRange, Elf, KeyLength, TooLong, Host}
-use Rattle.ascend_top.specs.declared.refusal.Refusal.TheVariants.{NoMemory}
+use Rattle.ascend_top.specs.declared.refusal.Refusal.TheVariants.{NoMemory, NumberOutOfRange, Assembler}
 
--- the steps of a command before its run
+-- the steps of a command before its work: before a run, and before what was read is assembled or listed
 abbrev pub steps_of : Command → List Pair → List Step
 steps_of Run given = run_steps given
 steps_of Flat given = flat_steps given
+steps_of Asm given = asm_steps given
+steps_of Disasm given = disasm_steps given
 
--- The steps and the run end so. All steps were done with the run's report: its output is the output file, and its text
--- is printed. Or one before the run was refused; or there was no memory for the run; or one after it was refused. Where
--- files are told the report is always that of the flat run.
-abbrev pub StepsEnd : List Step → List Pair → Result Report Refusal → HostState → HostState → Type 0
-StepsEnd before given (Ok report) old new =
-    (at : HostState) × AllDone before old at × ((files : Files) → at.files ≡ Some files
-    → report ≡ flat_report given files)
-    × AllDone (report_steps given report) at new
-StepsEnd before given (Err refusal) old new =
+-- what its work comes to over these files
+abbrev pub made_of : Command → List Pair → Files → Made
+made_of Run given files = Ran (flat_report given files)
+made_of Flat given files = Ran (flat_report given files)
+made_of Asm given files = Assembled (asm_file given files)
+made_of Disasm given files = Listed (disasm_listing given files)
+
+-- the steps after it
+abbrev pub last_steps : List Pair → Made → List Step
+last_steps given (Ran report) = report_steps given report
+last_steps given (Assembled file) = write_steps given file
+last_steps given (Listed text) = print_steps text
+
+-- The steps and the work between them end so. All steps were done, with what the work made. Or one before the work was
+-- refused; or there was no memory for the work; or one after it was refused. Where files are told the work always made
+-- what is meant.
+abbrev pub StepsEnd : {A : Type 0} → List Step → (A → List Step) → (Files → A) → Result A Refusal
+    → HostState → HostState
+    → Type 0
+StepsEnd before after meant (Ok made) old new =
+    (at : HostState) × AllDone before old at × ((files : Files) → at.files ≡ Some files → made ≡ meant files)
+    × AllDone (after made) at new
+StepsEnd {A} before after meant (Err refusal) old new =
     IsRefused before refusal old new
     ⊎ ((at : HostState) × AllDone before old at
     × (((refusal ≡ NoMemory) × (new ≡ at))
-    ⊎ ((report : Report) × ((files : Files) → at.files ≡ Some files → report ≡ flat_report given files)
-    × IsRefused (report_steps given report) refusal at new)))
+    ⊎ ((made : A) × ((files : Files) → at.files ≡ Some files → made ≡ meant files)
+    × IsRefused (after made) refusal at new)))
+
+-- the same of a command's own steps and work
+abbrev pub WorkEnds : Command → List Pair → Result Made Refusal → HostState → HostState → Type 0
+WorkEnds command given end old new =
+    StepsEnd (steps_of command given) (last_steps given) (made_of command given) end old new
 
 -- the print of a text, if there is one
 abbrev pub print_calls : Option (List ℕ) → List HostCall
@@ -57,15 +83,14 @@ pub record Tells (refusal end : Refusal) (old new : HostState) : Type 0 where
   pub asked : AsksMore old.asked (print_calls (refusal_text end)) new.asked
   pub printed : TextPrinted refusal (refusal_text end) old new
 
--- A command ends so: with the report of its run, or after a refusal's text.
-abbrev pub CommandEnds : Read → Result Report Refusal → HostState → HostState → Type 0
-CommandEnds read (Ok report) old new = StepsEnd (steps_of read.command read.given) read.given (Ok report) old new
+-- A command ends so: with what its work made, or after a refusal's text.
+abbrev pub CommandEnds : Read → Result Made Refusal → HostState → HostState → Type 0
+CommandEnds read (Ok made) old new = WorkEnds read.command read.given (Ok made) old new
 CommandEnds read (Err end) old new =
-    (refusal : Refusal) × (mid : HostState) × StepsEnd (steps_of read.command read.given) read.given (Err refusal)
-    old mid
+    (refusal : Refusal) × (mid : HostState) × WorkEnds read.command read.given (Err refusal) old mid
     × Tells refusal end mid new
 
--- over these files nothing is refused before the run
+-- over these files nothing is refused before the work
 abbrev pub AreRight : Read → Files → Type 0
 AreRight read files = AllByRecursion (IsDone files) (steps_of read.command read.given)
 
@@ -75,6 +100,8 @@ IsOfFiles Host = ⊥
 IsOfFiles NoMemory = ⊥
 IsOfFiles (Usage word) = Unit {0}
 IsOfFiles (OutOfRange setting) = Unit {0}
+IsOfFiles (NumberOutOfRange name) = Unit {0}
+IsOfFiles (Assembler number kind) = Unit {0}
 IsOfFiles (Elf fault) = Unit {0}
 IsOfFiles (KeyLength length) = Unit {0}
 IsOfFiles (TooLong source) = Unit {0}
@@ -85,15 +112,36 @@ IsFirstRefusal files [] refusal = ⊥
 IsFirstRefusal files (step ∷ steps) refusal =
     IsCause files step refusal ⊎ (IsDone files step × IsFirstRefusal files steps refusal)
 
--- What a command comes to whose files are right and whose host never fails: its steps are all done with the flat run's
--- report, or there is no memory.
+-- What a command comes to whose files are right and whose host never fails: its steps are all done with what its work
+-- is meant to make, or there is no memory.
 abbrev pub Completes : Read → Files → ℕ → HostState → HostState → Type 0
 Completes read files status old new =
     (status ≡ 11)
-    ⊎ ((status ≡ status_of_ending (flat_report read.given files).ending)
-    × CommandEnds read (Ok (flat_report read.given files)) old new)
+    ⊎ ((status ≡ status_of_made (made_of read.command read.given files))
+    × CommandEnds read (Ok (made_of read.command read.given files)) old new)
 
--- what a command came to, as its end
-abbrev pub end_of : Result Outcome Refusal → Result Report Refusal
-end_of (Ok outcome) = Ok (outcome_report outcome)
+-- what a run came to, as its end
+abbrev pub run_end : Result Outcome Refusal → Result Report Refusal
+run_end (Ok outcome) = Ok (outcome_report outcome)
+run_end (Err refusal) = Err refusal
+
+-- what a command came to
+abbrev pub made_by : Product → Made
+made_by (product.Ran outcome) = Ran (outcome_report outcome)
+made_by (product.Assembled file) = Assembled file.items
+made_by (product.Listed text) = Listed text.items
+
+-- the same as its end
+abbrev pub end_of : Result Product Refusal → Result Made Refusal
+end_of (Ok product) = Ok (made_by product)
 end_of (Err refusal) = Err refusal
+
+-- the end of work that comes to bytes
+abbrev pub bytes_end : {R : Type 0} → (R → List ℕ) → Result R Refusal → Result (List ℕ) Refusal
+bytes_end bytes_of (Ok made) = Ok (bytes_of made)
+bytes_end bytes_of (Err refusal) = Err refusal
+
+-- the end of one command's work, as a command's
+abbrev pub lifted : {A : Type 0} → (A → Made) → Result A Refusal → Result Made Refusal
+lifted make (Ok made) = Ok (make made)
+lifted make (Err refusal) = Err refusal

@@ -1,6 +1,10 @@
+pub mod Asm
+pub mod Assembled
 pub mod Command
+pub mod Disasm
 pub mod Flat
 pub mod FlatRun
+pub mod Made
 pub mod Parts
 pub mod Run
 pub mod Status

@@ -73,10 +73,10 @@ pub record EndsAs (run : FlatRun) (instructions : ℕ) (end : Ending) (output : 
   pub ending : ending_of end ≡ run.ending
   pub written : output ≡ run.machine.files.output
 
--- The run and the steps after it end so, where this is the run's report: all were done, or there was no memory for the
+-- A run and the steps after it end so, where this is the run's report: all were done, or there was no memory for the
 -- run, or one was refused.
-abbrev pub WorkEnds : List Pair → Report → Result Report Refusal → HostState → HostState → Type 0
-WorkEnds given expected (Ok report) old new = (report ≡ expected) × AllDone (report_steps given report) old new
-WorkEnds given expected (Err refusal) old new =
+abbrev pub RunEnds : List Pair → Report → Result Report Refusal → HostState → HostState → Type 0
+RunEnds given expected (Ok report) old new = (report ≡ expected) × AllDone (report_steps given report) old new
+RunEnds given expected (Err refusal) old new =
     ((refusal ≡ NoMemory) × (new ≡ old))
     ⊎ ((report : Report) × (report ≡ expected) × IsRefused (report_steps given report) refusal old new)

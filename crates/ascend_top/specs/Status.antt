@@ -1,10 +1,10 @@
 -- The status of a command, by how it ends.
 use Rattle.std.specs.Prelude.{ℕ, Result, Ok, Err}
 use Rattle.rv32_core.specs.FlatRun.{FlatEnding, Exited, Trapped, Budget}
-use Rattle.ascend_top.specs.FlatRun.{Report}
+use Rattle.ascend_top.specs.Made.{Made, Ran, Assembled, Listed}
 use Rattle.ascend_top.specs.declared.refusal.Refusal.{Refusal}
 use Rattle.ascend_top.specs.declared.refusal.Refusal.TheVariants.{Usage, OutOfRange, Elf, KeyLength, TooLong, Host}
-use Rattle.ascend_top.specs.declared.refusal.Refusal.TheVariants.{NoMemory}
+use Rattle.ascend_top.specs.declared.refusal.Refusal.TheVariants.{NoMemory, NumberOutOfRange, Assembler}
 
 -- the status of a command whose run ended so
 abbrev pub status_of_ending : FlatEnding → ℕ
@@ -17,12 +17,20 @@ abbrev pub status_of_refusal : Refusal → ℕ
 status_of_refusal (Usage word) = 2
 status_of_refusal (Elf fault) = 3
 status_of_refusal (OutOfRange setting) = 4
+status_of_refusal (NumberOutOfRange name) = 4
+status_of_refusal (Assembler number kind) = 4
 status_of_refusal (KeyLength length) = 4
 status_of_refusal Host = 5
 status_of_refusal NoMemory = 11
 status_of_refusal (TooLong source) = 13
 
+-- the status of a command that came to this
+abbrev pub status_of_made : Made → ℕ
+status_of_made (Ran report) = status_of_ending report.ending
+status_of_made (Assembled file) = 0
+status_of_made (Listed text) = 0
+
 -- the status of a command that ends so
-abbrev pub status_of : Result Report Refusal → ℕ
-status_of (Ok report) = status_of_ending report.ending
+abbrev pub status_of : Result Made Refusal → ℕ
+status_of (Ok made) = status_of_made made
 status_of (Err refusal) = status_of_refusal refusal

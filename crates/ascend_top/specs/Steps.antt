@@ -1,17 +1,22 @@
 -- The steps of commands. Each has the call that it asks of the host, what it takes to be done, and the refusals that it
 -- may end with, each with its cause.
-use Rattle.std.specs.Prelude.{◌≡◌, ◌⊎◌, ℕ, ◌≤◌, ◌<◌, List, [], ◌∷◌, ◌++◌, length, Option, Some, IfSome, option_map}
+use Rattle.std.specs.Prelude.{◌≡◌, ◌⊎◌, ℕ, ◌≤◌, ◌<◌, ◌%◌, IsOk, Err, List, [], ◌∷◌, ◌++◌, length, Option, Some, IfSome, option_map}
 use Rattle.asc_base.specs.Settings.{AreAllowed, IsFirstFault as IsFirstSetting}
 use Rattle.asc_base.specs.declared.settings.Settings.{Settings}
 use Rattle.asc_outside.specs.Host.{HostCall, Reads as ReadsFile, Writes as WritesFile, Prints as PrintsText}
 use Rattle.asc_outside.specs.Host.{HostState, Files, IsLonger, OthersStay}
 use Rattle.asc_outside.specs.Rose.{Rose}
 use Rattle.elf_loader.specs.Faults.{IsFaultless, IsFirstFault}
+use Rattle.rv32_asm.specs.File.{assembled}
+use Rattle.rv32_asm.specs.declared.fault.AsmFault.TheVariants.{Bad}
+use Rattle.ascend_words.specs.declared.table.Name.{Name}
+use Rattle.ascend_words.specs.declared.table.Name.TheVariants.{At}
 use Rattle.ascend_top.specs.declared.refusal.Refusal.{Refusal}
 use Rattle.ascend_top.specs.declared.refusal.Refusal.TheVariants.{Usage, OutOfRange, Elf, KeyLength, TooLong, Host}
-use Rattle.ascend_top.specs.declared.refusal.Refusal.TheVariants.{NoMemory}
+use Rattle.ascend_top.specs.declared.refusal.Refusal.TheVariants.{NoMemory, NumberOutOfRange, Assembler}
 use Rattle.ascend_top.specs.declared.refusal.Source.{Source}
 use Rattle.ascend_top.specs.declared.refusal.Source.TheVariants.{Key as KeyFile, Elf as ElfFile, Input as InputFile}
+use Rattle.ascend_top.specs.declared.refusal.Source.TheVariants.{Text as TextFile}
 
 -- the length of a key, in bytes
 abbrev pub key_length : ℕ
@@ -22,29 +27,40 @@ abbrev pub limit_of : Source → ℕ
 limit_of KeyFile = key_length
 limit_of ElfFile = 16777216
 limit_of InputFile = 1048576
+limit_of TextFile = 4194304
 
--- what the bytes of a file that is read have to be: anything, a key, or an ELF file for a memory
+-- what the bytes of a file that is read have to be: anything, a key, an ELF file for a memory, or the text of a program
+-- that begins at a place
 pub data Rule : Type 0 where
   Anything : Rule
   AKey : Rule
   AnElf : (base size : ℕ) → Rule
+  AText : (at : ℕ) → Rule
 
 -- bytes keep a rule
 abbrev pub Keeps : Rule → List ℕ → Type 0
 Keeps Anything bytes = Unit {0}
 Keeps AKey bytes = length bytes ≡ key_length
 Keeps (AnElf base size) bytes = IsFaultless base size bytes
+Keeps (AText at) bytes = IsOk (assembled at bytes)
 
 -- bytes break a rule, and this refusal says how
 abbrev pub Breaks : Rule → List ℕ → Refusal → Type 0
 Breaks AKey bytes (KeyLength count) = (length bytes ≡ count) × (count < key_length)
 Breaks (AnElf base size) bytes (Elf fault) = IsFirstFault base size bytes fault
+Breaks (AText at) bytes (Assembler number kind) = assembled at bytes ≡ Err (Bad number kind)
 Breaks rule bytes refusal = ⊥
 
--- A step of a command: it judges the settings, reads the file of this name, writes these bytes to the file of this
--- name, or prints this text.
+-- the numbers that a name may be given: a place is a multiple of four below 4,294,901,760
+abbrev pub IsInRange : Name → ℕ → Type 0
+IsInRange At number = (number % 4 ≡ 0) × (number < 4_294_901_760)
+IsInRange name number = Unit {0}
+
+-- A step of a command: it judges the settings, judges the number of a name, reads the file of this name, writes these
+-- bytes to the file of this name, or prints this text.
 pub data Step : Type 0 where
   Judges : Settings → Step
+  JudgesNumber : Name → (number : ℕ) → Step
   Reads : Source → (name : List ℕ) → Rule → Step
   Writes : (name bytes : List ℕ) → Step
   Prints : (text : List ℕ) → Step
@@ -52,6 +68,7 @@ pub data Step : Type 0 where
 -- the call that a step asks of the host, if it asks one
 abbrev pub calls_of : Step → List HostCall
 calls_of (Judges settings) = []
+calls_of (JudgesNumber name number) = []
 calls_of (Reads source name rule) = ReadsFile name ∷ []
 calls_of (Writes name bytes) = WritesFile name ∷ []
 calls_of (Prints text) = PrintsText ∷ []
@@ -59,6 +76,7 @@ calls_of (Prints text) = PrintsText ∷ []
 -- what a step prints
 abbrev pub print_of : Step → List ℕ
 print_of (Judges settings) = []
+print_of (JudgesNumber name number) = []
 print_of (Reads source name rule) = []
 print_of (Writes name bytes) = []
 print_of (Prints text) = text
@@ -80,6 +98,7 @@ pub record IsWrong (files : Files) (source : Source) (name : List ℕ) (rule : R
 -- what it takes over these files that a step is done
 abbrev pub IsDone : Files → Step → Type 0
 IsDone files (Judges settings) = AreAllowed settings
+IsDone files (JudgesNumber name number) = IsInRange name number
 IsDone files (Reads source name rule) = IsRight files source name rule
 IsDone files (Writes name bytes) = Unit {0}
 IsDone files (Prints text) = Unit {0}
@@ -89,16 +108,24 @@ abbrev pub IsReadCause : Files → Source → List ℕ → Rule → Refusal → 
 IsReadCause files source name rule (TooLong other) = (other ≡ source) × IsLonger files name (limit_of source)
 IsReadCause files source name rule (KeyLength count) = IsWrong files source name rule (KeyLength count)
 IsReadCause files source name rule (Elf fault) = IsWrong files source name rule (Elf fault)
+IsReadCause files source name rule (Assembler number kind) = IsWrong files source name rule (Assembler number kind)
 IsReadCause files source name rule Host = Unit {0}
 IsReadCause files source name rule NoMemory = Unit {0}
 IsReadCause files source name rule (Usage word) = ⊥
 IsReadCause files source name rule (OutOfRange setting) = ⊥
+IsReadCause files source name rule (NumberOutOfRange other) = ⊥
 
 -- a setting that isn't in its range is named, the first of the settings' table
 abbrev pub IsSettingCause : Settings → Refusal → Type 0
 IsSettingCause settings (OutOfRange setting) = IsFirstSetting settings setting
 IsSettingCause settings NoMemory = Unit {0}
 IsSettingCause settings refusal = ⊥
+
+-- a number that isn't in its name's range
+abbrev pub IsNumberCause : Name → ℕ → Refusal → Type 0
+IsNumberCause name number (NumberOutOfRange other) = (other ≡ name) × ¬ IsInRange name number
+IsNumberCause name number NoMemory = Unit {0}
+IsNumberCause name number refusal = ⊥
 
 -- a write and a print are refused where the host fails or there is no memory
 abbrev pub IsWriteCause : Refusal → Type 0
@@ -109,6 +136,7 @@ IsWriteCause refusal = ⊥
 -- the cause over these files of a step's refusal
 abbrev pub IsCause : Files → Step → Refusal → Type 0
 IsCause files (Judges settings) refusal = IsSettingCause settings refusal
+IsCause files (JudgesNumber name number) refusal = IsNumberCause name number refusal
 IsCause files (Reads source name rule) refusal = IsReadCause files source name rule refusal
 IsCause files (Writes name bytes) refusal = IsWriteCause refusal
 IsCause files (Prints text) refusal = IsWriteCause refusal
@@ -124,6 +152,7 @@ PrintsMore old text new = new ≡ option_map (λ before. before ++ text) old
 -- what a step that is done leaves of the files: a write puts its bytes there, every other leaves all as they were
 abbrev pub LeavesFiles : Step → Option Files → Option Files → Type 0
 LeavesFiles (Judges settings) old new = new ≡ old
+LeavesFiles (JudgesNumber name number) old new = new ≡ old
 LeavesFiles (Reads source name rule) old new = new ≡ old
 LeavesFiles (Writes name bytes) old new = OthersStay name old new × IfSome new (λ files. files name ≡ Some bytes)
 LeavesFiles (Prints text) old new = new ≡ old
@@ -139,6 +168,7 @@ pub record Does (step : Step) (old new : HostState) : Type 0 where
 -- what a step that is refused leaves of the files: after a refused write nothing is said of its one file
 abbrev pub SparesFiles : Step → Option Files → Option Files → Type 0
 SparesFiles (Judges settings) old new = new ≡ old
+SparesFiles (JudgesNumber name number) old new = new ≡ old
 SparesFiles (Reads source name rule) old new = new ≡ old
 SparesFiles (Writes name bytes) old new = OthersStay name old new
 SparesFiles (Prints text) old new = new ≡ old
@@ -146,6 +176,7 @@ SparesFiles (Prints text) old new = new ≡ old
 -- what a step that is refused leaves printed: after a refused print nothing is said of it
 abbrev pub SparesPrinted : Step → Option (List ℕ) → Option (List ℕ) → Type 0
 SparesPrinted (Judges settings) old new = new ≡ old
+SparesPrinted (JudgesNumber name number) old new = new ≡ old
 SparesPrinted (Reads source name rule) old new = new ≡ old
 SparesPrinted (Writes name bytes) old new = new ≡ old
 SparesPrinted (Prints text) old new = Unit {0}

@@ -15,15 +15,18 @@ use Rattle.rv32_core.specs.declared.outcome.TrapKind.TheVariants.{FetchFault, Il
 use Rattle.rv32_core.specs.declared.outcome.TrapKind.TheVariants.{LoadMisaligned, StoreMisaligned, LoadFault}
 use Rattle.rv32_core.specs.declared.outcome.TrapKind.TheVariants.{StoreFault, Breakpoint, OutputLimit}
 use Rattle.rv32_core.specs.FlatRun.{FlatEnding, Exited, Trapped, Budget}
+use Rattle.rv32_asm.specs.declared.fault.AsmKind.{AsmKind}
+use Rattle.rv32_asm.specs.declared.fault.AsmKind.TheVariants as asm_kind
 use Rattle.ascend_words.specs.Tables.{name_text}
 use Rattle.ascend_words.specs.declared.table.Name.{Name}
-use Rattle.ascend_words.specs.declared.table.Name.TheVariants.{Key, Elf as ElfName, Input}
+use Rattle.ascend_words.specs.declared.table.Name.TheVariants.{Key, Elf as ElfName, Input, Text}
 use Rattle.ascend_top.specs.FlatRun.{Report}
 use Rattle.ascend_top.specs.declared.refusal.Refusal.{Refusal}
 use Rattle.ascend_top.specs.declared.refusal.Refusal.TheVariants.{Usage, OutOfRange, Elf, KeyLength, TooLong, Host}
-use Rattle.ascend_top.specs.declared.refusal.Refusal.TheVariants.{NoMemory}
+use Rattle.ascend_top.specs.declared.refusal.Refusal.TheVariants.{NoMemory, NumberOutOfRange, Assembler}
 use Rattle.ascend_top.specs.declared.refusal.Source.{Source}
 use Rattle.ascend_top.specs.declared.refusal.Source.TheVariants.{Key as KeyFile, Elf as ElfFile, Input as InputFile}
+use Rattle.ascend_top.specs.declared.refusal.Source.TheVariants.{Text as TextFile}
 
 -- a line with this text
 abbrev pub line : List ℕ → List ℕ
@@ -87,16 +90,33 @@ setting_text Rates = codes "rates"
 setting_text First = codes "first"
 setting_text Epoch = codes "epoch"
 
+-- what is wrong in a line of a text that is assembled, as it is printed
+abbrev pub asm_kind_text : AsmKind → List ℕ
+asm_kind_text asm_kind.Byte = codes "Byte"
+asm_kind_text asm_kind.Label = codes "Label"
+asm_kind_text asm_kind.Word = codes "Word"
+asm_kind_text asm_kind.Operands = codes "Operands"
+asm_kind_text asm_kind.TooLong = codes "TooLong"
+asm_kind_text asm_kind.Unknown = codes "Unknown"
+asm_kind_text asm_kind.Range = codes "Range"
+
+-- the line of its fault
+abbrev pub asm_line : ℕ → AsmKind → List ℕ
+asm_line number kind = codes "asm line " ++ (decimal number ++ (codes " " ++ line (asm_kind_text kind)))
+
 -- the name that a file that is read is given by
 abbrev pub name_of : Source → Name
 name_of KeyFile = Key
 name_of ElfFile = ElfName
 name_of InputFile = Input
+name_of TextFile = Text
 
 -- what is printed of a refusal, if anything is
 abbrev pub refusal_text : Refusal → Option (List ℕ)
 refusal_text (Usage word) = Some (line (codes "usage word " ++ decimal word))
 refusal_text (OutOfRange setting) = Some (line (codes "setting " ++ setting_text setting))
+refusal_text (NumberOutOfRange name) = Some (line (codes "setting " ++ name_text name))
+refusal_text (Assembler number kind) = Some (asm_line number kind)
 refusal_text (Elf fault) = Some (line (codes "elf " ++ fault_text fault))
 refusal_text (KeyLength length) = Some (line (codes "key length " ++ decimal length))
 refusal_text (TooLong source) = Some (line (codes "long " ++ name_text (name_of source)))

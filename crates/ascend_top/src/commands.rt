@@ -1,11 +1,71 @@
 //! The commands, each with its steps.
 ghost use Rattle.std.specs.Prelude.{◌≡◌};
+ghost use Rattle.ascend_top.specs.Command.{bytes_end, end_of, lifted, made_by, run_end};
 ghost use Rattle.ascend_top.specs.FlatRun.{file_in};
+ghost use Rattle.ascend_top.specs.Made.{Ran, Assembled, Listed};
+ghost use Rattle.ascend_top.specs.Status.{status_of_made};
 
+pub(crate) mod asm;
+pub(crate) mod disasm;
 pub(crate) mod flat;
 pub(crate) mod run;
 
+use crate::commands::flat::Outcome;
+use crate::refusal::Refusal;
 use ascend_words::{Name, Words};
+
+/// What a command made, all of whose steps were done.
+#[derive(Debug, Drop)]
+pub(crate) enum Product {
+    /// What a run came to.
+    Ran(Outcome),
+    /// The file of an assembled text.
+    Assembled(Vec<u8>),
+    /// The lines of a program's statements.
+    Listed(Vec<u8>),
+}
+
+impl Product {
+    /// The status of a command that made this.
+    pub(crate) fn status(&self) -> u8
+        ensures { result ≡ status_of_made (made_by self.now) }
+    {
+        match self {
+            Product::Ran(outcome) => outcome.ending.status(),
+            Product::Assembled(_) | Product::Listed(_) => 0,
+        }
+    }
+}
+
+/// A run's end as a command's.
+pub(crate) fn ran(end: Result<Outcome, Refusal>) -> Result<Product, Refusal>
+    ensures { end_of result ≡ lifted Ran (run_end end) }
+{
+    match end {
+        Ok(outcome) => Ok(Product::Ran(outcome)),
+        Err(refusal) => Err(refusal),
+    }
+}
+
+/// The end of an assembler's work as a command's.
+pub(crate) fn assembled(end: Result<Vec<u8>, Refusal>) -> Result<Product, Refusal>
+    ensures { end_of result ≡ lifted Assembled (bytes_end (λ file. file.items) end) }
+{
+    match end {
+        Ok(file) => Ok(Product::Assembled(file)),
+        Err(refusal) => Err(refusal),
+    }
+}
+
+/// The end of a disassembler's work as a command's.
+pub(crate) fn listed(end: Result<Vec<u8>, Refusal>) -> Result<Product, Refusal>
+    ensures { end_of result ≡ lifted Listed (bytes_end (λ text. text.items) end) }
+{
+    match end {
+        Ok(text) => Ok(Product::Listed(text)),
+        Err(refusal) => Err(refusal),
+    }
+}
 
 /// The file that a name is given, which words of a command give that requires it; and else the empty text.
 pub(crate) fn file_of(words: &Words, name: Name) -> &str

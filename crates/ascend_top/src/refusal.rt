@@ -7,6 +7,7 @@ use crate::status;
 use asc_base::Setting;
 use ascend_words::Name;
 use elf_loader::ElfFault;
+use rv32_asm::AsmKind;
 
 /// The length of a key, and the greatest length of its file, in bytes.
 pub(crate) const KEY_LENGTH: usize = 32;
@@ -20,6 +21,8 @@ pub(crate) enum Source {
     Elf,
     /// The file of the program's input.
     Input,
+    /// The text that is assembled.
+    Text,
 }
 
 impl Source {
@@ -31,6 +34,7 @@ impl Source {
             Source::Key => KEY_LENGTH,
             Source::Elf => 16_777_216,
             Source::Input => 1_048_576,
+            Source::Text => 4_194_304,
         }
     }
 
@@ -42,6 +46,7 @@ impl Source {
             Source::Key => Name::Key,
             Source::Elf => Name::Elf,
             Source::Input => Name::Input,
+            Source::Text => Name::Text,
         }
     }
 }
@@ -53,6 +58,10 @@ pub(crate) enum Refusal {
     Usage { word: u64 },
     /// The setting isn't in its range, and is the first such.
     OutOfRange(Setting),
+    /// The number of this name isn't in its range.
+    NumberOutOfRange(Name),
+    /// The text has this fault in a line, counted from 1, which is the first of all that it has.
+    Assembler { line: u32, kind: AsmKind },
     /// The ELF file has this fault, which is named first of all that it has.
     Elf(ElfFault),
     /// The key file has this many bytes, fewer than a key.
@@ -73,7 +82,10 @@ impl Refusal {
         match self {
             Refusal::Usage { .. } => 2,
             Refusal::Elf(_) => 3,
-            Refusal::OutOfRange(_) | Refusal::KeyLength { .. } => 4,
+            Refusal::OutOfRange(_)
+            | Refusal::NumberOutOfRange(_)
+            | Refusal::Assembler { .. }
+            | Refusal::KeyLength { .. } => 4,
             Refusal::Host => status::HOST_FAILED,
             Refusal::NoMemory => status::NO_MEMORY,
             Refusal::TooLong(_) => 13,

@@ -1,18 +1,25 @@
 //! The steps of commands over a host.
-ghost use Rattle.std.specs.Prelude.{◌≡◌, ◌≢◌, ◌≤◌, ◌∷◌, ℕ, List, [], Some, IfErr, IfOk, OnOk, IfSome, length};
+ghost use Rattle.std.specs.Prelude.{◌≡◌, ◌≢◌, ◌≤◌, ◌<◌, ◌∷◌, ℕ, List, [], Some, IfErr, IfOk, OnOk, IfSome, length};
 ghost use Rattle.asc_base.specs.Memory.{IsMemory};
 ghost use Rattle.asc_outside.specs.Host.{Files, HostState};
 ghost use Rattle.asc_outside.specs.declared.host.HostFault.TheVariants.{Failed, TooLong as TooLongFile};
 ghost use Rattle.asc_outside.specs.declared.host.HostFault.TheVariants.{NoMemory as OutOfMemory};
+ghost use Rattle.elf_loader.specs.Faults.{IsReadable};
 ghost use Rattle.elf_loader.specs.Memory.{IsImage};
+ghost use Rattle.ascend_top.specs.Asm.{file_of_text};
+ghost use Rattle.ascend_top.specs.FlatRun.{bytes_in};
 ghost use Rattle.ascend_top.specs.Parts.{IsImageOf, WasRead, IsConfigOf, unread, unwritten};
-ghost use Rattle.ascend_top.specs.Steps.{AKey, AnElf, Anything, Judges, Reads, Writes, Prints, Rule, Does, Refuses};
+ghost use Rattle.ascend_top.specs.Steps.{AKey, AnElf, AText, Anything, Judges, JudgesNumber, Reads, Writes, Prints, Rule, Does, Refuses};
 ghost use Rattle.ascend_top.specs.declared.refusal.Source.TheVariants.{Key as KeyFile, Elf as ElfFile};
+ghost use Rattle.ascend_top.specs.declared.refusal.Source.TheVariants.{Text as TextFile};
+ghost use Rattle.ascend_words.specs.declared.table.Name.TheVariants.{At as AtName};
 
 use crate::refusal::{KEY_LENGTH, Refusal, Source};
 use asc_base::{Config, Settings};
 use asc_outside::{Host, HostFault};
+use ascend_words::Name;
 use elf_loader::{ElfFault, Image};
+use rv32_asm::{AsmFault, assemble};
 use std::alloc::Global;
 
 /// Judges the settings.
@@ -26,6 +33,20 @@ pub(crate) fn judge(settings: &Settings) -> Result<Config, Refusal>
         Ok(config) => Ok(config),
         Err(setting) => Err(Refusal::OutOfRange(setting)),
     }
+}
+
+/// Judges the place where a program is to begin.
+pub(crate) fn judge_place(at: u64) -> Result<u32, Refusal>
+    ensures place { IfOk result (λ place. place ≡ at) }
+    ensures below { IfOk result (λ place. place < 4_294_901_760) }
+    ensures judged { OnOk result ((state : HostState) → Does (JudgesNumber AtName at) state state) }
+    ensures refused { IfErr result (λ refusal. (state : HostState)
+        → Refuses (JudgesNumber AtName at) refusal state state) }
+{
+    if at % 4 != 0 || at >= 4_294_901_760 {
+        return Err(Refusal::NumberOutOfRange(Name::At));
+    }
+    Ok(at as u32)
 }
 
 /// Why a command is refused whose host refuses to read the file.
@@ -111,6 +132,58 @@ pub(crate) fn read_elf<H: Host>(
     }
 }
 
+/// Reads the ELF file, which has no fault in the memory of `size` bytes from `base` on.
+pub(crate) fn read_segments<H: Host>(
+    alloc: Global,
+    name: &str,
+    base: u32,
+    size: u32,
+    host: &mut H,
+) -> Result<Vec<u8>, Refusal>
+    requires { IsMemory base size }
+    ensures readable { IfOk result (λ file. IsReadable file.items) }
+    ensures told { IfOk result (λ file. (files : Files) → (H.state host.new).files ≡ Some files
+        → file.items ≡ bytes_in files name.now) }
+    ensures read { OnOk result (Does (Reads ElfFile name.now (AnElf base size)) (H.state host.old) (H.state host.new)) }
+    ensures refused { IfErr result (λ refusal.
+        Refuses (Reads ElfFile name.now (AnElf base size)) refusal (H.state host.old) (H.state host.new)) }
+{
+    let file = match read_file(alloc, Source::Elf, name, host) {
+        Ok(file) => file,
+        Err(refusal) => return Err(refusal),
+    };
+    match elf_loader::parse(alloc, file.as_slice(), base, size) {
+        Ok(_) => Ok(file),
+        Err(ElfFault::NoMemory) => Err(Refusal::NoMemory),
+        Err(fault) => Err(Refusal::Elf(fault)),
+    }
+}
+
+/// Reads the text of a program that begins at a place, and assembles it.
+pub(crate) fn read_text<H: Host>(
+    alloc: Global,
+    name: &str,
+    at: u32,
+    host: &mut H,
+) -> Result<Vec<u8>, Refusal>
+    requires { at < 4_294_901_760 }
+    ensures file { IfOk result (λ file. (files : Files) → (H.state host.new).files ≡ Some files
+        → file.items ≡ file_of_text at (bytes_in files name.now)) }
+    ensures read { OnOk result (Does (Reads TextFile name.now (AText at)) (H.state host.old) (H.state host.new)) }
+    ensures refused { IfErr result (λ refusal.
+        Refuses (Reads TextFile name.now (AText at)) refusal (H.state host.old) (H.state host.new)) }
+{
+    let text = match read_file(alloc, Source::Text, name, host) {
+        Ok(text) => text,
+        Err(refusal) => return Err(refusal),
+    };
+    match assemble(alloc, text.as_slice(), at) {
+        Ok(file) => Ok(file),
+        Err(AsmFault::NoMemory) => Err(Refusal::NoMemory),
+        Err(AsmFault::Bad { line, kind }) => Err(Refusal::Assembler { line, kind }),
+    }
+}
+
 /// Makes these bytes the whole file of a name.
 pub(crate) fn write_file<H: Host>(name: &str, bytes: &[u8], host: &mut H) -> Result<(), Refusal>
     ensures written { OnOk result (Does (Writes name.now bytes.now) (H.state host.old) (H.state host.new)) }
@@ -124,12 +197,12 @@ pub(crate) fn write_file<H: Host>(name: &str, bytes: &[u8], host: &mut H) -> Res
 }
 
 /// Prints a text.
-pub(crate) fn print<H: Host>(text: &str, host: &mut H) -> Result<(), Refusal>
+pub(crate) fn print<H: Host>(text: &[u8], host: &mut H) -> Result<(), Refusal>
     ensures printed { OnOk result (Does (Prints text.now) (H.state host.old) (H.state host.new)) }
     ensures refused { IfErr result (λ refusal.
         Refuses (Prints text.now) refusal (H.state host.old) (H.state host.new)) }
 {
-    match host.print(text.as_bytes()) {
+    match host.print(text) {
         Ok(()) => Ok(()),
         Err(fault) => Err(unwritten(fault)),
     }

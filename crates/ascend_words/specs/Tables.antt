@@ -4,37 +4,45 @@ use Rattle.std.specs.Prelude.{ℕ, List, [], ◌∷◌, codes, Bool, ◌||◌, O
 use Rattle.std.specs.List.{find, list_any}
 use Rattle.std.specs.Str.{bytes_eq}
 use Rattle.ascend_words.specs.declared.table.Command.{Command}
-use Rattle.ascend_words.specs.declared.table.Command.TheVariants.{Run, Flat}
+use Rattle.ascend_words.specs.declared.table.Command.TheVariants.{Run, Flat, Asm, Disasm}
 use Rattle.ascend_words.specs.declared.table.Kind.{Kind}
 use Rattle.ascend_words.specs.declared.table.Kind.TheVariants.{File, Number}
 use Rattle.ascend_words.specs.declared.table.Name.{Name}
-use Rattle.ascend_words.specs.declared.table.Name.TheVariants.{Elf, Key, Output, Input, Size, Base, Budget}
+use Rattle.ascend_words.specs.declared.table.Name.TheVariants.{Elf, Key, Output, Input, Text, At, Size, Base, Budget}
 
 -- the commands
 abbrev pub commands : List Command
-commands = Run ∷ Flat ∷ []
+commands = Run ∷ Flat ∷ Asm ∷ Disasm ∷ []
 
 abbrev pub command_text : Command → List ℕ
 command_text Run = codes "run"
 command_text Flat = codes "flat"
+command_text Asm = codes "asm"
+command_text Disasm = codes "disasm"
 
 abbrev pub required : Command → List Name
 required Run = Elf ∷ Key ∷ Output ∷ []
 required Flat = Elf ∷ Output ∷ []
+required Asm = Text ∷ Elf ∷ []
+required Disasm = Elf ∷ []
 
 abbrev pub optional : Command → List Name
 optional Run = Input ∷ Size ∷ Base ∷ Budget ∷ []
 optional Flat = Input ∷ Size ∷ Base ∷ Budget ∷ []
+optional Asm = At ∷ []
+optional Disasm = Size ∷ Base ∷ []
 
 -- the names
 abbrev pub names : List Name
-names = Elf ∷ Key ∷ Output ∷ Input ∷ Size ∷ Base ∷ Budget ∷ []
+names = Elf ∷ Key ∷ Output ∷ Input ∷ Text ∷ At ∷ Size ∷ Base ∷ Budget ∷ []
 
 abbrev pub name_text : Name → List ℕ
 name_text Elf = codes "elf"
 name_text Key = codes "key"
 name_text Output = codes "output"
 name_text Input = codes "input"
+name_text Text = codes "text"
+name_text At = codes "at"
 name_text Size = codes "size"
 name_text Base = codes "base"
 name_text Budget = codes "budget"
@@ -44,6 +52,8 @@ kind_of Elf = File
 kind_of Key = File
 kind_of Output = File
 kind_of Input = File
+kind_of Text = File
+kind_of At = Number
 kind_of Size = Number
 kind_of Base = Number
 kind_of Budget = Number

@@ -11,6 +11,10 @@ pub enum Command {
     Run,
     /// Runs a program over a plain list of bytes.
     Flat,
+    /// Assembles a text.
+    Asm,
+    /// Prints the statements of a program.
+    Disasm,
 }
 
 /// The name of a word.
@@ -24,6 +28,10 @@ pub enum Name {
     Output,
     /// The file of the program's input.
     Input,
+    /// The text that is assembled.
+    Text,
+    /// Where the assembled program begins.
+    At,
     /// The bytes of memory.
     Size,
     /// The first address of memory.
@@ -42,14 +50,21 @@ pub(crate) enum Kind {
 }
 
 /// Every command.
-const COMMANDS: [Command; 2] = [Command::Run, Command::Flat];
+const COMMANDS: [Command; 4] = [
+    Command::Run,
+    Command::Flat,
+    Command::Asm,
+    Command::Disasm,
+];
 
 /// Every name.
-const NAMES: [Name; 7] = [
+const NAMES: [Name; 9] = [
     Name::Elf,
     Name::Key,
     Name::Output,
     Name::Input,
+    Name::Text,
+    Name::At,
     Name::Size,
     Name::Base,
     Name::Budget,
@@ -63,6 +78,8 @@ impl Command {
         match self {
             Command::Run => "run",
             Command::Flat => "flat",
+            Command::Asm => "asm",
+            Command::Disasm => "disasm",
         }
     }
 
@@ -79,6 +96,8 @@ impl Command {
         match self {
             Command::Run => &[Name::Elf, Name::Key, Name::Output],
             Command::Flat => &[Name::Elf, Name::Output],
+            Command::Asm => &[Name::Text, Name::Elf],
+            Command::Disasm => &[Name::Elf],
         }
     }
 
@@ -89,6 +108,8 @@ impl Command {
         match self {
             Command::Run => &[Name::Input, Name::Size, Name::Base, Name::Budget],
             Command::Flat => &[Name::Input, Name::Size, Name::Base, Name::Budget],
+            Command::Asm => &[Name::At],
+            Command::Disasm => &[Name::Size, Name::Base],
         }
     }
 
@@ -117,6 +138,8 @@ impl Name {
             Name::Key => "key",
             Name::Output => "output",
             Name::Input => "input",
+            Name::Text => "text",
+            Name::At => "at",
             Name::Size => "size",
             Name::Base => "base",
             Name::Budget => "budget",
@@ -134,8 +157,8 @@ impl Name {
         ensures { result ≡ kind_of self }
     {
         match self {
-            Name::Elf | Name::Key | Name::Output | Name::Input => Kind::File,
-            Name::Size | Name::Base | Name::Budget => Kind::Number,
+            Name::Elf | Name::Key | Name::Output | Name::Input | Name::Text => Kind::File,
+            Name::At | Name::Size | Name::Base | Name::Budget => Kind::Number,
         }
     }
 

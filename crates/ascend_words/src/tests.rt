@@ -20,7 +20,7 @@ const READ: [(&str, Command, &str); 9] = [
 ];
 
 /// Words that are wrong: the line, and the number of the first word that breaks a rule.
-const REFUSED: [(&str, u64); 31] = [
+const REFUSED: [(&str, u64); 35] = [
     ("", 1),
     ("run", 2),
     ("flat", 2),
@@ -52,6 +52,10 @@ const REFUSED: [(&str, u64); 31] = [
     ("run elf=a key=k output=o budget=99999999999", 5),
     ("run elf=a key=k output=o size=4096 size=4096", 6),
     ("run size=1 size=x elf=a", 3),
+    ("asm text=t", 3),
+    ("asm text=t elf=a at=0x10", 4),
+    ("asm text=t elf=a size=4096", 4),
+    ("disasm elf=a output=o", 3),
 ];
 
 fn words_of(alloc: Global, line: &str) -> Result<Vec<String>, AllocError> {
@@ -104,5 +108,10 @@ fn settings_are_the_given_ones_and_else_the_defaults(rt: HostRuntime) -> Result<
     assert!(rt; words.text(Name::Size).is_none());
     assert!(rt; words.text(Name::Input).is_none());
     assert!(rt; words.text(Name::Elf) == Some("a"));
+    let words = read_line(rt.alloc(), "asm at=4 elf=a text=t")?;
+    assert!(rt; words.command() == Command::Asm && words.number(Name::At) == Some(4));
+    assert!(rt; words.text(Name::Text) == Some("t") && words.text(Name::At).is_none());
+    let words = read_line(rt.alloc(), "disasm elf=a base=4096")?;
+    assert!(rt; words.command() == Command::Disasm && words.settings().base == 4_096);
     Ok(())
 }

@@ -6,3 +6,10 @@ pub mod QuotedLaws
 pub mod Multiples
 pub mod PassLaws
 pub mod SizeLaws
+pub mod TestLaws
+pub mod DecimalLaws
+pub mod PartLaws
+pub mod OperandLaws
+pub mod QuietLaws
+pub mod NamedLaws
+pub mod SaidLaws

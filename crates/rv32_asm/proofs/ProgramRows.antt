@@ -6,7 +6,7 @@ use Rattle.rv32_asm.specs.Forms.{forms}
 use Rattle.rv32_asm.specs.Scanning.{numbered, named}
 use Rattle.rv32_asm.specs.Values.{multiples}
 use Rattle.rv32_asm.specs.Passes.{program_of}
-use Rattle.rv32_asm.specs.declared.fault.AsmKind.TheVariants.{Range, Unknown, Operands}
+use Rattle.rv32_asm.specs.declared.fault.AsmKind.TheVariants.{Range}
 use Rattle.rv32_asm.specs.declared.fault.AsmFault.TheVariants.{Bad}
 
 out_of_range : program_of 65536 (codes "addi x5, x0, 4096") ≡ Err (Bad 1 Range)

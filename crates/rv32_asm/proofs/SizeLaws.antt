@@ -1,17 +1,17 @@
 -- A line has as many bytes in the second pass as the first one counted.
-use Rattle.std.proofs.Common.{◌≡◌, ◌∙◌, ℕ, ◌+◌, ◌≤◌, ◌^◌, List, [], ◌∷◌, ◌++◌, ap, sym, refl, subst, length, Bool, true, false, arith}
+use Rattle.std.proofs.Common.{◌≡◌, ◌∙◌, ℕ, ◌+◌, ◌≤◌, List, [], ◌∷◌, ◌++◌, ap, sym, refl, subst, length, Bool, true, false, arith}
 use Rattle.std.specs.Borrow.{Bor}
-use Rattle.std.specs.Prelude.{◌<◌, IfSome, if◌then◌else◌, Option, Some, None, Result, Ok, Err, ℤ, replicate}
+use Rattle.std.specs.Prelude.{◌<◌, IfSome, if◌then◌else◌, Option, Some, None, Result, Ok, Err, ℤ}
 use Rattle.std.specs.List.{list_all}
 use Rattle.std.specs.Int.{to_le_bytes, w32}
 use Rattle.std.proofs.lemmas.List.{length-replicate, length-append}
 use Rattle.std.proofs.lemmas.Grind.{common_steps}
 use Rattle.rv32_table.specs.Encoded.{encoded}
 use Rattle.rv32_table.specs.declared.instruction.Instr.{Instr}
-use Rattle.rv32_asm.specs.Lines.{Parts, parts_of, without_comment, is_text_byte}
-use Rattle.rv32_asm.specs.Operands.{Statement, Plain, Numbered, Relative, Puts, Bytes4, Bytes1, Text, Zeros, Multiple, Target, unescaped}
-use Rattle.rv32_asm.specs.Values.{numbered, is_multiple, is_from_to, upper_of, lower_of}
-use Rattle.rv32_asm.specs.Passes.{◌>>>◌, in_line, Labels, Measure, statement_of, size, size_of, is_zero_count, padding, labelled, grown, measured, first_pass, offset_to, value_of, word_of, instruction_bytes, bytes_of, bytes_of_found, valued, second_pass}
+use Rattle.rv32_asm.specs.Lines.{parts_of, without_comment, is_text_byte}
+use Rattle.rv32_asm.specs.Operands.{Statement, Plain, Numbered, Relative, Puts, Bytes4, Bytes1, Text, Zeros, Multiple}
+use Rattle.rv32_asm.specs.Values.{numbered, is_multiple, upper_of, lower_of}
+use Rattle.rv32_asm.specs.Passes.{◌>>>◌, in_line, Labels, Measure, statement_of, size, size_of, is_zero_count, labelled, grown, measured, first_pass, offset_to, value_of, word_of, instruction_bytes, bytes_of, bytes_of_found, valued, second_pass}
 use Rattle.rv32_asm.specs.PassViews.{measure_of, behind_bytes, left_of, fault_in, Gives, GivesProgram}
 use Rattle.rv32_asm.specs.declared.problem.Problem.{Problem}
 use Rattle.rv32_asm.specs.declared.problem.Problem.TheVariants as problem

@@ -9,4 +9,5 @@ pub mod Registers
 pub mod Values
 pub mod Passes
 pub mod PassViews
+pub mod File
 pub mod Disassembly

@@ -1,7 +1,7 @@
 -- The relation from a text to a file's program bytes or its first fault: a first pass for places, labels and sizes, and
 -- a
 -- second one for values.
-use Rattle.std.specs.Prelude.{ℕ, ◌+◌, ◌-◌, ◌*◌, ◌%◌, ◌^◌, ◌==◌, nat_le, ℤ, pos, neg_ℤ, ◌-ℤ◌, unsigned_abs, Bool, ◌&&◌, not, if◌then◌else◌, List, [], ◌∷◌, ◌++◌, length, take, drop, replicate, Option, Some, None, option_map, ok_or, Result, Ok, Err, bytes_eq, false}
+use Rattle.std.specs.Prelude.{ℕ, ◌+◌, ◌-◌, ◌%◌, ◌==◌, nat_le, ℤ, pos, neg_ℤ, ◌-ℤ◌, unsigned_abs, Bool, ◌&&◌, not, if◌then◌else◌, List, [], ◌∷◌, ◌++◌, length, take, drop, replicate, Option, Some, None, option_map, ok_or, Result, Ok, Err, bytes_eq, false}
 use Rattle.std.specs.Option.{is_some}
 use Rattle.std.specs.List.{list_all}
 use Rattle.std.specs.Int.{to_le_bytes, w32}

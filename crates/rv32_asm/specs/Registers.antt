@@ -1,5 +1,5 @@
 -- Instructions whose registers there are.
-use Rattle.std.specs.Prelude.{ℕ, ◌<◌}
+use Rattle.std.specs.Prelude.{◌<◌}
 use Rattle.rv32_table.specs.Fits.{Fits}
 use Rattle.rv32_table.specs.declared.instruction.Instr.{Instr}
 use Rattle.rv32_table.specs.declared.instruction.Instr.TheVariants.{Lui, Auipc, Jal, Jalr, Branch, Load, Store, OpImm, Op, Fence, FenceI, Ecall, Ebreak}

@@ -1,5 +1,5 @@
 -- The numbers of statements: their ranges, and the instructions that have them.
-use Rattle.std.specs.Prelude.{ℕ, ◌*◌, ◌%◌, ◌^◌, nat_lt, ℤ, pos, neg_ℤ, ◌-ℤ◌, int_lt, int_le, int_rem, unsigned_abs, Bool, false, ◌&&◌, if◌then◌else◌, List, [], ◌∷◌, Option, Some, None}
+use Rattle.std.specs.Prelude.{ℕ, ◌*◌, ◌%◌, ◌^◌, nat_lt, ℤ, pos, neg_ℤ, ◌-ℤ◌, int_le, int_rem, unsigned_abs, Bool, false, ◌&&◌, if◌then◌else◌, List, [], ◌∷◌, Option, Some, None}
 use Rattle.std.specs.List.{list_any}
 use Rattle.std.specs.Ordering.{int_eq}
 use Rattle.rv32_table.specs.Fits.{is_shift}

@@ -81,7 +81,8 @@ fn number_operand<W: fmt::Write>(
     second: u8,
     number: i32,
 ) -> fmt::Result
-    ensures { DisplaysOnOk W.write_str_gives f.old result (Some (number_operand_text name.now first second number)) f.new }
+    ensures { DisplaysOnOk W.write_str_gives f.old result
+        (Some (number_operand_text name.now first second number)) f.new }
 {
     write!(f, "{name} x{first}, x{second}, {number}")
 }
@@ -121,10 +122,10 @@ fn fence_i<W: fmt::Write>(f: &mut fmt::Formatter<W>, word: u32, rest: u32) -> fm
     }
 }
 
-/// Appends the statement that names the word's own row of the instruction table, never `nop`, `ret`, `j`, `li` or `la`:
-/// lower case, registers as `x0` to `x31`, `, ` between operands, offsets and immediates as decimal numbers, no line feed.
-/// A word that is no instruction, and a fence with other fields than `fence` and `fence.i` stand for, is `.word ` and its
-/// number. After `NoMemory` `into` is as before.
+/// Appends the statement that names the word's own row of the instruction table, never `nop`, `ret`, `j`, `li` or
+/// `la`: lower case, registers as `x0` to `x31`, `, ` between operands, offsets and immediates as decimal numbers, no
+/// line feed. A word that is no instruction, and a fence with other fields than `fence` and `fence.i` stand for, is
+/// `.word ` and its number. After `NoMemory` `into` is as before.
 pub fn disassemble(word: u32, into: &mut Vec<u8>) -> Result<(), NoMemory>
     ensures ok { OnOk result (into.new.items ≡ into.old.items ++ text_of word) }
     ensures err { OnErr result (into.new.items ≡ into.old.items) }

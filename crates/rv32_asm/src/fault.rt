@@ -1,5 +1,10 @@
 //! Why a text isn't assembled.
 
+ghost use Rattle.std.specs.Prelude.{◌≡◌};
+
+use asc_base::NoMemory;
+use thiserror::Error;
+
 /// What is wrong in a line.
 #[derive(Clone, Copy, Debug, PartialEq, Eq)]
 pub enum AsmKind {
@@ -15,16 +20,28 @@ pub enum AsmKind {
     TooLong,
     /// A label that isn't defined.
     Unknown,
-    /// A number or an offset is out of its range, an offset is odd, or an instruction or a word stands at a place that isn't
-    /// a multiple of four.
+    /// A number or an offset is out of its range, an offset is odd, or an instruction or a word stands at a place that
+    /// isn't a multiple of four.
     Range,
 }
 
 /// Why a text isn't assembled.
-#[derive(Clone, Copy, Debug, PartialEq, Eq)]
+#[derive(Clone, Copy, Debug, PartialEq, Eq, Error)]
 pub enum AsmFault {
     /// A line, counted from 1, and what is wrong in it.
+    #[error("line {line}: {kind:?}")]
     Bad { line: u32, kind: AsmKind },
     /// Want of memory.
+    #[error("out of memory")]
     NoMemory,
+}
+
+impl From<NoMemory> for AsmFault {
+    ghost use Rattle.rv32_asm.specs.declared.fault.AsmFault.TheVariants as fault;
+
+    ghost from_gives = { λ _ found. found ≡ fault.NoMemory };
+
+    fn from(_want: NoMemory) -> AsmFault {
+        AsmFault::NoMemory
+    }
 }

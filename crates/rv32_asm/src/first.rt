@@ -135,7 +135,8 @@ fn measured<'t>(
     labels: &mut Labels<'t>,
 ) -> Result<u64, Problem>
     requires { at + count ≤ 4_294_901_760 }
-    ensures value { Gives (measure_of (labels_of labels.new)) result (measured at line.now (measure_of (labels_of labels.old) count)) }
+    ensures value { Gives (measure_of (labels_of labels.new)) result
+        (measured at line.now (measure_of (labels_of labels.old) count)) }
     ensures within { IfOk result (λ more. at + more ≤ 4_294_901_760) }
 {
     if !is_text(line) {
@@ -152,7 +153,8 @@ fn measured<'t>(
 pub(crate) fn first_pass(alloc: Global, text: &[u8], at: u64) -> Result<(Labels<'_>, u64), AsmFault>
     requires place { at ≤ 4_294_901_760 }
     requires short { length text.now ≤ 4_194_304 }
-    ensures value { GivesProgram (λ found. measure_of (labels_of found.0) found.1) result (first_pass at 1 (lines_of text.now) (measure_of [] 0)) }
+    ensures value { GivesProgram (λ found. measure_of (labels_of found.0) found.1) result
+        (first_pass at 1 (lines_of text.now) (measure_of [] 0)) }
     ensures within { IfOk result (λ found. at + found.1 ≤ 4_294_901_760) }
 {
     let mut labels = IndexMap::new(alloc);

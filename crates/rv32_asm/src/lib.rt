@@ -1,15 +1,17 @@
-//! An assembler's statements for RV32IM with FENCE.I.
+//! An assembler for RV32IM with FENCE.I.
 //!
-//! [`program_bytes`] gives the bytes of a program's text, and [`disassemble`] writes the statement that names a word's own row of
-//! the instruction table.
+//! [`assemble`] gives the ELF file of a program's text, and [`disassemble`] writes the statement that names a word's own
+//! row of the instruction table.
 #![tactic(auto)]
 
 mod assembly;
 mod disassembly;
 mod fault;
+mod file;
 mod first;
 mod form;
 mod labels;
+mod laws;
 mod lines;
 mod operands;
 mod problem;
@@ -22,6 +24,7 @@ mod values;
 mod words;
 
 pub use asc_base::NoMemory;
-pub use assembly::program_bytes;
+pub use assembly::assemble;
 pub use disassembly::disassemble;
 pub use fault::{AsmFault, AsmKind};
+pub use laws::statements_are_their_words;

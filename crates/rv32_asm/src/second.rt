@@ -68,7 +68,7 @@ fn low_word(number: i64) -> u32
 }
 
 /// Appends bytes.
-fn push_all(bytes: &[u8], into: &mut Vec<u8>) -> Result<(), NoMemory>
+pub(crate) fn push_all(bytes: &[u8], into: &mut Vec<u8>) -> Result<(), NoMemory>
     ensures { OnOk result (into.new.items ≡ into.old.items ++ bytes.now) }
 {
     into.extend_from_slice(bytes).map_err(|_| NoMemory)
@@ -116,7 +116,9 @@ fn push_relative(
 ) -> Result<(), Problem>
     requires place { place ≤ 4_294_901_760 }
     requires registers { HasRegisters instr }
-    ensures { Gives (λ _. into.new.items) result (behind_bytes into.old.items (bytes_of (Relative instr (target_view target.entry)) place (labels_of labels.now))) }
+    ensures { Gives (λ _. into.new.items) result
+        (behind_bytes into.old.items
+        (bytes_of (Relative instr (target_view target.entry)) place (labels_of labels.now))) }
 {
     let offset = offset_to(target, place, labels)?;
     push_instr(place, numbered(instr, offset), into)
@@ -131,7 +133,8 @@ fn push_halves(
     into: &mut Vec<u8>,
 ) -> Result<(), Problem>
     requires { rd < 32 }
-    ensures { Gives (λ _. into.new.items) result (behind_bytes into.old.items (bytes_of (Puts rd (target_view target.entry)) place (labels_of labels.now))) }
+    ensures { Gives (λ _. into.new.items) result
+        (behind_bytes into.old.items (bytes_of (Puts rd (target_view target.entry)) place (labels_of labels.now))) }
 {
     let value = value_of(target, labels)?;
     let word = word_of(place, value)?;
@@ -147,7 +150,8 @@ fn push_four(
     labels: &Labels<'_>,
     into: &mut Vec<u8>,
 ) -> Result<(), Problem>
-    ensures { Gives (λ _. into.new.items) result (behind_bytes into.old.items (bytes_of (Bytes4 (target_view target.entry)) place (labels_of labels.now))) }
+    ensures { Gives (λ _. into.new.items) result
+        (behind_bytes into.old.items (bytes_of (Bytes4 (target_view target.entry)) place (labels_of labels.now))) }
 {
     let value = value_of(target, labels)?;
     let word = word_of(place, value)?;
@@ -197,7 +201,8 @@ fn push_statement(
 ) -> Result<(), Problem>
     requires place { place ≤ 4_294_901_760 }
     requires ready { IsReady statement }
-    ensures { Gives (λ _. into.new.items) result (behind_bytes into.old.items (bytes_of (statement_view statement.entry) place (labels_of labels.now))) }
+    ensures { Gives (λ _. into.new.items) result
+        (behind_bytes into.old.items (bytes_of (statement_view statement.entry) place (labels_of labels.now))) }
 {
     match statement {
         Line::Plain(instr) => push_instr(place, Some(instr), into),
@@ -223,7 +228,8 @@ fn push_line(
     into: &mut Vec<u8>,
 ) -> Result<(), Problem>
     requires { place ≤ 4_294_901_760 }
-    ensures { Gives (λ _. into.new.items) result (behind_bytes into.old.items (valued place line.now (labels_of labels.now))) }
+    ensures { Gives (λ _. into.new.items) result
+        (behind_bytes into.old.items (valued place line.now (labels_of labels.now))) }
 {
     let (_, code) = parts_of(without_comment(line));
     match statement_of(code)? {
@@ -232,7 +238,8 @@ fn push_line(
     }
 }
 
-/// The second pass over a text, behind a first one that found these labels and so many bytes: the bytes of all statements.
+/// The second pass over a text, behind a first one that found these labels and so many bytes: the bytes of all
+/// statements.
 pub(crate) fn second_pass(
     alloc: Global,
     text: &[u8],
@@ -242,8 +249,10 @@ pub(crate) fn second_pass(
 ) -> Result<Vec<u8>, AsmFault>
     requires place { at ≤ 4_294_901_760 }
     requires short { length text.now ≤ 4_194_304 }
-    requires measured { first_pass at 1 (lines_of text.now) (measure_of [] 0) ≡ Ok (measure_of (labels_of labels.now) count) }
-    ensures value { GivesProgram (λ bytes. bytes.items) result (second_pass at 1 (lines_of text.now) (labels_of labels.now) []) }
+    requires measured { first_pass at 1 (lines_of text.now) (measure_of [] 0)
+        ≡ Ok (measure_of (labels_of labels.now) count) }
+    ensures value { GivesProgram (λ bytes. bytes.items) result
+        (second_pass at 1 (lines_of text.now) (labels_of labels.now) []) }
     ensures sized { IfOk result (λ bytes. length bytes.items ≡ count) }
 {
     let mut into = Vec::new(alloc);

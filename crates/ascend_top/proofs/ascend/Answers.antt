@@ -3,7 +3,7 @@ use Rattle.ascend_words.specs.Grammar.{Read}
 use Rattle.ascend_words.specs.declared.fault.WordFault.{WordFault}
 use Rattle.ascend_words.specs.declared.fault.WordFault.TheVariants.{Usage as WrongWord, NoMemory as NoWords}
 use Rattle.ascend_top.specs.Command.{CommandEnds, Tells}
-use Rattle.ascend_top.specs.FlatRun.{Report}
+use Rattle.ascend_top.specs.Made.{Made}
 use Rattle.ascend_top.specs.Status.{status_of, status_of_refusal}
 use Rattle.ascend_top.specs.declared.refusal.Refusal.{Refusal}
 use Rattle.ascend_top.specs.declared.refusal.Refusal.TheVariants.{Usage, NoMemory}
@@ -39,7 +39,7 @@ returns-in-Ok-clause-usage g c word fault = read_right _ word (c.in-Ok.ensures.r
 
 pub returns-in-Ok-clause-command : goal.returns-in-Ok-clause-command
 returns-in-Ok-clause-command g c read is =
-    subst (λ r. (end : Result Report Refusal) × (c.finish.result ≡ status_of end)
+    subst (λ r. (end : Result Made Refusal) × (c.finish.result ≡ status_of end)
     × CommandEnds r end (g.H.Host.state c.args.host.now) (g.H.Host.state c.finish.new.host))
     (read_one _ read (c.in-Ok.ensures.accepted read is)) c.finish.ensures
 

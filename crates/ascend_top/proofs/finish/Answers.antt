@@ -1,9 +1,9 @@
 use Rattle.std.proofs.Common.{Ok, Err}
-use Rattle.ascend_top.specs.FlatRun.{outcome_report}
+use Rattle.ascend_top.specs.Command.{made_by}
 use Rattle.ascend_top.proofs.finish.Goals as goal
 
 pub returns-in-Ok : goal.returns-in-Ok
-returns-in-Ok g c = (Ok (outcome_report c.in-Ok.outcome), c.status.ensures, c.in-Ok.ensures)
+returns-in-Ok g c = (Ok (made_by c.in-Ok.product), c.status.ensures, c.in-Ok.ensures)
 
 pub returns-in-Err : goal.returns-in-Err
 returns-in-Err g c =

@@ -5,10 +5,10 @@ ghost use Rattle.rv32_core.specs.FlatRun.{flat_run};
 ghost use Rattle.rv32_core.specs.StepPlan.{machine_of};
 ghost use Rattle.ascend_words.specs.Settings.{text_in, settings_of};
 ghost use Rattle.ascend_words.specs.declared.table.Name.TheVariants.{Input as InputName};
-ghost use Rattle.ascend_top.specs.Command.{StepsEnd, end_of};
+ghost use Rattle.ascend_top.specs.Command.{StepsEnd, run_end};
 ghost use Rattle.ascend_top.specs.Flat.{flat_steps, input_steps, program_steps, report_steps};
 ghost use Rattle.ascend_top.specs.FlatRun.{flat_report, input_in, outcome_report};
-ghost use Rattle.ascend_top.specs.Parts.{CanRun, EndsAs, IsConfigOf, WorkEnds, program_report};
+ghost use Rattle.ascend_top.specs.Parts.{CanRun, EndsAs, IsConfigOf, RunEnds, program_report};
 ghost use Rattle.ascend_top.specs.Steps.{AllDone, IsRefused};
 
 use crate::commands::file_of;
@@ -153,7 +153,7 @@ fn report<H: Host>(
         Err(refusal) => return Err(refusal),
     }
     match text::report_text(alloc, outcome) {
-        Ok(text) => steps::print(text.as_str(), host),
+        Ok(text) => steps::print(text.as_bytes(), host),
         Err(_) => Err(Refusal::NoMemory),
     }
 }
@@ -166,7 +166,7 @@ pub(crate) fn run_and_report<H: Host>(
     host: &mut H,
 ) -> Result<Outcome, Refusal>
     requires { CanRun program.now }
-    ensures { WorkEnds words.now.given (program_report program.now) (end_of result)
+    ensures { RunEnds words.now.given (program_report program.now) (run_end result)
         (H.state host.old) (H.state host.new) }
 {
     let outcome = match run_flat(alloc, program) {
@@ -197,8 +197,8 @@ fn prepare<H: Host>(alloc: Global, words: &Words, host: &mut H) -> Result<Progra
 
 /// The command `flat`, up to the first refusal.
 pub(crate) fn flat<H: Host>(alloc: Global, words: &Words, host: &mut H) -> Result<Outcome, Refusal>
-    ensures { StepsEnd (flat_steps words.now.given) words.now.given (end_of result)
-        (H.state host.old) (H.state host.new) }
+    ensures { StepsEnd (flat_steps words.now.given) (report_steps words.now.given) (flat_report words.now.given)
+        (run_end result) (H.state host.old) (H.state host.new) }
 {
     match prepare(alloc, words, host) {
         Ok(program) => run_and_report(alloc, words, &program, host),

@@ -1,7 +1,8 @@
 //! The command `run`.
 ghost use Rattle.std.specs.Prelude.{◌≡◌, Some, IfErr, IfOk, OnOk};
 ghost use Rattle.asc_outside.specs.Host.{Files as HostFiles};
-ghost use Rattle.ascend_top.specs.Command.{StepsEnd, end_of};
+ghost use Rattle.ascend_top.specs.Command.{StepsEnd, run_end};
+ghost use Rattle.ascend_top.specs.Flat.{report_steps};
 ghost use Rattle.ascend_top.specs.FlatRun.{flat_report};
 ghost use Rattle.ascend_top.specs.Parts.{CanRun, program_report};
 ghost use Rattle.ascend_top.specs.Run.{run_steps};
@@ -38,8 +39,8 @@ fn prepare<H: Host>(alloc: Global, words: &Words, host: &mut H) -> Result<Progra
 
 /// The command `run`, up to the first refusal.
 pub(crate) fn run<H: Host>(alloc: Global, words: &Words, host: &mut H) -> Result<Outcome, Refusal>
-    ensures { StepsEnd (run_steps words.now.given) words.now.given (end_of result)
-        (H.state host.old) (H.state host.new) }
+    ensures { StepsEnd (run_steps words.now.given) (report_steps words.now.given) (flat_report words.now.given)
+        (run_end result) (H.state host.old) (H.state host.new) }
 {
     match prepare(alloc, words, host) {
         Ok(program) => flat::run_and_report(alloc, words, &program, host),

@@ -1,9 +1,10 @@
 ghost use Rattle.std.specs.Prelude.{◌≡◌, ◌++◌, ◌∷◌, [], IfOk, OnErr, IsSome, codes, string_bytes, option_map};
-ghost use Rattle.ascend_top.specs.Texts.{fault_text, refusal_text, setting_text};
+ghost use Rattle.ascend_top.specs.Texts.{asm_kind_text, asm_line, fault_text, refusal_text, setting_text};
 
 use crate::refusal::Refusal;
 use asc_base::Setting;
 use elf_loader::ElfFault;
+use rv32_asm::AsmKind;
 use std::alloc::{AllocError, Global};
 
 fn setting_name(setting: Setting) -> &'static str
@@ -52,6 +53,29 @@ fn fault_line(alloc: Global, fault: &ElfFault) -> Result<String, AllocError>
     format!(in alloc; "elf {name}\n")
 }
 
+/// What is wrong in a line of a text that is assembled.
+fn asm_kind_name(kind: AsmKind) -> &'static str
+    ensures { result.now ≡ asm_kind_text kind }
+{
+    match kind {
+        AsmKind::Byte => "Byte",
+        AsmKind::Label => "Label",
+        AsmKind::Word => "Word",
+        AsmKind::Operands => "Operands",
+        AsmKind::TooLong => "TooLong",
+        AsmKind::Unknown => "Unknown",
+        AsmKind::Range => "Range",
+    }
+}
+
+/// The line of a text's fault: its line's number, and what is wrong in it.
+fn asm_line(alloc: Global, line: u32, kind: AsmKind) -> Result<String, AllocError>
+    ensures { IfOk result (λ text. string_bytes text ≡ asm_line line kind) }
+{
+    let kind = asm_kind_name(kind);
+    format!(in alloc; "asm line {line} {kind}\n")
+}
+
 /// The text of a refusal: None where none is printed.
 pub(crate) fn refusal_text(alloc: Global, refusal: &Refusal) -> Result<Option<String>, AllocError>
     ensures text { IfOk result (λ text. option_map string_bytes text ≡ refusal_text refusal.now) }
@@ -63,6 +87,11 @@ pub(crate) fn refusal_text(alloc: Global, refusal: &Refusal) -> Result<Option<St
             let name = setting_name(*setting);
             format!(in alloc; "setting {name}\n")?
         }
+        Refusal::NumberOutOfRange(name) => {
+            let name = name.text();
+            format!(in alloc; "setting {name}\n")?
+        }
+        Refusal::Assembler { line, kind } => asm_line(alloc, *line, *kind)?,
         Refusal::Elf(fault) => fault_line(alloc, fault)?,
         Refusal::KeyLength { length } => format!(in alloc; "key length {length}\n")?,
         Refusal::TooLong(source) => {

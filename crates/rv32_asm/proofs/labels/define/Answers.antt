@@ -1,4 +1,4 @@
-use Rattle.std.proofs.Common.{◌≡◌, ◌∙◌, sym, arith}
+use Rattle.std.proofs.Common.{arith}
 use Rattle.std.proofs.lemmas.Grind.{common_steps}
 use Rattle.rv32_asm.proofs.Listing.{defined}
 use Rattle.rv32_asm.proofs.labels.define.Goals as goal

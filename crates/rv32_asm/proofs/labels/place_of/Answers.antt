@@ -1,4 +1,4 @@
-use Rattle.std.proofs.Common.{◌≡◌, ◌∙◌}
+use Rattle.std.proofs.Common.{◌∙◌}
 use Rattle.rv32_asm.proofs.Listing.{looked_up}
 use Rattle.rv32_asm.proofs.labels.place_of.Goals as goal
 

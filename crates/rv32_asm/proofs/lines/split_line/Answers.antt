@@ -1,4 +1,4 @@
-use Rattle.std.proofs.Common.{arith, ◌≡◌, ◌+◌, ◌-◌, ◌<◌, suc, take, drop, length}
+use Rattle.std.proofs.Common.{arith, ◌<◌, length}
 use Rattle.rv32_asm.specs.LineViews.{line_end}
 use Rattle.rv32_asm.proofs.LineLaws.{first_of_lines, rest_from}
 use Rattle.rv32_asm.proofs.lines.split_line.Goals as goal

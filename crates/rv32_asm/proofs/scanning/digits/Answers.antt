@@ -1,10 +1,9 @@
-use Rattle.std.proofs.Common.{rules, arith, ◌≡◌, ◌+◌, ◌*◌, ◌<◌, ◌≤◌, ◌^◌, ◌∷◌, ◌∙◌, ap, suc, refl, drop, length, add-one}
+use Rattle.std.proofs.Common.{arith, ◌≡◌, ◌<◌, ◌∷◌, ◌∙◌, ap, suc, refl, drop, length, add-one}
 use Rattle.std.specs.Prelude.{get_or}
 use Rattle.std.specs.Char.{digit_value}
 use Rattle.std.proofs.Math.Seq.{drop-cons}
 use Rattle.std.proofs.lemmas.Grind.{common_steps}
-use Rattle.rv32_asm.specs.Scanning.{digits_after}
-use Rattle.rv32_asm.proofs.Digits.{IsReading, below_more, times_small, room, read_more}
+use Rattle.rv32_asm.proofs.Digits.{times_small, room, read_more}
 use Rattle.rv32_asm.proofs.scanning.digits.Goals as goal
 
 pub overflow_mul-number : goal.overflow_mul-number

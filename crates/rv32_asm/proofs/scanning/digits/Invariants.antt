@@ -1,5 +1,3 @@
-use Rattle.std.proofs.Common.{◌≡◌, ◌<◌, ◌^◌, drop}
-use Rattle.rv32_asm.specs.Scanning.{digits_after}
 use Rattle.rv32_asm.proofs.Digits.{IsReading}
 use Rattle.rv32_asm.proofs.scanning.digits.Given as goal
 

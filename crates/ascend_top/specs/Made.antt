@@ -1,0 +1,9 @@
+-- What a command comes to where all its steps are done.
+use Rattle.std.specs.Prelude.{ℕ, List}
+use Rattle.ascend_top.specs.FlatRun.{Report}
+
+-- the report of a run, the file of an assembled text, or the printed lines of a program's statements
+pub data Made : Type 0 where
+  Ran : Report → Made
+  Assembled : (file : List ℕ) → Made
+  Listed : (text : List ℕ) → Made
