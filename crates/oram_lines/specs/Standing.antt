@@ -3,7 +3,12 @@ use Rattle.std.specs.Prelude.{◌≡◌, ◌+◌, ◌<◌, ℕ, List, length, ma
 use Rattle.asc_base.specs.Has.{Has}
 use Rattle.asc_base.specs.TreeShape.{children_of}
 use Rattle.oram_contents.specs.Chip.{Chip, HeldBlock, AreGroups}
-use Rattle.oram_contents.specs.Counts.{Ghost}
+use Rattle.asc_base.specs.declared.shape.Shape.{Shape}
+use Rattle.oram_contents.specs.Counts.{Ghost, line_at}
+use Rattle.oram_contents.specs.Slots.{done, refilled}
+use Rattle.oram_walk.specs.declared.slots.Access.{Access}
+use Rattle.oram_walk.specs.declared.slots.Purpose.{Purpose}
+use Rattle.oram_walk.specs.declared.slots.Purpose.TheVariants.{Refill, Keep, Replace}
 use Rattle.oram_contents.specs.Decided.{draws}
 use Rattle.oram_contents.specs.Entries.{Keys}
 use Rattle.oram_contents.specs.Groups.{AreCounters, AreSmall}
@@ -52,3 +57,20 @@ pub record IsCalm (g : Ghost) : Type 0 where
   pub pend : g.pend ≡ None
   pub stepped : g.stepped ≡ None
   pub move : g.move ≡ None
+
+-- so many dummies change the number of the next one alone
+abbrev pub later : Ghost → ℕ → Ghost
+later g k = record g { dummies = g.dummies + k }
+
+-- what a served access makes of the ghost record: its block is held back in flight, or put back with the line that it
+-- has or with a given one
+abbrev pub after_access : Shape → Ghost → Access → Purpose → Ghost
+after_access shape g access Refill = refilled g access.address.0 access.next
+after_access shape g access Keep = done g access.address.0 access.next (line_at shape g access.address.0)
+after_access shape g access (Replace value) = done g access.address.0 access.next value.0
+
+-- only a data line is given another line, of 64 bytes
+abbrev pub FitsPurpose : Shape → ℕ → Purpose → Type 0
+FitsPurpose shape a Refill = Unit {0}
+FitsPurpose shape a Keep = Unit {0}
+FitsPurpose shape a (Replace value) = (children_of shape.lines shape.layers a ≡ None) × (length value.0 ≡ 64)
