@@ -6,7 +6,10 @@ ghost use Rattle.oram_contents.specs.Counts.{Ghost, line_at};
 ghost use Rattle.oram_contents.specs.Entries.{Keys, AreKeys};
 ghost use Rattle.oram_contents.specs.Forgery.{Forgery};
 ghost use Rattle.oram_contents.specs.Slots.{MayRise};
-ghost use Rattle.oram_frontend.specs.Slots.{IsServedSlot, Keeps};
+ghost use Rattle.oram_contents.specs.Steps.{landed, inserted};
+ghost use Rattle.asc_base.specs.declared.block.Line.{Line};
+ghost use Rattle.asc_base.specs.declared.block.Message.{Message};
+ghost use Rattle.oram_frontend.specs.Slots.{IsServedSlot, IsServedAppend, IsServedAnswer, Keeps};
 ghost use Rattle.oram_lines.specs.Standing.{IsKnown, FitsPurpose, after_access, later};
 ghost use Rattle.oram_walk.specs.declared.slots.Access.{Access};
 ghost use Rattle.oram_walk.specs.declared.slots.Seen.{Seen};
@@ -22,4 +25,17 @@ pub fn known_requests()
         → Forgery keys new.tap.log
         ⊎ (IsKnown keys (after_access keys.shape (later g x.passed) access access.purpose) new
         × (seen.line.0 ≡ line_at keys.shape g access.address.0)) }
+{}
+
+/// The same of an append, an answer, and a block that comes to be held.
+pub fn known_between()
+    ensures append { (keys : Keys) → AreKeys keys → (g : Ghost) (m : Message) (old new : PortState) (levels least : ℕ)
+        → IsKnown keys g old → IsServedAppend keys m old new → Keeps keys levels least old new
+        → g.flight ≡ Some m.address.0 → m.counter ≡ g.count m.address.0 → m.line.0 ≡ line_at keys.shape g m.address.0
+        → (Has m.address.0 g.held → ⊥) → IsKnown keys (landed g) new }
+    ensures answer { (keys : Keys) → AreKeys keys → (g : Ghost) (line : ℕ) (value : Line) (old new : PortState)
+        (levels least : ℕ) → IsKnown keys g old → IsServedAnswer line value old new → Keeps keys levels least old new
+        → IsKnown keys g new }
+    ensures insert { (keys : Keys) → AreKeys keys → (g : Ghost) (s : PortState) (plb a : ℕ) → IsKnown keys g s
+        → g.flight ≡ Some a → IsKnown keys (inserted g plb a) s }
 {}

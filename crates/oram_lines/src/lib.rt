@@ -3,4 +3,4 @@
 
 mod laws;
 
-pub use laws::known_requests;
+pub use laws::{known_between, known_requests};
