@@ -169,9 +169,9 @@ module _ (base size at : ℕ) (bytes : List ℕ) (inside : IsInside base size at
 
   at_index : (i : ℕ) → i < size → image_byte file (base + i) ≡ slice_index (memory_of base size at bytes) i
   at_index i less = elim (cases_lt i before) [
-    inl below ↦ below_program (base + i) (omega arith) ∙ sym (said_below i below)
+    | inl below ↦ below_program (base + i) (omega arith) ∙ sym (said_below i below)
     | inr from ↦ elim (cases_lt (i - before) (length bytes)) [
-      inl within ↦ in_program (base + i) (omega (arith, inside.from)) (omega (arith, inside.from))
+      | inl within ↦ in_program (base + i) (omega (arith, inside.from)) (omega (arith, inside.from))
           ∙ ap (slice_index bytes) (same_place i from)
           ∙ sym (said_from i from ∙ get_or_append_left bytes (zeros behind) 0 (i - before) within)
       | inr above ↦ above_program (base + i) (omega (arith, inside.from))

@@ -483,5 +483,12 @@ module _ {A : Type 0} (make : A → Made) (after : A → List Step) (meant : Fil
   lift_ends (Err refusal) old new (inl refused) = inl refused
   lift_ends (Err refusal) old new (inr (at, done, inl lost)) = inr (at, done, inl lost)
   lift_ends (Err refusal) old new (inr (at, done, inr (made, told, refused))) =
-      inr (at, done, inr (make made, (λ files is. ap make (told files is)),
-      subst (λ steps. IsRefused steps refusal at new) (same made) refused))
+      inr (
+        at,
+        done,
+        inr (
+          make made,
+          (λ files is. ap make (told files is)),
+          subst (λ steps. IsRefused steps refusal at new) (same made) refused,
+        ),
+      )

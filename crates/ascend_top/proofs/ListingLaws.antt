@@ -30,7 +30,7 @@ module _ (file : List ℕ) (index : ℕ) where
       ∙ ap (λ lines. flat_map (segment_lines file) (first_headers file index) ++ lines)
       (append-nil (segment_lines file (header_at file index)))
       ∙ ap (λ n. flat_map (segment_lines file) (first_headers file n)
-          ++ segment_lines file (header_at file index)) (sym now)
+      ++ segment_lines file (header_at file index)) (sym now)
   more false is =
       let beyond : header_count file ≤ index = ltb-false index (header_count file) is in
       let same : min (index + 1) (header_count file) ≡ min index (header_count file) = omega arith in
@@ -50,7 +50,7 @@ listed_all file few =
 -- a line more, and the lines of what follows its four bytes
 pub lines_step : (address number : ℕ) (rest before now all : List ℕ) → 4 ≤ length rest
     → number ≡ from_le_bytes w32 (slice_index rest 0 ∷ slice_index rest 1 ∷ slice_index rest 2 ∷
-        slice_index rest 3 ∷ [])
+    slice_index rest 3 ∷ [])
     → now ≡ before ++ word_line address number → before ++ lines_of address rest ≡ all
     → now ++ lines_of (address + 4) (drop 4 rest) ≡ all
 lines_step address number [] before now all long is line whole = absurd (omega arith)

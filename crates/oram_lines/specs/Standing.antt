@@ -1,5 +1,5 @@
 -- What an encrypted memory stands for: the counters and lines of all blocks, wherever they are kept.
-use Rattle.std.specs.Prelude.{◌≡◌, ◌+◌, ◌<◌, ℕ, List, length, map, count_by, Option, None, Some}
+use Rattle.std.specs.Prelude.{◌≡◌, ◌≤◌, ◌+◌, ◌<◌, ℕ, List, length, map, count_by, Option, None, Some}
 use Rattle.asc_base.specs.Has.{Has}
 use Rattle.asc_base.specs.TreeShape.{children_of}
 use Rattle.oram_contents.specs.Chip.{Chip, HeldBlock, AreGroups}
@@ -15,7 +15,7 @@ use Rattle.oram_contents.specs.Groups.{AreCounters, AreSmall}
 use Rattle.oram_contents.specs.Provenance.{Sound, Always}
 use Rattle.oram_walk.specs.Front.{FrontState, IsFront}
 use Rattle.posmap_lookaside.specs.declared.held.Held.{Held}
-use Rattle.rate_enforcer.specs.PortStep.{PortState, contents}
+use Rattle.rate_enforcer.specs.PortStep.{PortState, Resting, contents}
 use Rattle.oram_frontend.specs.Slots.{FitKeys}
 
 -- What log and contents are known to be between slots, where a ghost record says what the blocks' counters and lines
@@ -45,11 +45,13 @@ pub record IsShown (keys : Keys) (front : FrontState) (g : Ghost) : Type 0 where
   pub blocks : (p : ℕ) → Has p g.held
       → (family : ℕ × ℕ) × (children_of keys.shape.lines keys.shape.layers p ≡ Some family)
 
--- The two together, with counters that the number of drawn points bounds.
-pub record StandsFor (keys : Keys) (front : FrontState) (g : Ghost) (s : PortState) : Type 0 where
+-- The two together, with counters that the number of drawn points bounds; the port stands between slots, with room for
+-- so many notes at least.
+pub record StandsFor (keys : Keys) (levels least : ℕ) (front : FrontState) (g : Ghost) (s : PortState) : Type 0 where
   pub known : IsKnown keys g s
   pub shown : IsShown keys front g
   pub small : AreSmall keys.shape front.ic s.tap.log g.count
+  pub rests : (notes : ℕ) × (least ≤ notes) × Resting notes levels s
 
 -- Between two requests no block is on its way, and none waits.
 pub record IsCalm (g : Ghost) : Type 0 where
@@ -74,3 +76,8 @@ abbrev pub FitsPurpose : Shape → ℕ → Purpose → Type 0
 FitsPurpose shape a Refill = Unit {0}
 FitsPurpose shape a Keep = Unit {0}
 FitsPurpose shape a (Replace value) = (children_of shape.lines shape.layers a ≡ None) × (length value.0 ≡ 64)
+
+-- data lines have the same bytes
+abbrev pub SameData : Keys → Ghost → Ghost → Type 0
+SameData keys g h = (b : ℕ) → children_of keys.shape.lines keys.shape.layers b ≡ None
+    → h.data_lines b ≡ g.data_lines b

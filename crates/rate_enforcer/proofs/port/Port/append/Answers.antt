@@ -8,7 +8,7 @@ use Rattle.rate_enforcer.proofs.port.Port.append.Goals as goal
 pub returns-clause-rests : goal.returns-clause-rests
 returns-clause-rests g c notes memory tap r =
     let absent : held c.args.self.now.tree.hand c.args.entry.address ≡ None =
-        was_absent (held c.args.self.now.tree.hand c.args.entry.address) c.in-Ok.ensures.refused (λ h. absurd (cc)) in
+    was_absent (held c.args.self.now.tree.hand c.args.entry.address) c.in-Ok.ensures.refused (λ h. absurd (cc)) in
     hand_grown c.put.new.self c.put.ensures.same c.put.ensures.seed c.put.ensures.path
     (omega (arith, c.held-held.ensures.held, c.if-held-self.false))
     (subst AreApart (sym c.in-Ok.ensures.hand)
@@ -17,7 +17,7 @@ returns-clause-rests g c notes memory tap r =
 pub returns-clause-step : goal.returns-clause-step
 returns-clause-step g c memory tap =
     let absent : held c.args.self.now.tree.hand c.args.entry.address ≡ None =
-        was_absent (held c.args.self.now.tree.hand c.args.entry.address) c.in-Ok.ensures.refused (λ h. absurd (cc)) in (
+    was_absent (held c.args.self.now.tree.hand c.args.entry.address) c.in-Ok.ensures.refused (λ h. absurd (cc)) in (
       refl,
       record {
         going = c.in_default.is;
