@@ -17,7 +17,9 @@ use Rattle.oram_contents.specs.Groups.{AreSmall}
 use Rattle.oram_contents.specs.Provenance.{Sound}
 use Rattle.oram_contents.specs.Slots.{MayRise, done, refilled}
 use Rattle.oram_contents.proofs.Passes.{pend_sound}
-use Rattle.oram_walk.specs.Front.{FrontState, counter_in, stepped, full_parent}
+use Rattle.asc_base.specs.Shape.{parent_in}
+use Rattle.oram_walk.specs.Front.{FrontState, counter_in, stepped, stepped_by, stepped_under, group_at, full_parent}
+use Rattle.posmap_counters.specs.Group.{GroupState}
 use Rattle.oram_walk.specs.Plans.{FrontPlan, on, step_plan}
 use Rattle.oram_walk.specs.Request.{Request, Slot, Steps}
 use Rattle.oram_walk.specs.declared.slots.Access.{Access}
@@ -96,7 +98,7 @@ module _ (keys : Keys) (lawful : AreKeys keys) (levels : ℕ) where
       each (done g access.address.0 access.next value.0) refl refl refl refl refl
 
   -- an access that is served draws a point
-  draws_more : (g h : Ghost) (access : Access) (seen : Seen) (old new : PortState) → IsKnown keys g old
+  pub draws_more : (g h : Ghost) (access : Access) (seen : Seen) (old new : PortState) → IsKnown keys g old
       → IsServedSlot keys access seen old new → IsKnown keys h new
       → count_by draws old.tap.log.events + 1 ≤ count_by draws new.tap.log.events
   draws_more g h access seen old new before x after =
@@ -112,7 +114,7 @@ module _ (keys : Keys) (lawful : AreKeys keys) (levels : ℕ) where
       omega (arith, known.drawn, r.dummies, r.real, r.in_time, apart.1, is.time.1, small)
 
   -- an access of a purpose is the same whether the block waited or not
-  same_after : (g : Ghost) (k : ℕ) (access : Access) (pend ahead : Option ℕ) (purpose : Purpose)
+  pub same_after : (g : Ghost) (k : ℕ) (access : Access) (pend ahead : Option ℕ) (purpose : Purpose)
       → after_access keys.shape (later (record g { pend = pend; stepped = ahead }) k) access purpose
       ≡ after_access keys.shape (later g k) access purpose
   same_after g k access pend ahead Refill = refl
@@ -120,7 +122,7 @@ module _ (keys : Keys) (lawful : AreKeys keys) (levels : ℕ) where
   same_after g k access pend ahead (Replace value) = refl
 
   -- a parent on chip is away from hand and tree
-  parent_away : (g : Ghost) (a p : ℕ) → ParentFirst keys g a → parent_of keys.shape.lines keys.shape.layers a ≡ Some p
+  pub parent_away : (g : Ghost) (a p : ℕ) → ParentFirst keys g a → parent_of keys.shape.lines keys.shape.layers a ≡ Some p
       → Has p g.held
   parent_away g a p first up = let (rest, is) = first p up in subst (Has p) (sym is) (inl refl)
 
@@ -144,6 +146,18 @@ module _ (keys : Keys) (lawful : AreKeys keys) (levels : ℕ) where
           (small t.tap.log (draws_more _ _ access seen s t before x after)));
       rests = (keeps.rests.0, omega (arith, keeps.rests.1), keeps.rests.2);
     }
+
+  -- a step keeps the bits of own counts
+  stepped_ic : (front : FrontState) (a : Address) → (stepped front a).ic ≡ front.ic
+  stepped_ic front a = by_parent (parent_in front.shape a)
+    where
+      by_group : (p : Address) (o : Option GroupState) → (stepped_under front a p o).ic ≡ front.ic
+      by_group p None = refl
+      by_group p (Some group) = refl
+
+      by_parent : (o : Option Address) → (stepped_by front a o).ic ≡ front.ic
+      by_parent None = refl
+      by_parent (Some p) = by_group p (group_at front.held p)
 
   -- An access that is asked for, whose parent has room for it.
   pub step_comes : (front : FrontState) (g : Ghost) (s : PortState) (asked : ℕ) (a : Address) (purpose : Purpose)
@@ -188,7 +202,8 @@ module _ (keys : Keys) (lawful : AreKeys keys) (levels : ℕ) where
               (after_access keys.shape (later g served.passed) access purpose) y) (sym same)
               (served_stands front g access x s mid notes (stepped front a) (Some a.0) (Some a.0) served known1 keeps
               (λ h count held ahead pend move. stp.taken h count held ahead pend (move ∙ calm.move))
-              (λ log more. ?) both.0),
+              (λ log more. subst (λ (n : ℕ). AreSmall keys.shape n log (put_at g.count a.0 access.next))
+              (sym (stepped_ic front a)) (stp.small log more)) both.0),
           ap (λ (p : FrontState × Seen). p.1.line.0) is ∙ both.1,
         )
       ]

@@ -4,5 +4,5 @@
 mod fetches;
 mod laws;
 
-pub use fetches::fetches_answer_lines;
+pub use fetches::lines_are_kept;
 pub use laws::{known_between, known_requests};
