@@ -22,10 +22,11 @@ use Rattle.rate_enforcer.specs.PortStep.{PortState, Resting}
 use Rattle.oram_frontend.proofs.SlotLaws.{served_append}
 use Rattle.oram_frontend.specs.Access.{SlotStep}
 use Rattle.oram_lines.specs.Standing.{IsKnown, IsShown, StandsFor, IsCalm, SameData}
-use Rattle.oram_lines.specs.Steps.{IsInserted}
+use Rattle.oram_lines.specs.Shown.{IsInserted, IsDisplaced}
 use Rattle.oram_lines.proofs.BetweenLaws.{append_known, insert_known}
 use Rattle.oram_lines.proofs.MoveTriples.{SameFront}
-use Rattle.oram_lines.proofs.ShownLaws.{insert_shown, shown_same}
+use Rattle.oram_lines.proofs.ShownHeld.{insert_shown}
+use Rattle.oram_lines.proofs.ShownLaws.{shown_same}
 use Rattle.oram_lines.proofs.StepTriples.{Comes}
 
 -- where one may be held, the first is
@@ -66,7 +67,7 @@ module _ (keys : Keys) (lawful : AreKeys keys) (levels : ℕ) where
     h = with_block g front.plb a.0
 
     x : IsInserted keys front g a line
-    x = insert_shown keys lawful front g a line family st.shown pend ahead still inside unheld counter is_line family_is
+    x = insert_shown keys lawful front g a line st.shown pend ahead still inside unheld counter is_line (family, family_is)
 
     known : IsKnown keys h s
     known = insert_known keys lawful g s front.plb a.0 st.known flight
@@ -93,12 +94,12 @@ module _ (keys : Keys) (lawful : AreKeys keys) (levels : ℕ) where
         → displaced front.plb (refilled front a line) front.held ≡ Some d
         → SlotStep keys levels s (Append (message_of d)) (Ok seen) t → NowHeld front g a now t
     one_left d seen t some one =
-        let (flying, count, text, gone) = x.some d some in
+        let gone = x.some d some in
         let (notes, least, rests) = st.rests in
         let fewer : Resting ((notes - 1) + 1) levels s = subst (λ n. Resting n levels s) (omega arith) rests in
         let (served, keeps) = served_append keys levels (notes - 1) (message_of d) seen s t known.fits fewer one in
-        let after = append_known keys lawful h (message_of d) s t levels (notes - 1) known served keeps flying count text
-            gone in
+        let after = append_known keys lawful h (message_of d) s t levels (notes - 1) known served keeps gone.place gone.counter gone.line
+            gone.gone in
         record {
           h = landed h;
           stands = record {

@@ -40,9 +40,9 @@ use Rattle.rate_enforcer.specs.PortStep.{PortState, Resting, contents}
 use Rattle.oram_frontend.proofs.SlotLaws.{served_slot}
 use Rattle.oram_frontend.specs.Access.{SlotStep}
 use Rattle.oram_lines.specs.Standing.{IsKnown, IsShown, StandsFor, IsCalm, SameData, after_access, later, held_block, chip_of}
-use Rattle.oram_lines.specs.Steps.{ParentFirst, HeldFirst, IsMoving, IsMoved, IsRenumbered}
+use Rattle.oram_lines.specs.Shown.{ParentFirst, IsFirst, IsMoving, IsMoved, IsRenumbered, HasUsed, IsFull}
 use Rattle.oram_lines.proofs.KnownLaws.{served_right}
-use Rattle.oram_lines.proofs.ShownLaws.{move_begins, child_shown, held_child_shown, move_ends}
+use Rattle.oram_lines.proofs.ShownMoves.{move_begins, child_shown, held_child_shown, move_ends}
 use Rattle.oram_lines.proofs.StepTriples.{Comes, comes_on, waiting, few_draws, same_after, draws_more}
 
 -- a held address is that of a held block
@@ -147,10 +147,10 @@ module _ (keys : Keys) (lawful : AreKeys keys) (levels : ℕ) where
 
   -- the first held block is the first of the ghost record's
   pub first_is : (front : FrontState) (g : Ghost) (p : Address) (group : GroupState) → IsShown keys front g
-      → HeldFirst front p group → Has p.0 g.held
+      → IsFirst front p group → Has p.0 g.held
   first_is front g p group shown first =
       held_in front g p.0 shown (subst (λ (l : List Held). Has p.0 (addresses (map held_block l))) (sym first.held)
-      (inl (ap (λ (x : Address). x.0) (sym first.address))))
+      (inl refl))
 
   -- What a part of a group move of p leaves, when so many children are done.
   pub record MovesOn (front : FrontState) (g : Ghost) (p : Address) (group : GroupState) (done_by : ℕ)
@@ -158,14 +158,14 @@ module _ (keys : Keys) (lawful : AreKeys keys) (levels : ℕ) where
     pub h : Ghost
     pub stands : StandsFor keys levels 0 later_front h t
     pub moving : IsMoving h p.0 done_by
-    pub first : HeldFirst later_front p group
+    pub first : IsFirst later_front p group
     pub held : h.held ≡ g.held
     pub lines : SameData keys g h
     pub front_is : SameFront front later_front
 
   module _ (p : Address) (group : GroupState) (first number : ℕ)
       (family : children_of keys.shape.lines keys.shape.layers p.0 ≡ Some (first, number)) (inside : p.0 < keys.shape.total)
-      where
+      (uses : HasUsed number group) where
     parent_is : (child q : ℕ) → child < number
         → parent_of keys.shape.lines keys.shape.layers (first + child) ≡ Some q → p.0 ≡ q
     parent_is child q less up =
@@ -177,15 +177,15 @@ module _ (keys : Keys) (lawful : AreKeys keys) (levels : ℕ) where
 
     -- A child that is held is renumbered.
     held_comes : (front : FrontState) (g : Ghost) (s : PortState) (asked child : ℕ)
-        → StandsFor keys levels 0 front g s → IsMoving g p.0 child → HeldFirst front p group → child < number
+        → StandsFor keys levels 0 front g s → IsMoving g p.0 child → IsFirst front p group → child < number
         → is_some (held_at front.held (record { 0 = first + child })) ≡ true
         → MovesOn front g p group (child + 1) (with_held front (changed
         (with_counter (next_group (child_counter group child))) front.held (record { 0 = first + child }))) s
     held_comes front g s asked child st moving at less some =
         let (notes, least, rests) = st.rests in
         let has = held_in front g (first + child) st.shown (is_held front.held (record { 0 = first + child }) some) in
-        let x = held_child_shown keys lawful front g s.tap.log p group first number child st.shown st.small
-            (few_draws keys lawful levels notes g s st.known rests) at family less moving has in
+        let x = held_child_shown keys lawful front g p group first number st.shown at family s.tap.log child st.small
+            (few_draws keys lawful levels notes g s st.known rests) moving.stepped moving.pend moving.move less uses in
         let c = next_group (child_counter group child) in
         let known1 = renumber_known g s (first + child) c has x.rises
             (λ q up. inl (subst (λ (n : ℕ). Has n g.held) (parent_is child q less up)
@@ -199,7 +199,7 @@ module _ (keys : Keys) (lawful : AreKeys keys) (levels : ℕ) where
             rests = st.rests;
           };
           moving = record { flight = moving.flight; pend = moving.pend; stepped = moving.stepped; move = refl };
-          first = x.first_held;
+          first = x.first_is;
           held = refl;
           lines = λ b none. refl;
           front_is = record { shape = refl; ic = refl; plb = refl };
@@ -207,7 +207,7 @@ module _ (keys : Keys) (lawful : AreKeys keys) (levels : ℕ) where
 
     -- Any other is accessed, and put back under the next group counter.
     access_comes : (front : FrontState) (g : Ghost) (s t : PortState) (asked child : ℕ) (seen : Seen)
-        → StandsFor keys levels 0 front g s → IsMoving g p.0 child → HeldFirst front p group → child < number
+        → StandsFor keys levels 0 front g s → IsMoving g p.0 child → IsFirst front p group → child < number
         → held_at front.held (record { 0 = first + child }) ≡ None
         → SlotStep keys levels s (Slot (record { asked = asked; address = record { 0 = first + child };
         counter = child_counter group child; next = next_group (child_counter group child); purpose = Keep })) (Ok seen) t
@@ -217,8 +217,8 @@ module _ (keys : Keys) (lawful : AreKeys keys) (levels : ℕ) where
         let a = first + child in
         let unheld : Has a g.held → ⊥ = λ has. not_held front.held (record { 0 = a }) none
             (held_by front g a st.shown has) in
-        let x = child_shown keys lawful front g s.tap.log p group first number child st.shown st.small
-            (few_draws keys lawful levels notes g s st.known rests) at family less moving unheld in
+        let x = child_shown keys lawful front g p group first number st.shown at family s.tap.log child st.small
+            (few_draws keys lawful levels notes g s st.known rests) moving.stepped moving.pend moving.move less unheld in
         let access : Access = record {
           asked = asked;
           address = record { 0 = a };
@@ -258,7 +258,7 @@ module _ (keys : Keys) (lawful : AreKeys keys) (levels : ℕ) where
 
     -- A child's part of the move.
     child_comes : (front : FrontState) (g : Ghost) (s : PortState) (asked child : ℕ)
-        → StandsFor keys levels 0 front g s → IsMoving g p.0 child → HeldFirst front p group → child < number
+        → StandsFor keys levels 0 front g s → IsMoving g p.0 child → IsFirst front p group → child < number
         → Comes keys lawful levels (child_plan front asked (record { 0 = first + child }) (child_counter group child)
         (next_group (child_counter group child))) s
         (λ now end m. MovesOn front g p group (child + 1) now m)
@@ -330,7 +330,7 @@ module _ (keys : Keys) (lawful : AreKeys keys) (levels : ℕ) where
 
     -- The children from one on.
     children_come : (left child : ℕ) → child + left ≡ number → (front : FrontState) (g : Ghost) (s : PortState)
-        (asked : ℕ) → StandsFor keys levels 0 front g s → IsMoving g p.0 child → HeldFirst front p group
+        (asked : ℕ) → StandsFor keys levels 0 front g s → IsMoving g p.0 child → IsFirst front p group
         → Comes keys lawful levels (children_plan group first child left front asked) s
         (λ later_front end t. MovesOn front g p group number later_front t)
     children_come zero child sum front g s asked st moving at =
@@ -371,57 +371,52 @@ module _ (keys : Keys) (lawful : AreKeys keys) (levels : ℕ) where
     pub front_is : SameFront front later_front
 
   pub move_comes : (front : FrontState) (g : Ghost) (s : PortState) (asked : ℕ) (a p : Address) (group : GroupState)
-      → StandsFor keys levels 0 front g s → IsCalm g → HeldFirst front p group
-      → parent_of keys.shape.lines keys.shape.layers a.0 ≡ Some p.0 → p.0 < keys.shape.total
+      → StandsFor keys levels 0 front g s → IsCalm g → (full : IsFull keys front a p group) → p.0 < keys.shape.total
       → Comes keys lawful levels (move_plan front asked p group) s
       (λ later_front end t. HasRoom front g a later_front t)
-  move_comes front g s asked a p group st calm at up inside =
-      by_family (st.shown.blocks p.0 (first_is front g p group st.shown at))
+  move_comes front g s asked a p group st calm full inside =
+      comes_on keys lawful levels (family_plan group (children_in front.shape p) front asked)
+      (λ now end. Done (with_held now (changed (with_group (moved_group group)) now.held p), end)) s
+      (λ now end m. MovesOn front begun p group full.number now m)
+      (λ later_front end t. HasRoom front g a later_front t)
+      (subst (λ o. Comes keys lawful levels (family_plan group o front asked) s
+      (λ now end m. MovesOn front begun p group full.number now m)) (sym full.family)
+      (children_come p group full.first full.number full.children inside full.used full.number 0 (omega arith) front
+      begun s asked start (record { flight = calm.flight; pend = calm.pend; stepped = calm.stepped; move = refl })
+      full.first_is))
+      ended
     where
-      start : StandsFor keys levels 0 front (record g { move = Some (p.0, 0) }) s
+      begun : Ghost
+      begun = record g { move = Some (p.0, 0) }
+
+      start : StandsFor keys levels 0 front begun s
       start = record {
         known = move_known g s (Some (p.0, 0)) st.known;
-        shown = move_begins keys lawful front g p group st.shown at calm.move;
+        shown = move_begins keys lawful front g p group full.first full.number st.shown full.first_is full.children
+            calm.move;
         small = st.small;
         rests = st.rests;
       }
 
-      by_family : (family : ℕ × ℕ) × (children_of keys.shape.lines keys.shape.layers p.0 ≡ Some family)
-          → Comes keys lawful levels (move_plan front asked p group) s
-          (λ later_front end t. HasRoom front g a later_front t)
-      by_family ((first, number), family) =
-          comes_on keys lawful levels (family_plan group (children_in front.shape p) front asked)
-          (λ now end. Done (with_held now (changed (with_group (moved_group group)) now.held p), end)) s
-          (λ now end m. MovesOn front (record g { move = Some (p.0, 0) }) p group number now m)
-          (λ later_front end t. HasRoom front g a later_front t)
-          (subst (λ o. Comes keys lawful levels (family_plan group o front asked) s
-          (λ now end m. MovesOn front (record g { move = Some (p.0, 0) }) p group number now m)) (sym children_is)
-          (children_come p group first number family inside number 0 (omega arith) front (record g { move = Some (p.0, 0) }) s
-          asked start (record { flight = calm.flight; pend = calm.pend; stepped = calm.stepped; move = refl }) at))
-          ended
-        where
-          children_is : children_in front.shape p ≡ Some (record { 0 = first }, number)
-          children_is = ap (λ (sh : Shape). children_in sh p) st.shown.shape ∙ ap (option_map (λ (x : ℕ × ℕ). (record { 0 = x.0 }, x.1))) family
-
-          ended : (now : FrontState) (end : ℕ) (m : PortState)
-              → MovesOn front (record g { move = Some (p.0, 0) }) p group number now m
-              → Comes keys lawful levels (Done (with_held now (changed (with_group (moved_group group)) now.held p), end))
-              m (λ later_front end t. HasRoom front g a later_front t)
-          ended now end m x t later_front y ends =
-              let (shown, room) = move_ends keys lawful now x.h p group first number x.stands.shown x.first family x.moving in
-              inr (subst (λ (f : FrontState). HasRoom front g a f t) (sym (ap (λ (z : FrontState × ℕ). z.0) ends.0))
-              (subst (λ (v : PortState). HasRoom front g a
-              (with_held now (changed (with_group (moved_group group)) now.held p)) v) (sym ends.1) (record {
-                h = record x.h { move = None };
-                stands = record {
-                  known = move_known x.h m None x.stands.known;
-                  shown = shown;
-                  small = x.stands.small;
-                  rests = x.stands.rests;
-                };
-                calm = record { flight = x.moving.flight; pend = x.moving.pend; stepped = x.moving.stepped; move = refl };
-                room = room a up;
-                held = x.held;
-                lines = x.lines;
-                front_is = record { shape = x.front_is.shape; ic = x.front_is.ic; plb = x.front_is.plb };
-              })))
+      ended : (now : FrontState) (end : ℕ) (m : PortState) → MovesOn front begun p group full.number now m
+          → Comes keys lawful levels (Done (with_held now (changed (with_group (moved_group group)) now.held p), end))
+          m (λ later_front end t. HasRoom front g a later_front t)
+      ended now end m x t later_front y ends =
+          let over = move_ends keys lawful now x.h p group full.first full.number x.stands.shown x.first full.children
+              x.moving.stepped x.moving.move in
+          inr (subst (λ (f : FrontState). HasRoom front g a f t) (sym (ap (λ (z : FrontState × ℕ). z.0) ends.0))
+          (subst (λ (v : PortState). HasRoom front g a
+          (with_held now (changed (with_group (moved_group group)) now.held p)) v) (sym ends.1) (record {
+            h = record x.h { move = None };
+            stands = record {
+              known = move_known x.h m None x.stands.known;
+              shown = over.shown;
+              small = x.stands.small;
+              rests = x.stands.rests;
+            };
+            calm = record { flight = x.moving.flight; pend = x.moving.pend; stepped = x.moving.stepped; move = refl };
+            room = over.room a full.parent;
+            held = x.held;
+            lines = x.lines;
+            front_is = record { shape = x.front_is.shape; ic = x.front_is.ic; plb = x.front_is.plb };
+          })))

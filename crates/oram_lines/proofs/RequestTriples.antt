@@ -1,6 +1,6 @@
 -- Refills, walks and requests, from a state that stands for counters and lines to one that does, or a forgery.
 use Rattle.std.proofs.Common.{◌≡◌, ◌≢◌, ◌<◌, ◌≤◌, ◌+◌, ◌-◌, ◌*◌, ◌/◌, ◌⊎◌, inl, inr, ℕ, zero, suc, List, [], ◌∷◌, Option, None, Some, Ok, length}
-use Rattle.std.proofs.Common.{Bool, true, false, is_some, option_map, refl, sym, ap, ◌∙◌, subst, arith}
+use Rattle.std.proofs.Common.{nat_eq, Bool, true, false, is_some, option_map, refl, sym, ap, ◌∙◌, subst, arith}
 use Rattle.std.proofs.lemmas.Bool.{cases_eq}
 use Rattle.std.specs.Option.{option_map_or}
 use Rattle.request_plan.specs.Plan.{Plan, Done, Ask, Ends}
@@ -26,15 +26,16 @@ use Rattle.oram_walk.specs.Request.{Request, Steps}
 use Rattle.oram_walk.specs.declared.slots.Purpose.{Purpose}
 use Rattle.oram_walk.specs.declared.slots.Purpose.TheVariants.{Refill, Keep, Replace}
 use Rattle.oram_walk.specs.declared.slots.Seen.{Seen}
+use Rattle.posmap_lookaside.specs.Addresses.{used}
 use Rattle.posmap_lookaside.specs.Held.{held_at, is_of, promoted}
 use Rattle.posmap_lookaside.specs.declared.held.Held.{Held}
 use Rattle.rate_enforcer.specs.PortStep.{PortState, contents}
 use Rattle.oram_frontend.specs.Access.{SlotStep}
 use Rattle.oram_lines.specs.Standing.{IsKnown, IsShown, StandsFor, IsCalm, SameData, FitsPurpose, after_access}
-use Rattle.oram_lines.specs.Steps.{ParentFirst, IsUsed}
+use Rattle.oram_lines.specs.Shown.{ParentFirst}
 use Rattle.oram_lines.proofs.HoldTriples.{NowHeld, hold_comes}
 use Rattle.oram_lines.proofs.MoveTriples.{SameFront, not_held, held_in, held_by}
-use Rattle.oram_lines.proofs.ShownLaws.{used_shown}
+use Rattle.oram_lines.proofs.ShownHeld.{used_shown, used_first, promoted_has}
 use Rattle.oram_lines.proofs.StepTriples.{Comes, comes_on}
 use Rattle.oram_lines.proofs.WalkTriples.{Visited, visit_comes, parent_as, front_then}
 
@@ -208,20 +209,21 @@ module _ (keys : Keys) (lawful : AreKeys keys) (levels : ℕ) where
           → Comes keys lawful levels (Done (with_held front (promoted front.held p), asked)) s
           (λ later_front end t. Walked front g a later_front t)
       found p up some t later_front end ends =
-          let u = used_shown keys lawful front g p st.shown calm.pend some in
+          let (rest, first) = used_first keys lawful front g p st.shown some in
           let now = with_held front (promoted front.held p) in
           inr (subst (λ (f : FrontState). Walked front g a f t) (sym (ap (λ (z : FrontState × ℕ). z.0) ends.0))
           (subst (λ (y : PortState). Walked front g a now y) (sym ends.1) (record {
-            h = record g { held = p.0 ∷ u.rest };
+            h = record g { held = used g.held p.0 };
             stands = record {
-              known = used_known g s (p.0 ∷ u.rest) u.among st.known;
-              shown = u.shown;
+              known = used_known g s (used g.held p.0)
+                  (λ b has. promoted_has (λ a. nat_eq a p.0) g.held b has) st.known;
+              shown = used_shown keys lawful front g p st.shown calm.pend;
               small = st.small;
               rests = st.rests;
             };
             calm = record { flight = calm.flight; pend = calm.pend; stepped = calm.stepped; move = calm.move };
-            first = parent_first (record g { held = p.0 ∷ u.rest }) a.0 p.0 u.rest up refl;
-            among = λ b has. inl (u.among b has);
+            first = parent_first (record g { held = used g.held p.0 }) a.0 p.0 rest up first;
+            among = λ b has. inl (promoted_has (λ a. nat_eq a p.0) g.held b has);
             lines = λ b leaf. refl;
             front_is = record { shape = refl; ic = refl; plb = refl };
           })))

@@ -33,7 +33,7 @@ use Rattle.oram_frontend.proofs.SlotLaws.{served_slot}
 use Rattle.oram_frontend.specs.Access.{SlotStep}
 use Rattle.oram_frontend.specs.Slots.{IsServedSlot, Keeps}
 use Rattle.oram_lines.specs.Standing.{IsKnown, IsShown, StandsFor, IsCalm, FitsPurpose, after_access, later}
-use Rattle.oram_lines.specs.Steps.{ParentFirst, IsStepped}
+use Rattle.oram_lines.specs.Shown.{ParentFirst, IsStepped}
 use Rattle.oram_lines.proofs.GrowLaws.{forgery_walk}
 use Rattle.oram_lines.proofs.KnownLaws.{served_right}
 use Rattle.oram_lines.proofs.ShownLaws.{step_shown}

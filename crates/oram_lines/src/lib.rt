@@ -3,6 +3,8 @@
 
 mod fetches;
 mod laws;
+mod shown;
 
 pub use fetches::lines_are_kept;
 pub use laws::{known_between, known_requests};
+pub use shown::{chip_shows, chip_shows_group_moves};
