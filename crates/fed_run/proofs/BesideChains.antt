@@ -67,7 +67,8 @@ module _ {S E : Type 0} (step : S → LineRequest → Result (List ℕ) E → S 
           → StandsAs count ways cache lists
           → Ends step (through (cache_access machine.core.base) (run_plan n 0 machine) cache) s t (after, end)
           → (lines : List (List ℕ)) × (now : Lines)
-          × Ends (Beside step) (through (cache_access machine.core.base) (run_plan n 0 machine) cache) (s, []) (t, lines)
+          × Ends (Beside step) (through (cache_access machine.core.base) (run_plan n 0 machine) cache) (s, [])
+          (t, lines)
           (after, end)
           × AreLines lines × StandsAs count ways after now
           × IsRun ways n machine lists lines now end.instructions end.machine end.ending
@@ -84,7 +85,8 @@ module _ {S E : Type 0} (step : S → LineRequest → Result (List ℕ) E → S 
             subst AreLines same (told.3),
             told.4,
             subst
-                (λ (l : List (List ℕ)). IsRun ways n machine lists l (told.1) end.instructions end.machine end.ending) same
+                (λ (l : List (List ℕ)). IsRun ways n machine lists l (told.1) end.instructions end.machine
+                end.ending) same
                 (told.5),
           )
 
@@ -92,11 +94,13 @@ module _ {S E : Type 0} (step : S → LineRequest → Result (List ℕ) E → S 
           → StandsAs count ways cache lists
           → Stops step (through (cache_access machine.core.base) (run_plan n 0 machine) cache) s t stop left
           → (lines : List (List ℕ))
-          × Stops (Beside step) (through (cache_access machine.core.base) (run_plan n 0 machine) cache) (s, []) (t, lines)
+          × Stops (Beside step) (through (cache_access machine.core.base) (run_plan n 0 machine) cache) (s, [])
+          (t, lines)
           stop left
           × AreLines lines × IsStarvedRun ways n machine lists lines ((left.1).0) ((left.1).1)
       answered-stop s t cache lists stop left stands h =
-          let pair = beside-stops (through (cache_access machine.core.base) (run_plan n 0 machine) cache) s t stop left []
+          let pair = beside-stops (through (cache_access machine.core.base) (run_plan n 0 machine) cache) s t stop
+          left []
           h in
           let told = run-told-stop count ways n (Beside step) beside-answers machine is long beside beside-notes
           beside-unnoted (s, []) (t, pair.0) cache lists stop left stands (pair.1) in
