@@ -33,9 +33,8 @@ below_written lines offset bytes [] a k d lt = a k d lt
 below_written lines offset bytes (h ∷ hs) a zero d lt = a zero d lt
 below_written lines offset bytes (h ∷ hs) a (suc k) d lt = a (suc k) d lt
 
-module _ {S E V : Type 0} (step : S → LineRequest → Result (List ℕ) E → S → Type 0) (f : V
-    → List Held) (ways n : ℕ) (vs : List V)
-    (k : ℕ) (d v : V) (e : k ≡ n % length vs) (h : k < length vs) where
+module _ {S E V : Type 0} (step : S → LineRequest → Result (List ℕ) E → S → Type 0) (f : V → List Held)
+    (ways n : ℕ) (vs : List V) (k : ℕ) (d v : V) (e : k ≡ n % length vs) (h : k < length vs) where
   -- the cache, and the cache with another set in the place of one
   abbrev cache : Contents
   cache = record { ways = ways; sets = map f vs }

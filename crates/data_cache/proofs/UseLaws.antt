@@ -1,18 +1,20 @@
 -- The requests that a use makes, an empty cache, and rows in numbers.
-use Rattle.std.proofs.Common.{◌≡◌, ℕ, zero, suc, ◌*◌, ◌<◌, ◌≤◌, List, [], ◌∷◌, ◌++◌, length, map, replicate, refl, sym, ap, subst, arith}
+use Rattle.std.proofs.Common.{◌≡◌, ℕ, zero, suc, ◌+◌, ◌*◌, ◌<◌, ◌≤◌, List, [], ◌∷◌, ◌++◌, length, map, replicate, refl, sym, ap, subst, arith}
 use Rattle.std.specs.Prelude.{slice_index_or}
 use Rattle.request_plan.specs.Plan.{Plan, Done, Ask, bind}
-use Rattle.rv32_core.specs.Access.{spliced}
+use Rattle.rv32_core.specs.Access as access
+use Rattle.rv32_core.specs.Access.{Access, Load, slice_of, spliced}
 use Rattle.rv32_core.specs.LineList.{LineKind, Read, Write, WholeWrite, LineUse}
 use Rattle.data_cache.specs.Lines.{LineRequest, Fetch, Store}
-use Rattle.data_cache.specs.CacheLists.{Kept, Sets, no_lines, set_of, victim, stored, fetched, set_settled, set_after, requests_of, requests_along, ask_all, use_set, Requests}
+use Rattle.data_cache.specs.CacheLists.{Kept, Sets, Lines, no_lines, set_of, with_kept, victim, stored, fetched, set_settled, set_after, requests_of, requests_along, ask_all, use_set, after_use, write_lines, Requests}
+use Rattle.data_cache.specs.Cached.{place_at, lists_access, use_at}
 use Rattle.data_cache.specs.Mirror.{marks, pairs, Fit, Mirrors}
 use Rattle.data_cache.specs.declared.set.Held.{Held}
 
 -- one plan after another
-Requests-bind : {B C A D : Type 0} (put : B → C) (p : Plan LineRequest (List ℕ) B A) (next : A
-    → Plan LineRequest (List ℕ) C D)
-    (first others : List LineRequest) → Requests p first → ((a : A) → Requests (next a) others)
+Requests-bind : {B C A D : Type 0} (put : B → C) (p : Plan LineRequest (List ℕ) B A)
+    (next : A → Plan LineRequest (List ℕ) C D) (first others : List LineRequest) → Requests p first
+    → ((a : A) → Requests (next a) others)
     → Requests (bind put p next) (first ++ others)
 Requests-bind put (Done a) next first others h g = subst (λ l. Requests (next a) (l ++ others)) (sym h) (g a)
 Requests-bind put (Ask q b k) next [] others h g = absurd h
@@ -20,8 +22,8 @@ Requests-bind put (Ask q b k) next (f ∷ fs) others h g =
     (h.0, λ bytes. Requests-bind put (k bytes) next fs others (h.1 bytes) g)
 
 -- a plan, and then nothing more
-Requests-last : {B C A D : Type 0} (put : B → C) (p : Plan LineRequest (List ℕ) B A) (out : A
-    → D) (all : List LineRequest)
+Requests-last : {B C A D : Type 0} (put : B → C) (p : Plan LineRequest (List ℕ) B A) (out : A → D)
+    (all : List LineRequest)
     → Requests p all → Requests (bind put p (λ a. Done (out a))) all
 Requests-last put (Done a) out all h = h
 Requests-last put (Ask q b k) out [] h = absurd h
@@ -53,6 +55,26 @@ use-requests ways memory sets use_of =
     (ask_all (set_settled ways set (victim ways set use_of.line)) now (fetched set use_of))
     (λ brought. (set_after ways set use_of, brought)) (fetched set use_of)
     (Requests-all (set_settled ways set (victim ways set use_of.line)) now (fetched set use_of)))
+
+-- An access of a core makes the requests of the use of its line.
+pub access-requests : (base ways : ℕ) (lists : Lines) (access : Access)
+    → Requests (lists_access base ways lists access)
+    (requests_of ways lists.memory lists.sets (use_at base access))
+access-requests base ways lists (Load address count) =
+    let use_of : LineUse = use_at base (Load address count) in
+    Requests-last (with_kept lists.sets use_of.line)
+    (use_set ways (set_of lists.sets use_of.line) lists.memory use_of)
+    (λ r. (after_use lists use_of.line (r.0) (r.1), slice_of (r.1) (64 * use_of.line + place_at base address) count))
+    (requests_of ways lists.memory lists.sets use_of) (use-requests ways lists.memory lists.sets use_of)
+access-requests base ways lists (access.Store address bytes) =
+    let use_of : LineUse = use_at base (access.Store address bytes) in
+    Requests-last (λ left. left) (write_lines ways lists use_of.line (place_at base address) bytes)
+    (λ after. (after, []))
+    (requests_of ways lists.memory lists.sets use_of)
+    (Requests-last (with_kept lists.sets use_of.line)
+    (use_set ways (set_of lists.sets use_of.line) lists.memory use_of)
+    (λ r. after_use lists use_of.line (r.0) (spliced (r.1) (64 * use_of.line + place_at base address) bytes))
+    (requests_of ways lists.memory lists.sets use_of) (use-requests ways lists.memory lists.sets use_of))
 
 -- a set of an empty cache
 empty-set : (n k : ℕ) → (let none : List (List Held) = replicate n [] in slice_index_or none k []) ≡ []

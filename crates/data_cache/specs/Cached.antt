@@ -4,6 +4,7 @@ use Rattle.std.specs.Prelude.{ℕ, ◌<◌, ◌-◌, ◌*◌, ◌/◌, ◌%◌, 
 use Rattle.request_plan.specs.Plan.{Plan, Done, Ends, Stops, bind}
 use Rattle.request_plan.proofs.Keeps.{Ends-keeps, Stops-keeps}
 use Rattle.rv32_core.specs.Access.{Access, Load, Store, IsAnswer}
+use Rattle.rv32_core.specs.LineList.{LineUse, Read, Write}
 use Rattle.data_cache.specs.Lines.{LineRequest}
 use Rattle.data_cache.specs.CacheLists.{Sets, Lines, read_lines, write_lines}
 use Rattle.data_cache.specs.Contents.{Contents, read_plan, write_plan}
@@ -34,6 +35,11 @@ lists_access base ways lines (Load address count) =
 lists_access base ways lines (Store address bytes) =
     bind (λ left. left) (write_lines ways lines (line_at base address) (place_at base address) bytes)
     (λ after. Done (after, []))
+
+-- the line of an access, and how it is used
+abbrev pub use_at : ℕ → Access → LineUse
+use_at base (Load address count) = record { line = line_at base address; kind = Read }
+use_at base (Store address bytes) = record { line = line_at base address; kind = Write }
 
 -- An access to a cache over a store: the cache and the store before it, and after it.
 abbrev pub CachedStep : {S E : Type 0} → (S → LineRequest → Result (List ℕ) E → S → Type 0)

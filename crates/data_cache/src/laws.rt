@@ -12,7 +12,7 @@ ghost use Rattle.data_cache.specs.CacheLists.{read_lines, write_lines, write_who
 ghost use Rattle.data_cache.specs.Contents.{Contents, read_plan, write_plan, write_line_plan, find_line, held_in};
 ghost use Rattle.data_cache.specs.declared.set.Held.{Held};
 ghost use Rattle.data_cache.specs.Mirror.{Mirrors};
-ghost use Rattle.data_cache.specs.Cached.{cache_access, lists_access, HasBytes, StandsAs, StandsLeft};
+ghost use Rattle.data_cache.specs.Cached.{cache_access, lists_access, use_at, HasBytes, StandsAs, StandsLeft};
 ghost use Rattle.data_cache.specs.Standing.{StandFor};
 ghost use Rattle.asc_base.specs.declared.block.Line.{Line};
 
@@ -48,9 +48,13 @@ pub fn asks_as_its_lists()
 
 /// A use makes exactly the requests of the lists, in order, whatever is answered: a dirty victim's store, and then
 /// the fetch of a line that isn't kept, where the use needs its bytes.
+/// And so does an access of a core to a memory whose first line begins at `base`.
 pub fn uses_make_their_requests()
-    ensures { (ways : ℕ) (memory : List ℕ) (sets : Sets) (use_of : LineUse)
+    ensures uses { (ways : ℕ) (memory : List ℕ) (sets : Sets) (use_of : LineUse)
         → Requests (use_set ways (set_of sets use_of.line) memory use_of) (requests_of ways memory sets use_of) }
+    ensures accesses { (base ways : ℕ) (lists : Lines) (access : Access)
+        → Requests (lists_access base ways lists access)
+        (requests_of ways lists.memory lists.sets (use_at base access)) }
 {}
 
 /// A cache that holds nothing has empty lists, over any list of bytes.

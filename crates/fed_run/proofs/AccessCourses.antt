@@ -9,7 +9,7 @@ use Rattle.rv32_core.specs.LineList.{Read, Write, LineUse}
 use Rattle.data_cache.specs.Lines.{LineRequest, Fetch}
 use Rattle.data_cache.specs.Lines as lines
 use Rattle.data_cache.specs.CacheLists.{Kept, Sets, Lines, needs, keeps, set_of, with_kept, set_after, sets_after, victim, line_in, stored, fetched, set_settled, ask_all, use_set, after_use, write_lines}
-use Rattle.data_cache.specs.Cached.{line_at, place_at, lists_access}
+use Rattle.data_cache.specs.Cached.{line_at, place_at, lists_access, use_at}
 use Rattle.fed_run.specs.Fed.{Feed, asks, fed_line, fed_use}
 use Rattle.fed_run.specs.Answered.{line_source}
 
@@ -67,11 +67,6 @@ course-use ways set memory use_of items =
     (fed_line memory use_of.line items (needs use_of.kind && not (keeps set use_of.line)))
 
 -- ---- an access
--- the line of an access, and how it is used
-abbrev pub use_at : ℕ → Access → LineUse
-use_at base (Load address count) = record { line = line_at base address; kind = Read }
-use_at base (Store address bytes) = record { line = line_at base address; kind = Write }
-
 -- the lists of a machine that is fed
 abbrev pub lists_in : Feed → Lines
 lists_in feed = record { memory = feed.memory; sets = feed.sets }

@@ -19,8 +19,9 @@ use Rattle.rv32_core.proofs.EffectLaws.{is_buffer-above, is_buffer-below, load-i
 use Rattle.rv32_core.proofs.LineLaws.{lines_of-one}
 use Rattle.rv32_core.proofs.Served.{length-slice_of}
 use Rattle.rv32_core.proofs.StepLines.{is_inside-place, load_width-some, store_width-some}
+use Rattle.data_cache.specs.Cached.{use_at}
 use Rattle.fed_run.specs.Fed.{Feed, fed_use, fed_uses, FedStep, fed_after, fed_word, fed_step}
-use Rattle.fed_run.proofs.AccessCourses.{fed_served, use_at, accessed}
+use Rattle.fed_run.proofs.AccessCourses.{fed_served, accessed}
 use Rattle.fed_run.proofs.Feeds.{IsFeed, use-cases}
 use Rattle.fed_run.proofs.Transfers.{IsPlace, stored, loaded, served-stores, served-loads}
 

@@ -16,3 +16,4 @@ pub mod Cuts
 pub mod WholeChains
 pub mod KeptChains
 pub mod ToldRuns
+pub mod BesideChains

@@ -1,5 +1,5 @@
 -- Where a store notes the lines that it answers: which answer is read from the next of them.
-use Rattle.std.specs.Prelude.{◌≡◌, ℕ, List, [], ◌∷◌, Some, length}
+use Rattle.std.specs.Prelude.{◌≡◌, ℕ, List, [], ◌∷◌, ◌++◌, Some, Result, Ok, Err, length}
 use Rattle.request_plan.specs.Course.{Source, Known, Noted}
 use Rattle.data_cache.specs.Lines.{LineRequest, Fetch, Store}
 use Rattle.data_cache.specs.CacheLists.{Lines}
@@ -14,6 +14,17 @@ line_source (Store line value) = Known []
 abbrev pub AreLines : List (List ℕ) → Type 0
 AreLines [] = Unit {0}
 AreLines (bytes ∷ rest) = (length bytes ≡ 64) × AreLines rest
+
+-- A step of a store beside a list, in which the line that a fetch is answered with is noted.
+abbrev pub Beside : {S E : Type 0} → (S → LineRequest → Result (List ℕ) E → S → Type 0)
+    → S × List (List ℕ) → LineRequest → Result (List ℕ) E → S × List (List ℕ) → Type 0
+Beside step old (Fetch line) (Ok bytes) new =
+    step (old.0) (Fetch line) (Ok bytes) (new.0) × (new.1 ≡ old.1 ++ bytes ∷ [])
+Beside step old (Store line value) (Ok done) new =
+    step (old.0) (Store line value) (Ok done) (new.0) × (new.1 ≡ old.1)
+Beside step old (Fetch line) (Err stop) new = step (old.0) (Fetch line) (Err stop) (new.0) × (new.1 ≡ old.1)
+Beside step old (Store line value) (Err stop) new =
+    step (old.0) (Store line value) (Err stop) (new.0) × (new.1 ≡ old.1)
 
 -- lists of kept lines beside a list of bytes, with these lines to be fed
 abbrev pub feed_of : Lines → List (List ℕ) → Feed

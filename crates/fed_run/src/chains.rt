@@ -1,4 +1,5 @@
-//! Laws of chains of a store's steps below a core and a cache. The calls do nothing.
+//! Laws of chains of a store's steps below a core and a cache. The calls do nothing. A machine that runs instruction by
+//! instruction, as by `data_cache::step_cached`, joins them by `fed_runs_go_on`.
 //!
 //! What is asked of single steps is asked of those from where the store's `holds` alone. `noted` is a list in which
 //! such a step notes the line that a fetch is answered with, and nothing else.
@@ -19,7 +20,7 @@ ghost use Rattle.data_cache.specs.Contents.{Contents, write_line_plan};
 ghost use Rattle.data_cache.specs.Standing.{StandFor};
 ghost use Rattle.data_cache.specs.Cached.{cache_access, lists_access, StandsAs, StandsLeft};
 ghost use Rattle.fed_run.specs.Fed.{Ends as EndsAs, Starves, fed_step, fed_run};
-ghost use Rattle.fed_run.specs.Answered.{line_source, AreLines, feed_of};
+ghost use Rattle.fed_run.specs.Answered.{line_source, AreLines, Beside, feed_of};
 ghost use Rattle.fed_run.specs.Whole.{cache_run, lists_run, fed};
 
 use data_cache::LineStore;
@@ -30,8 +31,8 @@ pub trait KeptStore: LineStore {
     ghost holds: { Self → Type 0 };
 }
 
-/// An image line that is written whole into a cache, with its bytes of the list of bytes, notes no line, also where it is
-/// stopped. The list of bytes then stands for the cache as before, and the lists after this use of the line.
+/// An image line that is written whole into a cache, with its bytes of the list of bytes, notes no line, also where it
+/// is stopped. The list of bytes then stands for the cache as before, and the lists after this use of the line.
 pub fn image_line_is_fed<S: KeptStore>()
     ensures ends { (count ways line : ℕ) (memory : List ℕ) → line < count → length memory ≡ 64 * count
         → AnswersKeep S.step S.holds → (noted : S → List (List ℕ))
@@ -95,6 +96,7 @@ pub fn instruction_is_fed<S: KeptStore>()
 /// A run of at most n instructions over a cache, by such a chain, is the run of the machine that is fed with exactly
 /// the lines that were noted: as many instructions, the machine, and the ending. Where it is stopped, the machine that
 /// is fed with the lines noted until then finishes the same instructions, starves in the next one, and uses them all.
+/// The lines are noted in the store's own list, or, in the last two, in one beside it.
 pub fn run_is_fed<S: KeptStore>()
     ensures asks { (count ways n : ℕ) (machine : Machine) → IsCore machine.core → machine.core.size ≡ 64 * count
         → (cache : Contents) (lists : Lines) → StandsAs count ways cache lists
@@ -128,6 +130,33 @@ pub fn run_is_fed<S: KeptStore>()
         → StandsAs count ways cache lists
         → Stops S.step (through (cache_access machine.core.base) (run_plan n 0 machine) cache) old new stop left
         → (lines : List (List ℕ)) × (noted new ≡ noted old ++ lines) × AreLines lines
+        × (let run = fed_run ways n machine (feed_of lists lines) in
+        (run.instructions ≡ (left.1).0) × (run.machine ≡ (left.1).1) × (run.feed.left ≡ [])
+        × (run.ending ≡ Starves)) }
+    ensures answered { (count ways n : ℕ) (machine : Machine) → IsCore machine.core → machine.core.size ≡ 64 * count
+        → (old new : S) (cache after : Contents) (lists : Lines) (end : RunEnd) → StandsAs count ways cache lists
+        → Ends S.step (through (cache_access machine.core.base) (run_plan n 0 machine) cache) old new (after, end)
+        → (lines : List (List ℕ)) × (now : Lines)
+        × Ends (Beside S.step) (through (cache_access machine.core.base) (run_plan n 0 machine) cache) (old, [])
+        (new, lines) (after, end)
+        × AreLines lines × StandsAs count ways after now
+        × ((more : List (List ℕ)) → AreLines more
+        → fed_run ways n machine (feed_of lists (lines ++ more))
+        ≡ record {
+          instructions = end.instructions;
+          machine = end.machine;
+          feed = feed_of now more;
+          ending = EndsAs end.ending;
+        }) }
+    ensures answered_stop { (count ways n : ℕ) (machine : Machine) → IsCore machine.core
+        → machine.core.size ≡ 64 * count
+        → (old new : S) (cache : Contents) (lists : Lines) (stop : S.Stop) (left : Contents × (ℕ × Machine))
+        → StandsAs count ways cache lists
+        → Stops S.step (through (cache_access machine.core.base) (run_plan n 0 machine) cache) old new stop left
+        → (lines : List (List ℕ))
+        × Stops (Beside S.step) (through (cache_access machine.core.base) (run_plan n 0 machine) cache) (old, [])
+        (new, lines) stop left
+        × AreLines lines
         × (let run = fed_run ways n machine (feed_of lists lines) in
         (run.instructions ≡ (left.1).0) × (run.machine ≡ (left.1).1) × (run.feed.left ≡ [])
         × (run.ending ≡ Starves)) }

@@ -1,5 +1,8 @@
-use Rattle.data_cache.proofs.UseLaws.{use-requests}
+use Rattle.data_cache.proofs.UseLaws.{use-requests, access-requests}
 use Rattle.data_cache.proofs.laws.uses_make_their_requests.Goals as goal
 
-pub returns : goal.returns
-returns c = use-requests
+pub returns-clause-uses : goal.returns-clause-uses
+returns-clause-uses c = use-requests
+
+pub returns-clause-accesses : goal.returns-clause-accesses
+returns-clause-accesses c = access-requests
