@@ -7,7 +7,9 @@ mod slots;
 mod walk;
 
 pub use front::Front;
-pub use laws::{plans_have_rows, requests_hold_by_addresses, requests_show_the_walk};
+pub use laws::{
+    accesses_follow_the_groups, plans_have_rows, requests_hold_by_addresses, requests_show_the_walk,
+};
 pub use slots::{Access, Purpose, Seen, Slots};
 
 #[cfg(test)]
