@@ -1,18 +1,17 @@
 -- What the roots and the held groups say of an access that is asked for, whatever is answered: what it shows, and what
 -- they are afterwards.
-use Rattle.std.specs.Prelude.{◌≡◌, ◌≢◌, ℕ, ◌+◌, ◌-◌, ◌%◌, ◌^◌, Bool, nat_le, not, if◌then◌else◌}
-use Rattle.std.specs.Prelude.{List, [], ◌∷◌, ◌++◌, map, filter, Option, Some, None, slice_index, slice_set, option_map}
+use Rattle.std.specs.Prelude.{◌≡◌, ◌≢◌, ℕ, ◌+◌, ◌-◌, ◌%◌, ◌^◌, Bool, ◌&&◌, nat_le, not, if◌then◌else◌}
+use Rattle.std.specs.Prelude.{List, [], ◌∷◌, ◌++◌, map, filter, Option, Some, None, slice_index, option_map}
 use Rattle.std.specs.List.{range_with_len}
-use Rattle.std.specs.Option.{option_map_or}
 use Rattle.request_plan.specs.Plan.{Plan, Done, Ask}
 use Rattle.asc_base.specs.Shape.{parent_in, children_in}
 use Rattle.asc_base.specs.declared.block.Address.{Address}
 use Rattle.asc_base.specs.declared.block.Counter.{Counter}
 use Rattle.posmap_counters.specs.Counters.{first_counter, next_group, is_among}
-use Rattle.posmap_counters.specs.Group.{GroupState, child_counter, moved_group, asked_group, line_in}
+use Rattle.posmap_counters.specs.Group.{GroupState, child_counter, moved_group, asked_group}
 use Rattle.posmap_lookaside.specs.Held.{held_at, addresses_of}
 use Rattle.posmap_lookaside.specs.declared.held.Held.{Held}
-use Rattle.oram_walk.specs.Front.{FrontState, root_place, child_in, group_at}
+use Rattle.oram_walk.specs.Front.{FrontState, root_place, child_in, group_at, full_parent}
 use Rattle.oram_walk.specs.Memory.{Shown, Accessed, Displaced}
 use Rattle.oram_walk.specs.Request.{Request, Slot, Append, Answer, Room}
 use Rattle.oram_walk.specs.declared.slots.Purpose.{Purpose}
@@ -71,10 +70,32 @@ visit_by state address purpose (Some parent) = under_shown state address purpose
 abbrev pub visit_shown : FrontState → Address → Purpose → List Shown
 visit_shown state address purpose = visit_by state address purpose (parent_in state.shape address)
 
--- The groups after it: the parent's is that after an access to the child, and all others stay.
+-- the counter of a held block after a group move of this family: the next group counter, where it is one of it
+abbrev pub is_member : ℕ → ℕ → ℕ → Bool
+is_member first number address = nat_le first address && nat_le (address + 1) (first + number)
+
+abbrev pub moved_counter : GroupState → Option (Address × ℕ) → ℕ → Counter → Counter
+moved_counter group None address counter = counter
+moved_counter group (Some (first, number)) address counter =
+    (if is_member first.0 number address then next_group (child_counter group 0) else counter)
+
+-- the same after the group move that has to come first, where one has to
+abbrev pub moved_by : FrontState → Option (Address × GroupState) → ℕ → Counter → Counter
+moved_by state None address counter = counter
+moved_by state (Some (parent, group)) address counter =
+    moved_counter group (children_in state.shape parent) address counter
+
+-- the counter of a held block
+abbrev pub counter_held : List Held → Address → Option Counter
+counter_held list address = option_map (λ held. held.counter) (held_at list address)
+
+-- The held blocks after it: the parent has the group after an access to the child, and all other groups stay; a group
+-- move renumbers the children that are held, and all other counters stay.
 pub record IsVisited (state : FrontState) (address : Address) (now : FrontState) : Type 0 where
   pub parent : (parent : Address) (group : GroupState) → parent_in state.shape address ≡ Some parent
       → group_at state.held parent ≡ Some group
       → group_at now.held parent ≡ Some (asked_group state.ic group (child_in state.shape address))
   pub others : (other : Address) → ((parent : Address) → parent_in state.shape address ≡ Some parent
       → other.0 ≢ parent.0) → group_at now.held other ≡ group_at state.held other
+  pub counters : (other : Address) → counter_held now.held other
+      ≡ option_map (moved_by state (full_parent state address) other.0) (counter_held state.held other)

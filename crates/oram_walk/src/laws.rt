@@ -37,8 +37,9 @@ pub fn requests_hold_by_addresses()
 
 /// Whatever is answered, an access that is asked for shows exactly what the roots and the held groups say: the block
 /// under its counter, after the group move that it needs at its greatest own count, in which the children that aren't
-/// held are accessed under theirs. Afterwards the parent has the group after an access to the child, and all other held
-/// groups stay. A block that comes to be held shows the one that it displaces, under its counter, with its group's line.
+/// held are accessed under theirs. Afterwards the parent has the group after an access to the child, and the other
+/// groups stay; children that are held have the next group counter after a group move, and all other held counters
+/// stay. A block that comes to be held shows the one that it displaces, under its counter, with its group's line.
 pub fn accesses_follow_the_groups()
     ensures shows { (state : FrontState) (asked : ℕ) (address : Address) (purpose : Purpose) → IsFront state
         → IsAddress state.shape address
