@@ -12,3 +12,4 @@ pub mod Visits
 pub mod Refills
 pub mod Climbs
 pub mod Walked
+pub mod Shadows

@@ -4,3 +4,4 @@ pub mod Plans
 pub mod Memory
 pub mod Rows
 pub mod Shows
+pub mod Shadows

@@ -2,17 +2,24 @@
 
 ghost use Rattle.std.specs.Prelude.{◌≡◌, ℕ, ◌<◌, [], ◌∷◌, ◌++◌, map};
 ghost use Rattle.std.specs.List.{flat_map, range_with_len};
+ghost use Rattle.std.specs.Option.{option_map_or};
 ghost use Rattle.request_plan.specs.Plan.{Outcomes};
 ghost use Rattle.request_plan.specs.Play.{play, bare};
 ghost use Rattle.asc_base.specs.Settings.{IsConfig};
 ghost use Rattle.asc_base.specs.declared.settings.Config.{Config};
+ghost use Rattle.asc_base.specs.Shape.{IsAddress};
+ghost use Rattle.asc_base.specs.declared.block.Address.{Address};
 ghost use Rattle.asc_base.specs.declared.block.Line.{Line};
+ghost use Rattle.posmap_counters.specs.Group.{line_in};
+ghost use Rattle.posmap_lookaside.specs.Held.{displaced};
+ghost use Rattle.posmap_lookaside.specs.declared.held.Held.{Held};
 ghost use Rattle.posmap_lookaside.specs.Rows.{row, default_sizes, small_sizes, in_turn};
 ghost use Rattle.posmap_lookaside.specs.Walk.{OnChip, chip_at_start, walk};
-ghost use Rattle.oram_walk.specs.Front.{FrontState, IsAfter, first_front, sizes_of};
-ghost use Rattle.oram_walk.specs.Memory.{memory};
-ghost use Rattle.oram_walk.specs.Plans.{request_plan, fetch_plan, store_plan};
+ghost use Rattle.oram_walk.specs.Front.{FrontState, IsFront, IsAfter, first_front, sizes_of};
+ghost use Rattle.oram_walk.specs.Memory.{Displaced, memory};
+ghost use Rattle.oram_walk.specs.Plans.{visit_plan, hold_plan, request_plan, fetch_plan, store_plan};
 ghost use Rattle.oram_walk.specs.declared.slots.Purpose.{Purpose};
+ghost use Rattle.oram_walk.specs.Shadows.{ShowsAlways, visit_shown, IsVisited};
 ghost use Rattle.oram_walk.specs.Shows.{Shows, shown_by};
 ghost use Rattle.oram_walk.specs.Rows.{requests, start, zeros, default_shape, flat_shape, rooted_shape};
 ghost use Rattle.oram_walk.specs.declared.slots.Purpose.TheVariants.{Keep, Replace};
@@ -26,6 +33,24 @@ pub fn requests_hold_by_addresses()
         → Outcomes (λ (now, _). IsAfter state line now) (fetch_plan state asked line) }
     ensures store { (state : FrontState) (asked line : ℕ) (value : Line)
         → Outcomes (λ (now, _). IsAfter state line now) (store_plan state asked line value) }
+{}
+
+/// Whatever is answered, an access that is asked for shows exactly what the roots and the held groups say: the block
+/// under its counter, after the group move that it needs at its greatest own count, in which the children that aren't
+/// held are accessed under theirs. Afterwards the parent has the group after an access to the child, and the other
+/// groups stay; children that are held have the next group counter after a group move, and all other held counters
+/// stay. A block that comes to be held shows the one that it displaces, under its counter, with its group's line.
+pub fn accesses_follow_the_groups()
+    ensures shows { (state : FrontState) (asked : ℕ) (address : Address) (purpose : Purpose) → IsFront state
+        → IsAddress state.shape address
+        → ShowsAlways (visit_shown state address purpose) (visit_plan state asked address purpose) }
+    ensures groups { (state : FrontState) (asked : ℕ) (address : Address) (purpose : Purpose) → IsFront state
+        → IsAddress state.shape address
+        → Outcomes (λ (now, _). IsVisited state address now) (visit_plan state asked address purpose) }
+    ensures displaced { (state : FrontState) (held : Held)
+        → ShowsAlways (option_map_or (λ last.
+        Displaced last.address.0 last.counter (record { 0 = line_in last.group }) ∷ [])
+        (displaced state.plb held state.held) []) (hold_plan state held) }
 {}
 
 /// A request over a memory that shows the counters shows exactly its walk: its accesses in order, each under its
@@ -57,15 +82,15 @@ pub fn requests_show_the_walk()
 {}
 
 /// The plans on rows: over a memory of zeros they access and append what the walk does. On the default shape lines 0,
-/// 32 and 0 take 9 accesses where one block is held, and 6 where 32 are. With own counts of two bits four requests for
-/// line 0 of 64 take 37 accesses, the last of which moves a group. Under one root with two held blocks lines 0, 32, 0,
+/// 32 and 0 take 9 accesses where one block is held, and 6 where 32 are. With own counts of two bits four stores
+/// of line 0 of 64 take 37 accesses, the last of which moves a group. Under one root with two held blocks lines 0, 32, 0,
 /// 32, 0, 32 and 0 take 48, of which the last moves two groups; in the first of these a block is held.
 pub fn plans_have_rows()
     ensures nine { (requests (start default_shape 16 14 1) 0 zeros Keep (0 ∷ 32 ∷ 0 ∷ [])).0
         ≡ row (default_sizes 1) (0 ∷ 32 ∷ 0 ∷ []) }
     ensures six { (requests (start default_shape 16 14 32) 0 zeros Keep (0 ∷ 32 ∷ 0 ∷ [])).0
         ≡ row (default_sizes 32) (0 ∷ 32 ∷ 0 ∷ []) }
-    ensures one_move { requests (start flat_shape 2 2 32) 0 zeros Keep (0 ∷ 0 ∷ 0 ∷ 0 ∷ [])
+    ensures one_move { requests (start flat_shape 2 2 32) 0 zeros (Replace (zeros 0)) (0 ∷ 0 ∷ 0 ∷ 0 ∷ [])
         ≡ (
           (1, 64, 0, 0) ∷ (1, 0, 0, 0) ∷ (1, 0, 0, 1) ∷ (1, 0, 0, 2)
               ∷ (1, 0, 0, 3) ∷ map (λ child. (1, child, 0, 0)) (range_with_len 1 31) ++ (1, 0, 1, 0) ∷ [],

@@ -18,7 +18,10 @@ use posmap_counters::Group;
 use posmap_lookaside::Held;
 
 impl Front {
-    /// The line of this number, which is answered, and when its slot ended.
+    /// The line of this number, which the slots are told as answered, and when its slot ended.
+    ///
+    /// Err is a stop of the slots, or want of memory where a block comes to be held. What is left then is what the plan
+    /// leaves at that request.
     pub fn fetch<S: Slots>(&mut self, slots: &mut S, asked: u64, line: u32) -> Result<Seen, Stop>
         requires line { line < self.old.shape.lines }
         requires total { S.total slots.old ≡ self.old.shape.total }
@@ -42,6 +45,9 @@ impl Front {
     }
 
     /// Puts a line in the place of the line of this number, and answers when its slot ended.
+    ///
+    /// Err is a stop of the slots, or want of memory where a block comes to be held. What is left then is what the plan
+    /// leaves at that request.
     pub fn store<S: Slots>(
         &mut self,
         slots: &mut S,
