@@ -17,7 +17,8 @@ use Rattle.trace_checker.specs.declared.progress.Next.TheVariants.{Known, Open}
 use Rattle.trace_checker.specs.declared.progress.Progress.{Progress}
 use Rattle.trace_checker.specs.declared.progress.Slot.{Slot}
 use Rattle.trace_checker.specs.declared.verdict.Verdict.TheVariants.{Holds, Fails}
-use Rattle.trace_checker.proofs.StepLaws.{known_slot, open_slot, known_none, open_none, known_least, known_most, open_least}
+use Rattle.trace_checker.proofs.StepLaws.{known_slot, open_slot, known_none}
+use Rattle.trace_checker.proofs.StepLaws.{open_none, known_least, known_most, open_least}
 use Rattle.trace_checker.proofs.StepLaws.{open_most, slot_known, slot_open, no_start, no_moves}
 use Rattle.trace_checker.proofs.EndLaws.{FellBy, known_end, no_end, open_early, open_end}
 

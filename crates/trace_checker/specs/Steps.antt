@@ -1,7 +1,8 @@
 -- What the steps of the checker do, as the timetable says.
 use Rattle.std.specs.Prelude.{◌≡◌, ℕ, suc, ◌+◌, ◌-◌, ◌*◌, ◌^◌, ◌<◌, true, false}
 use Rattle.asc_base.specs.TreeShape.{olat_of}
-use Rattle.bus_schedule.specs.Timetable.{Public, AgreeTo, count_of, choices_of, rate_at, falls_next, beat_after, beat_at}
+use Rattle.bus_schedule.specs.Timetable.{Public, AgreeTo, count_of, choices_of}
+use Rattle.bus_schedule.specs.Timetable.{rate_at, falls_next, beat_after, beat_at}
 use Rattle.bus_schedule.specs.Timetable.{start_at}
 use Rattle.bus_schedule.specs.declared.beat.Beat.{Beat}
 use Rattle.bus_trace.specs.Trace.{TraceLists}

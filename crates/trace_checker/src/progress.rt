@@ -1,12 +1,14 @@
 //! How far the choices of a trace are known, slot by slot.
 
-ghost use Rattle.std.specs.Prelude.{◌≡◌, ◌↔◌, ℕ, ◌+◌, ◌^◌, ◌<◌, ◌≤◌, List, MatchOption, IfSome, IfNone, length, slice_index};
+ghost use Rattle.std.specs.Prelude.{◌≡◌, ◌↔◌, ℕ, ◌+◌, ◌^◌, ◌<◌};
+ghost use Rattle.std.specs.Prelude.{◌≤◌, List, MatchOption, IfSome, IfNone, length, slice_index};
 ghost use Rattle.asc_base.specs.TreeShape.{olat_of};
 ghost use Rattle.bus_schedule.specs.Timetable.{count_of, first_beat};
 ghost use Rattle.bus_schedule.specs.Timing.{IsTimingOf};
 ghost use Rattle.bus_trace.specs.Grammar.{IsHeader};
 ghost use Rattle.bus_trace.specs.Trace.{public_of};
-ghost use Rattle.trace_checker.specs.Steps.{Follows, IsEarly, IsSound, IsSoundNext, MayStartNext, TakesIndex, TakesNext, first_start};
+ghost use Rattle.trace_checker.specs.Steps.{Follows, IsEarly, IsSound, IsSoundNext};
+ghost use Rattle.trace_checker.specs.Steps.{MayStartNext, TakesIndex, TakesNext, first_start};
 ghost use Rattle.trace_checker.specs.declared.progress.Next.TheVariants.{Known, Open};
 
 use asc_base::{MOVE_CYCLES, TURN_CYCLES};
