@@ -1,12 +1,12 @@
 -- The lines of a file's segments, one after another.
-use Rattle.std.proofs.Common.{◌≡◌, ◌∙◌, ℕ, suc, ◌+◌, ◌<◌, ◌≤◌, List, [], ◌∷◌, ◌++◌, length, drop, append_assoc, ap, sym, refl, arith, rules, append-nil, min, Bool, true, false}
+use Rattle.std.proofs.Common.{◌≡◌, ◌∙◌, ℕ, ◌+◌, ◌<◌, ◌≤◌, List, [], ◌∷◌, ◌++◌, length, drop, append_assoc, ap, sym, refl, arith, append-nil, min, Bool, true, false}
 use Rattle.std.specs.Int.{from_le_bytes, w32}
 use Rattle.std.specs.Prelude.{slice_index, nat_lt, if◌then◌else◌}
-use Rattle.std.specs.List.{flat_map, range_with_len}
+use Rattle.std.specs.List.{flat_map}
 use Rattle.std.proofs.lemmas.Grind.{flat_map-append}
 use Rattle.std.proofs.lemmas.Bool.{ltb-true, ltb-false}
 use Rattle.std.proofs.lemmas.List.FromFn.{map-range_with_len_more}
-use Rattle.elf_loader.specs.Elf.{first_headers, header_at, header_count, headers}
+use Rattle.elf_loader.specs.Elf.{first_headers, header_at, header_count}
 use Rattle.ascend_top.specs.Disasm.{lines_of, listing_of, segment_lines, word_line}
 
 -- the lines of the segments of the indices below a number
@@ -30,7 +30,7 @@ module _ (file : List ℕ) (index : ℕ) where
       ∙ ap (λ lines. flat_map (segment_lines file) (first_headers file index) ++ lines)
       (append-nil (segment_lines file (header_at file index)))
       ∙ ap (λ n. flat_map (segment_lines file) (first_headers file n)
-          ++ segment_lines file (header_at file index)) (sym now)
+      ++ segment_lines file (header_at file index)) (sym now)
   more false is =
       let beyond : header_count file ≤ index = ltb-false index (header_count file) is in
       let same : min (index + 1) (header_count file) ≡ min index (header_count file) = omega arith in
@@ -50,7 +50,7 @@ listed_all file few =
 -- a line more, and the lines of what follows its four bytes
 pub lines_step : (address number : ℕ) (rest before now all : List ℕ) → 4 ≤ length rest
     → number ≡ from_le_bytes w32 (slice_index rest 0 ∷ slice_index rest 1 ∷ slice_index rest 2 ∷
-        slice_index rest 3 ∷ [])
+    slice_index rest 3 ∷ [])
     → now ≡ before ++ word_line address number → before ++ lines_of address rest ≡ all
     → now ++ lines_of (address + 4) (drop 4 rest) ≡ all
 lines_step address number [] before now all long is line whole = absurd (omega arith)

@@ -50,12 +50,7 @@ pub(crate) enum Kind {
 }
 
 /// Every command.
-const COMMANDS: [Command; 4] = [
-    Command::Run,
-    Command::Flat,
-    Command::Asm,
-    Command::Disasm,
-];
+const COMMANDS: [Command; 4] = [Command::Run, Command::Flat, Command::Asm, Command::Disasm];
 
 /// Every name.
 const NAMES: [Name; 9] = [

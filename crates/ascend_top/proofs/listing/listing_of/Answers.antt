@@ -15,7 +15,7 @@ pub returns : goal.returns
 returns c =
     let few : header_count c.args.file.now ≤ 256 =
     elim (cases_lt 256 (header_count c.args.file.now)) [
-      inl many ↦ absurd (c.requires 0 0 Table (omega arith) (inl many))
+      | inl many ↦ absurd (c.requires 0 0 Table (omega arith) (inl many))
       | inr few ↦ few
     ] in
     let last : c.loop-index.index ≡ 256 = omega arith in

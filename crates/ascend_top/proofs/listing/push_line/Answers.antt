@@ -11,7 +11,7 @@ returns c =
     c.args.into.now.items ++ (column c.args.address ++ (column word ++ (text_of c.args.word ++ (10 ∷ [])))) in
     on_ok_weaker c.push.result
     (λ last. appended c.args.into.now.items (column c.args.address) (column c.from.result)
-        (text_of c.args.word) (10 ∷ [])
+    (text_of c.args.word) (10 ∷ [])
     c.push_column.new.into.items c.push_column-2.new.into.items c.disassemble.new.into.items c.push.new.into.items
     c.in_ok-push_column.ensures c.in_ok-push_column-2.ensures c.in_ok-disassemble.ensures.ok last
     ∙ ap lines c.from.ensures)

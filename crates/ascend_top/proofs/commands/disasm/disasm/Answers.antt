@@ -7,8 +7,14 @@ pub returns : goal.returns
 returns g c =
     let at = g.H.Host.state c.read.new.host in
     let new = g.H.Host.state c.print.new.host in
-    inr (at, c.in-Ok.ensures.done, inr (c.in-Ok-listing_of.text.items,
-    (λ files told. c.in-Ok-listing_of.ensures ∙ ap listing_of c.as_slice.ensures.value
-    ∙ ap listing_of (c.in-Ok.ensures.told files told)),
-    inl (subst (λ text. Refuses (Prints text) c.in-Err-print.refusal at new) c.as_slice-2.ensures.value
-    c.in-Err-print.ensures.refused)))
+    inr (
+      at,
+      c.in-Ok.ensures.done,
+      inr (
+        c.in-Ok-listing_of.text.items,
+        (λ files told. c.in-Ok-listing_of.ensures ∙ ap listing_of c.as_slice.ensures.value
+            ∙ ap listing_of (c.in-Ok.ensures.told files told)),
+        inl (subst (λ text. Refuses (Prints text) c.in-Err-print.refusal at new) c.as_slice-2.ensures.value
+            c.in-Err-print.ensures.refused),
+      ),
+    )
