@@ -1,6 +1,6 @@
 -- The fields of an assembled file, what faults it doesn't have, and its memory.
-use Rattle.std.proofs.Common.{◌≡◌, ◌∙◌, ◌⊎◌, ℕ, suc, ◌+◌, ◌-◌, ◌*◌, ◌%◌, ◌^◌, ◌<◌, ◌≤◌, List, [], ◌∷◌, ◌++◌, length, ap, sym, subst, refl, arith, inl, inr, Bool, true, false, append_assoc, length-append}
-use Rattle.std.specs.Prelude.{◌==◌, nat_lt, nat_le, ◌&&◌, cond, map, replicate, slice_index, Option, Some, None}
+use Rattle.std.proofs.Common.{◌≡◌, ◌∙◌, ℕ, ◌+◌, ◌-◌, ◌%◌, ◌^◌, ◌<◌, ◌≤◌, List, [], ◌∷◌, ◌++◌, length, ap, sym, subst, refl, arith, inl, inr, true, false, length-append}
+use Rattle.std.specs.Prelude.{nat_lt, ◌&&◌, cond, map, replicate, slice_index, Some, None}
 use Rattle.std.specs.List.{find, range_with_len}
 use Rattle.std.proofs.lemmas.Nat.{from_le_bytes-to_le_bytes_4}
 use Rattle.std.proofs.lemmas.List.{ext_get_or, get_or_append_left, get_or-append_right, get_or-append-add, get_or-replicate, length-replicate}
@@ -10,8 +10,8 @@ use Rattle.elf_loader.specs.declared.header.ProgramHeader.{ProgramHeader}
 use Rattle.elf_loader.specs.declared.fault.ElfFault.{ElfFault}
 use Rattle.elf_loader.specs.declared.fault.ElfFault.TheVariants.{Short, Magic, Class, Order, Version, FileType, Machine, Compressed, HeaderSize, Table, Interp, Segment, Outside, Overlap, Entry, NoMemory}
 use Rattle.elf_loader.specs.Elf.{half, word, entry_of, header_from, header_at}
-use Rattle.elf_loader.specs.Faults.{IsFault, IsFaultless, IsInterpreter, IsBadSegment, IsOutside}
-use Rattle.elf_loader.specs.Layout.{covers, byte_at, byte_of, image_byte, image_bytes}
+use Rattle.elf_loader.specs.Faults.{IsFault, IsBadSegment, IsOutside}
+use Rattle.elf_loader.specs.Layout.{covers, byte_of, image_byte, image_bytes}
 use Rattle.rv32_asm.specs.File.{elf_header, program_header, file_of}
 use Rattle.ascend_top.specs.Assembled.{IsInside, memory_of}
 

@@ -7,8 +7,6 @@ use Rattle.std.specs.List.{AllByRecursion}
 use Rattle.asc_base.specs.declared.settings.Settings.{Settings}
 use Rattle.asc_outside.specs.Host.{Files, HostState, IsLonger}
 use Rattle.asc_outside.specs.Rose.{Rose}
-use Rattle.elf_loader.specs.Faults.{IsFaultless}
-use Rattle.elf_loader.specs.declared.fault.ElfFault.{ElfFault}
 use Rattle.ascend_words.specs.Grammar.{Pair, Read}
 use Rattle.ascend_words.specs.Settings.{text_in, settings_of}
 use Rattle.ascend_words.specs.declared.table.Command.{Command}
@@ -20,12 +18,12 @@ use Rattle.rv32_asm.specs.declared.fault.AsmFault.TheVariants.{Bad}
 use Rattle.rv32_asm.specs.File.{assembled}
 use Rattle.ascend_top.specs.Command.{AreRight, CommandEnds, Completes, IsFirstRefusal, IsOfFiles, StepsEnd, Tells, WorkEnds}
 use Rattle.ascend_top.specs.Command.{last_steps, lifted, made_of, steps_of}
-use Rattle.ascend_top.specs.Flat.{input_steps, report_steps}
+use Rattle.ascend_top.specs.Flat.{input_steps}
 use Rattle.ascend_top.specs.Asm.{place_in}
 use Rattle.ascend_top.specs.Made.{Made, Ran, Assembled, Listed}
 use Rattle.ascend_top.specs.Status.{status_of, status_of_made, status_of_refusal}
 use Rattle.ascend_top.specs.Steps.{AText, IsInRange, IsNumberCause, JudgesNumber, Keeps}
-use Rattle.ascend_top.specs.Steps.{AKey, AllDone, AnElf, Anything, Breaks, Does, IsCause, IsDone, IsReadCause}
+use Rattle.ascend_top.specs.Steps.{AKey, AllDone, AnElf, Breaks, Does, IsCause, IsDone, IsReadCause}
 use Rattle.ascend_top.specs.Steps.{IsRefused, IsRight, IsSettingCause, IsWriteCause, IsWrong, Judges, Prints, Reads}
 use Rattle.ascend_top.specs.Steps.{Refuses, Rule, Step, Writes, limit_of}
 use Rattle.ascend_top.specs.Texts.{refusal_text}

@@ -1,12 +1,12 @@
 -- The lines of a file's segments, one after another.
-use Rattle.std.proofs.Common.{◌≡◌, ◌∙◌, ℕ, suc, ◌+◌, ◌<◌, ◌≤◌, List, [], ◌∷◌, ◌++◌, length, drop, append_assoc, ap, sym, refl, arith, rules, append-nil, min, Bool, true, false}
+use Rattle.std.proofs.Common.{◌≡◌, ◌∙◌, ℕ, ◌+◌, ◌<◌, ◌≤◌, List, [], ◌∷◌, ◌++◌, length, drop, append_assoc, ap, sym, refl, arith, append-nil, min, Bool, true, false}
 use Rattle.std.specs.Int.{from_le_bytes, w32}
 use Rattle.std.specs.Prelude.{slice_index, nat_lt, if◌then◌else◌}
-use Rattle.std.specs.List.{flat_map, range_with_len}
+use Rattle.std.specs.List.{flat_map}
 use Rattle.std.proofs.lemmas.Grind.{flat_map-append}
 use Rattle.std.proofs.lemmas.Bool.{ltb-true, ltb-false}
 use Rattle.std.proofs.lemmas.List.FromFn.{map-range_with_len_more}
-use Rattle.elf_loader.specs.Elf.{first_headers, header_at, header_count, headers}
+use Rattle.elf_loader.specs.Elf.{first_headers, header_at, header_count}
 use Rattle.ascend_top.specs.Disasm.{lines_of, listing_of, segment_lines, word_line}
 
 -- the lines of the segments of the indices below a number

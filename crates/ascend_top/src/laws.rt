@@ -7,8 +7,8 @@ ghost use Rattle.elf_loader.specs.Layout.{image_bytes};
 ghost use Rattle.rv32_asm.specs.File.{file_of};
 ghost use Rattle.ascend_top.specs.Assembled.{IsInside, memory_of};
 
-/// `parse` accepts every file that `assemble` gives, where the program is inside the memory: the memory has the program's
-/// bytes at their place and zeros elsewhere, and the first instruction is the program's first.
+/// `parse` accepts every file that `assemble` gives, where the program is inside the memory: the memory has the
+/// program's bytes at their place and zeros elsewhere, and the first instruction is the program's first.
 pub fn assembled_files_are_accepted()
     ensures faultless { (base size at : ℕ) (bytes : List ℕ) → IsInside base size at bytes
         → IsFaultless base size (file_of at bytes) }

@@ -1,3 +1,5 @@
+mod assembling;
+
 use super::*;
 use asc_outside::{Host, HostFault, MemHost};
 use std::alloc::{AllocError, Global};

@@ -1,4 +1,4 @@
-use Rattle.std.proofs.Common.{◌≡◌, ◌∙◌, List, ℕ, sym, refl, subst}
+use Rattle.std.proofs.Common.{◌∙◌, sym, refl, subst}
 use Rattle.ascend_words.specs.declared.table.Command.TheVariants.{Run, Flat, Asm, Disasm}
 use Rattle.ascend_top.specs.Asm.{asm_file, asm_steps, write_steps}
 use Rattle.ascend_top.specs.Command.{WorkEnds, bytes_end, end_of, run_end}

@@ -1,4 +1,4 @@
-use Rattle.std.proofs.Common.{◌≡◌, ◌∙◌, ◌++◌, ◌+◌, ◌-◌, ◌≤◌, List, ℕ, length, take, drop, length-drop, ap, arith}
+use Rattle.std.proofs.Common.{◌≡◌, ◌∙◌, ◌++◌, ◌+◌, ◌-◌, ◌≤◌, List, ℕ, length, drop, length-drop, ap, arith}
 use Rattle.std.proofs.lemmas.List.{take_rest}
 use Rattle.ascend_top.specs.Disasm.{lines_of}
 use Rattle.ascend_top.proofs.ListingLaws.{lines_step}

@@ -1,5 +1,4 @@
 use Rattle.std.proofs.Common.{inl, inr, subst}
-use Rattle.ascend_top.specs.Asm.{write_steps}
 use Rattle.ascend_top.specs.Steps.{Refuses, Writes}
 use Rattle.ascend_top.proofs.commands.asm.asm.Goals as goal
 
