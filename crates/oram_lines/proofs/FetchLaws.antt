@@ -79,7 +79,7 @@ module _ (keys : Keys) (lawful : AreKeys keys) (levels : ℕ) where
       layer_of_is keys.shape.lines keys.shape.layers 0 line (shape_layered keys.shape lawful.shape).layers_from
       (record { from = omega arith; below = omega arith })
 
-  data_leaf : (line : ℕ) → line < keys.shape.lines → children_of keys.shape.lines keys.shape.layers line ≡ None
+  pub data_leaf : (line : ℕ) → line < keys.shape.lines → children_of keys.shape.lines keys.shape.layers line ≡ None
   data_leaf line below =
       children_of-line keys.shape.lines keys.shape.layers line 0 (sym (data_layer line below)) refl
 
@@ -180,7 +180,7 @@ module _ (keys : Keys) (lawful : AreKeys keys) (levels : ℕ) where
       ))
 
   -- the same bytes in the place of one line's
-  put_alike : (f g : ℕ → List ℕ) (a : ℕ) (l : List ℕ) (b : ℕ) → f b ≡ g b → put_at f a l b ≡ put_at g a l b
+  pub put_alike : (f g : ℕ → List ℕ) (a : ℕ) (l : List ℕ) (b : ℕ) → f b ≡ g b → put_at f a l b ≡ put_at g a l b
   put_alike f g a l b same = elim (cases_eq b a) [
     | inl is ↦ ap (put_at f a l) is ∙ (put_same f a l ∙ sym (ap (put_at g a l) is ∙ put_same g a l))
     | inr other ↦ put_other f a l b other ∙ (same ∙ sym (put_other g a l b other))

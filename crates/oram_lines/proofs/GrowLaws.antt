@@ -1,5 +1,5 @@
--- A forgery that a log shows stays over the steps of a port and of its slots.
-use Rattle.std.proofs.Common.{◌≡◌, ℕ, List, [], Result, Ok, Err, refl, sym, ap, subst, append-nil}
+-- What stays over the steps of a port and of its slots: a forgery that a log shows, and that a clock counts its starts.
+use Rattle.std.proofs.Common.{◌≡◌, ℕ, List, [], Ok, count_by, sym, ap, ◌∙◌, subst}
 use Rattle.request_plan.specs.Plan.{Plan, Done, Ask, Ends}
 use Rattle.asc_base.specs.declared.block.Point.{Point}
 use Rattle.asc_base.specs.declared.stop.Stop.{Stop}
@@ -14,7 +14,9 @@ use Rattle.oram_contents.specs.Forgery.{Forgery}
 use Rattle.oram_contents.proofs.Access.{forgery_more}
 use Rattle.oram_walk.specs.Request.{Request, Slot, Append, Answer, Room, Steps}
 use Rattle.oram_walk.specs.declared.slots.Seen.{Seen}
+use Rattle.rate_enforcer.specs.Counts.{IsCounted, is_dummy, is_real}
 use Rattle.rate_enforcer.specs.PortStep.{PortState, PortStep, PortRequest, Said, Open, Take, Note, Put, Close, Abort, Join, Idle}
+use Rattle.rate_enforcer.specs.declared.clock.Clock.{Clock}
 use Rattle.oram_frontend.specs.Access.{SlotStep, serve_plan}
 
 module _ (keys : Keys) where
@@ -39,29 +41,63 @@ module _ (keys : Keys) where
   forgery_port leaf_of levels s t (Join entry) x h f = same_tap s.tap t.tap h.1.others.tap f
   forgery_port leaf_of levels s t (Idle time) x h f = forgery_made h.1.used.made f
 
-  pub forgery_calls : {B A : Type 0} (leaf_of : Point → ℕ) (levels : ℕ) (plan : Plan PortRequest Said B A)
-      (s t : PortState) (outcome : A) → Ends (PortStep leaf_of levels) plan s t outcome
-      → Forgery keys s.tap.log → Forgery keys t.tap.log
-  forgery_calls leaf_of levels (Done a) s t outcome ends f = subst (λ (x : PortState). Forgery keys x.tap.log)
-      (sym ends.1) f
-  forgery_calls leaf_of levels (Ask q b k) s t outcome ends f =
-      let (x, mid, one, rest) = ends in
-      forgery_calls leaf_of levels (k x) mid t outcome rest (forgery_port leaf_of levels s mid q x one f)
+-- the clock still counts the starts
+counted_same : (s t : PortState) → t.clock ≡ s.clock → t.tap ≡ s.tap → IsCounted s.clock s.tap.log
+    → IsCounted t.clock t.tap.log
+counted_same s t clock tap c = record {
+  dummies = ap (λ (k : Clock). k.dummies) clock
+      ∙ (c.dummies ∙ ap (λ (x : TapState). count_by is_dummy x.log.events) (sym tap));
+  real = ap (λ (k : Clock). k.real) clock ∙ (c.real ∙ ap (λ (x : TapState). count_by is_real x.log.events) (sym tap));
+}
 
-  -- a request of a walk, and a walk
-  forgery_step : (levels : ℕ) (s t : PortState) (q : Request) (x : Seen) → Steps (SlotStep keys levels) s q (Ok x) t
-      → Forgery keys s.tap.log → Forgery keys t.tap.log
-  forgery_step levels s t (Slot access) x h f =
-      forgery_calls keys.leaf_of levels (serve_plan keys (Slot access)) s t _ h f
-  forgery_step levels s t (Append message) x h f =
-      forgery_calls keys.leaf_of levels (serve_plan keys (Append message)) s t _ h f
-  forgery_step levels s t (Answer line value) x h f =
-      forgery_calls keys.leaf_of levels (serve_plan keys (Answer line value)) s t _ h f
-  forgery_step levels s t Room x h f = subst (λ (y : PortState). Forgery keys y.tap.log) (sym h.1) f
+pub counted_port : (leaf_of : Point → ℕ) (levels : ℕ) (s t : PortState) (q : PortRequest) (x : Said)
+    → PortStep leaf_of levels s q (Ok x) t → IsCounted s.clock s.tap.log → IsCounted t.clock t.tap.log
+counted_port leaf_of levels s t (Open asked point) x h c = h.1.counts c
+counted_port leaf_of levels s t (Take address) x h c = counted_same s t h.1.others.clock h.1.others.tap c
+counted_port leaf_of levels s t (Note event) x h c = h.1.counts c
+counted_port leaf_of levels s t (Put entry) x h c = counted_same s t h.1.others.clock h.1.others.tap c
+counted_port leaf_of levels s t Close x h c = h.1.counts c
+counted_port leaf_of levels s t (Abort stop) x h c = record {
+  dummies = ap (λ (k : Clock). k.dummies) h.1.clock
+      ∙ (c.dummies ∙ ap (λ (y : TapState). count_by is_dummy y.log.events) (sym h.1.tap));
+  real = ap (λ (k : Clock). k.real) h.1.clock
+      ∙ (c.real ∙ ap (λ (y : TapState). count_by is_real y.log.events) (sym h.1.tap));
+}
+counted_port leaf_of levels s t (Join entry) x h c = counted_same s t h.1.others.clock h.1.others.tap c
+counted_port leaf_of levels s t (Idle time) x h c = h.1.counts c
 
-  pub forgery_walk : {B A : Type 0} (levels : ℕ) (plan : Plan Request Seen B A) (s t : PortState) (outcome : A)
-      → Ends (Steps (SlotStep keys levels)) plan s t outcome → Forgery keys s.tap.log → Forgery keys t.tap.log
-  forgery_walk levels (Done a) s t outcome ends f = subst (λ (x : PortState). Forgery keys x.tap.log) (sym ends.1) f
-  forgery_walk levels (Ask q b k) s t outcome ends f =
+-- What each call of a port keeps, a whole walk does.
+module _ (keys : Keys) (levels : ℕ) (P : PortState → Type 0)
+    (each : (s t : PortState) (q : PortRequest) (x : Said) → PortStep keys.leaf_of levels s q (Ok x) t → P s → P t)
+    where
+  calls_keep : {B A : Type 0} (plan : Plan PortRequest Said B A) (s t : PortState) (outcome : A)
+      → Ends (PortStep keys.leaf_of levels) plan s t outcome → P s → P t
+  calls_keep (Done a) s t outcome ends p = subst P (sym ends.1) p
+  calls_keep (Ask q b k) s t outcome ends p =
       let (x, mid, one, rest) = ends in
-      forgery_walk levels (k x) mid t outcome rest (forgery_step levels s mid q x one f)
+      calls_keep (k x) mid t outcome rest (each s mid q x one p)
+
+  step_keeps : (s t : PortState) (q : Request) (x : Seen) → Steps (SlotStep keys levels) s q (Ok x) t → P s → P t
+  step_keeps s t (Slot access) x h p = calls_keep (serve_plan keys (Slot access)) s t _ h p
+  step_keeps s t (Append message) x h p = calls_keep (serve_plan keys (Append message)) s t _ h p
+  step_keeps s t (Answer line value) x h p = calls_keep (serve_plan keys (Answer line value)) s t _ h p
+  step_keeps s t Room x h p = subst P (sym h.1) p
+
+  pub walk_keeps : {B A : Type 0} (plan : Plan Request Seen B A) (s t : PortState) (outcome : A)
+      → Ends (Steps (SlotStep keys levels)) plan s t outcome → P s → P t
+  walk_keeps (Done a) s t outcome ends p = subst P (sym ends.1) p
+  walk_keeps (Ask q b k) s t outcome ends p =
+      let (x, mid, one, rest) = ends in
+      walk_keeps (k x) mid t outcome rest (step_keeps s mid q x one p)
+
+pub forgery_walk : (keys : Keys) {B A : Type 0} (levels : ℕ) (plan : Plan Request Seen B A) (s t : PortState)
+    (outcome : A) → Ends (Steps (SlotStep keys levels)) plan s t outcome → Forgery keys s.tap.log
+    → Forgery keys t.tap.log
+forgery_walk keys levels plan s t outcome ends f =
+    walk_keeps keys levels (λ s. Forgery keys s.tap.log) (forgery_port keys keys.leaf_of levels) plan s t outcome ends f
+
+pub counted_walk : (keys : Keys) {B A : Type 0} (levels : ℕ) (plan : Plan Request Seen B A) (s t : PortState)
+    (outcome : A) → Ends (Steps (SlotStep keys levels)) plan s t outcome → IsCounted s.clock s.tap.log
+    → IsCounted t.clock t.tap.log
+counted_walk keys levels plan s t outcome ends c =
+    walk_keeps keys levels (λ s. IsCounted s.clock s.tap.log) (counted_port keys.leaf_of levels) plan s t outcome ends c

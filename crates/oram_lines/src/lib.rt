@@ -3,8 +3,10 @@
 
 mod fetches;
 mod laws;
+mod lines;
 mod shown;
 
 pub use fetches::lines_are_kept;
 pub use laws::{known_between, known_requests};
+pub use lines::encrypted_memory_holds_lines;
 pub use shown::{chip_shows, chip_shows_group_moves};

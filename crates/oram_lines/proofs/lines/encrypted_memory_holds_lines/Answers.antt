@@ -1,0 +1,5 @@
+use Rattle.oram_lines.proofs.LineLaws.{new_holds, call_holds, calls_hold, forgery_call}
+use Rattle.oram_lines.proofs.lines.encrypted_memory_holds_lines.Goals as goal
+
+pub returns : goal.returns
+returns c = record { start = new_holds; call = call_holds; calls = calls_hold; forged = forgery_call }

@@ -1,0 +1,32 @@
+//! What an encrypted memory holds. The functions do nothing: each states laws in its contract.
+
+ghost use Rattle.std.specs.Prelude.{◌⊎◌, ℕ, Ok};
+ghost use Rattle.asc_base.specs.Settings.{IsConfig};
+ghost use Rattle.asc_base.specs.declared.settings.Config.{Config};
+ghost use Rattle.oram_contents.specs.Counts.{zero_line};
+ghost use Rattle.oram_contents.specs.Entries.{Keys, AreKeys};
+ghost use Rattle.oram_contents.specs.Forgery.{Forgery};
+ghost use Rattle.oram_frontend.specs.Oram.{OramState, OramRequest, OramStep, Told};
+ghost use Rattle.oram_lines.specs.Lines.{Lines, IsNew, HoldsLines, IsRequest, lines_after, IsLineOf, Calls, Answered};
+ghost use Rattle.oram_lines.specs.Lines.{AreRequests, AreLinesOf, lines_by};
+
+/// A new encrypted memory holds zeros. Over each call that is answered it goes on holding its lines, or those with the
+/// one that was stored, and a fetch is answered with its line; or the log shows a forgery. So it is over any number of
+/// calls. A forgery that a log shows, it goes on showing.
+pub fn encrypted_memory_holds_lines()
+    ensures start { (keys : Keys) → AreKeys keys → (levels : ℕ) (config : Config) (o : OramState) → IsConfig config
+        → IsNew keys config levels o → HoldsLines keys levels (λ line. zero_line) o }
+    ensures call { (keys : Keys) → AreKeys keys → (levels : ℕ) (lines : Lines) (old new : OramState)
+        (request : OramRequest) (told : Told) → HoldsLines keys levels lines old
+        → IsRequest keys.shape.lines request → OramStep keys levels old request (Ok told) new
+        → Forgery keys new.port.tap.log
+        ⊎ (HoldsLines keys levels (lines_after lines request) new × IsLineOf lines request told.line) }
+    ensures calls { (keys : Keys) → AreKeys keys → (levels : ℕ) (lines : Lines) (old new : OramState)
+        (calls : Calls) → HoldsLines keys levels lines old → AreRequests keys.shape.lines calls
+        → Answered keys levels old calls new
+        → Forgery keys new.port.tap.log
+        ⊎ (HoldsLines keys levels (lines_by lines calls) new × AreLinesOf lines calls) }
+    ensures forged { (keys : Keys) → AreKeys keys → (levels : ℕ) (old new : OramState) (request : OramRequest)
+        (told : Told) → OramStep keys levels old request (Ok told) new → Forgery keys old.port.tap.log
+        → Forgery keys new.port.tap.log }
+{}
