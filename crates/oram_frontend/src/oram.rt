@@ -99,6 +99,7 @@ impl<L: LeafFn> Oram<L> {
         ensures same { IsSameBus bus.old bus.new }
         ensures tagger { self.new.tagger ≡ self.old.tagger }
         ensures leaves { self.new.port.leaves ≡ self.old.port.leaves }
+        ensures shape { self.new.front.shape ≡ self.old.front.shape }
         ensures serves { OnOk result (CanServe self.new.front self.new.port.clock self.new.port.tree
             (L.levels self.new.port.leaves) (M.state bus.new.memory.now) (W.state bus.new.tap.now)) }
         ensures last { IfOk result (λ (value, end). self.new.port.clock.last ≡ end) }
@@ -141,6 +142,7 @@ impl<L: LeafFn> Oram<L> {
         ensures same { IsSameBus bus.old bus.new }
         ensures tagger { self.new.tagger ≡ self.old.tagger }
         ensures leaves { self.new.port.leaves ≡ self.old.port.leaves }
+        ensures shape { self.new.front.shape ≡ self.old.front.shape }
         ensures stop { self.new.stop ≡ self.old.stop }
         ensures serves { OnOk result (CanServe self.new.front self.new.port.clock self.new.port.tree
             (L.levels self.new.port.leaves) (M.state bus.new.memory.now) (W.state bus.new.tap.now)) }
@@ -181,6 +183,7 @@ impl<L: LeafFn> Oram<L> {
         ensures same { IsSameBus bus.old bus.new }
         ensures tagger { self.new.tagger ≡ self.old.tagger }
         ensures leaves { self.new.port.leaves ≡ self.old.port.leaves }
+        ensures shape { self.new.front.shape ≡ self.old.front.shape }
         ensures serves { OnOk result (CanServe self.new.front self.new.port.clock self.new.port.tree
             (L.levels self.new.port.leaves) (M.state bus.new.memory.now) (W.state bus.new.tap.now)) }
         ensures last { IfOk result (λ end. self.new.port.clock.last ≡ end) }
@@ -224,6 +227,7 @@ impl<L: LeafFn> Oram<L> {
         ensures same { IsSameBus bus.old bus.new }
         ensures tagger { self.new.tagger ≡ self.old.tagger }
         ensures leaves { self.new.port.leaves ≡ self.old.port.leaves }
+        ensures shape { self.new.front.shape ≡ self.old.front.shape }
         ensures stop { self.new.stop ≡ self.old.stop }
         ensures serves { OnOk result (CanServe self.new.front self.new.port.clock self.new.port.tree
             (L.levels self.new.port.leaves) (M.state bus.new.memory.now) (W.state bus.new.tap.now)) }
@@ -261,6 +265,7 @@ impl<L: LeafFn> Oram<L> {
         ensures same { IsSameBus bus.old bus.new }
         ensures tagger { self.new.tagger ≡ self.old.tagger }
         ensures leaves { self.new.port.leaves ≡ self.old.port.leaves }
+        ensures shape { self.new.front.shape ≡ self.old.front.shape }
         ensures serves { OnOk result (CanServe self.new.front self.new.port.clock self.new.port.tree
             (L.levels self.new.port.leaves) (M.state bus.new.memory.now) (W.state bus.new.tap.now)) }
         ensures last { IfOk result (λ end. end ≡ max time self.new.port.clock.last) }
