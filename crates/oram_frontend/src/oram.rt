@@ -129,12 +129,14 @@ impl<L: LeafFn> Oram<L> {
             (L.levels self.old.port.leaves) (M.state bus.old.memory.now) (W.state bus.old.tap.now) }
         requires line { line < self.old.front.shape.lines }
         requires asked { self.old.port.clock.last ≤ asked }
-        ensures ok { IfOk result (λ seen. Ends (Steps (SlotStep (keys_of self.old.port.tree self.old.tagger (L.leaf_of self.old.port.leaves))
+        ensures ok { IfOk result (λ seen. Ends (Steps (SlotStep
+            (keys_of self.old.port.tree self.old.tagger (L.leaf_of self.old.port.leaves))
             (L.levels self.old.port.leaves))) (fetch_plan self.old.front asked line)
             (port_of self.old.port.clock self.old.port.tree (M.state bus.old.memory.now) (W.state bus.old.tap.now))
             (port_of self.new.port.clock self.new.port.tree (M.state bus.new.memory.now) (W.state bus.new.tap.now))
             (self.new.front, seen)) }
-        ensures err { IfErr result (λ stop. Stops (Steps (SlotStep (keys_of self.old.port.tree self.old.tagger (L.leaf_of self.old.port.leaves))
+        ensures err { IfErr result (λ stop. Stops (Steps (SlotStep
+            (keys_of self.old.port.tree self.old.tagger (L.leaf_of self.old.port.leaves))
             (L.levels self.old.port.leaves))) (fetch_plan self.old.front asked line)
             (port_of self.old.port.clock self.old.port.tree (M.state bus.old.memory.now) (W.state bus.old.tap.now))
             (port_of self.new.port.clock self.new.port.tree (M.state bus.new.memory.now) (W.state bus.new.tap.now))
@@ -214,12 +216,14 @@ impl<L: LeafFn> Oram<L> {
             (L.levels self.old.port.leaves) (M.state bus.old.memory.now) (W.state bus.old.tap.now) }
         requires line { line < self.old.front.shape.lines }
         requires asked { self.old.port.clock.last ≤ asked }
-        ensures ok { IfOk result (λ end. Ends (Steps (SlotStep (keys_of self.old.port.tree self.old.tagger (L.leaf_of self.old.port.leaves))
+        ensures ok { IfOk result (λ end. Ends (Steps (SlotStep
+            (keys_of self.old.port.tree self.old.tagger (L.leaf_of self.old.port.leaves))
             (L.levels self.old.port.leaves))) (store_plan self.old.front asked line value.now)
             (port_of self.old.port.clock self.old.port.tree (M.state bus.old.memory.now) (W.state bus.old.tap.now))
             (port_of self.new.port.clock self.new.port.tree (M.state bus.new.memory.now) (W.state bus.new.tap.now))
             (self.new.front, end)) }
-        ensures err { IfErr result (λ stop. Stops (Steps (SlotStep (keys_of self.old.port.tree self.old.tagger (L.leaf_of self.old.port.leaves))
+        ensures err { IfErr result (λ stop. Stops (Steps (SlotStep
+            (keys_of self.old.port.tree self.old.tagger (L.leaf_of self.old.port.leaves))
             (L.levels self.old.port.leaves))) (store_plan self.old.front asked line value.now)
             (port_of self.old.port.clock self.old.port.tree (M.state bus.old.memory.now) (W.state bus.old.tap.now))
             (port_of self.new.port.clock self.new.port.tree (M.state bus.new.memory.now) (W.state bus.new.tap.now))
