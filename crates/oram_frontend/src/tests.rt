@@ -263,15 +263,17 @@ fn points(alloc: Global, log: &Log) -> Result<Vec<Point>, Fail> {
 /// A stop by evidence, without the tags and the line that a bad tag shows.
 fn plain(answer: Answer) -> Answer {
     match answer {
-        Err(Stop::Integrity(Evidence::BadTag { message, .. })) => bad_tag(message.counter),
+        Err(Stop::Integrity(Evidence::BadTag { message, .. })) => {
+            bad_tag(message.address, message.counter)
+        }
         other => other,
     }
 }
 
-/// The stop by a bad tag of block 0 under a counter, without tags and line.
-fn bad_tag(counter: Counter) -> Answer {
+/// The stop by a bad tag of a block under a counter, without tags and line.
+fn bad_tag(address: Address, counter: Counter) -> Answer {
     let message = Message {
-        address: Address(0),
+        address,
         counter,
         line: Line([0; 64]),
     };
@@ -287,9 +289,10 @@ fn real(address: u32, group: u64, own: u16) -> Point {
     Point::Real(Address(address), Counter { group, own })
 }
 
-/// The counters (0,1) and (0,2).
+/// The counter (0,1).
 const ONCE: Counter = Counter { group: 0, own: 1 };
 
+/// The counter (0,2).
 const TWICE: Counter = Counter { group: 0, own: 2 };
 
 /// Three calls for line 0.
@@ -451,7 +454,7 @@ fn altered_replies_are_evidence(rt: HostRuntime) -> Result<(), Fail> {
                 number: 24,
                 bit: 672,
             },
-            bad_tag(TWICE),
+            bad_tag(address, TWICE),
         ),
         (
             Change::Flip {
@@ -496,7 +499,7 @@ fn altered_replies_are_evidence(rt: HostRuntime) -> Result<(), Fail> {
                 number: 24,
                 bit: 160,
             },
-            bad_tag(TWICE),
+            bad_tag(address, TWICE),
         ),
         (
             Change::Flip {
@@ -511,7 +514,7 @@ fn altered_replies_are_evidence(rt: HostRuntime) -> Result<(), Fail> {
                 number: 18,
                 from: 19,
             },
-            bad_tag(TWICE),
+            bad_tag(address, TWICE),
         ),
         (Change::Swap { number: 18, at: 23 }, doubled),
     ];
