@@ -1,5 +1,6 @@
 -- The rest of a slot, from its calls.
-use Rattle.std.proofs.Common.{◌≡◌, ◌≤◌, ◌<◌, ◌+◌, ◌*◌, ◌^◌, ℕ, List, length, Option, None, Some, Result, Ok, Err, MatchResult, refl, sym, ap, subst, inl, inr, arith}
+use Rattle.std.proofs.Common.{◌≡◌, ◌≤◌, ◌<◌, ◌+◌, ◌*◌, ◌^◌, ℕ, List, length, Option, None, Some, Result, Ok, Err}
+use Rattle.std.proofs.Common.{MatchResult, refl, sym, ap, subst, inl, inr, arith}
 use Rattle.request_plan.specs.Plan.{Ends, Stops, Gives, Refuses}
 use Rattle.request_plan.proofs.Chains.{Ends-bind, Stops-bind-next}
 use Rattle.asc_base.proofs.ShapeFacts.{shape_layered}

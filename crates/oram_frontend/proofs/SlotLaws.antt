@@ -1,5 +1,6 @@
 -- What an answered access leaves, from the port's calls that it is made of.
-use Rattle.std.proofs.Common.{◌≡◌, ◌+◌, ◌-◌, ◌++◌, ◌≤◌, ℕ, zero, suc, List, [], ◌∷◌, Option, None, Some, Ok, length, All}
+use Rattle.std.proofs.Common.{◌≡◌, ◌+◌, ◌-◌, ◌++◌, ◌≤◌, ℕ, zero, suc, List, [], ◌∷◌, Option, None, Some, Ok, length}
+use Rattle.std.proofs.Common.{All}
 use Rattle.std.proofs.Common.{refl, sym, ap, ◌∙◌, subst, arith, append-nil, append_assoc}
 use Rattle.request_plan.specs.Plan.{Ends, Gives}
 use Rattle.request_plan.proofs.Chains.{Ends-unbind}
@@ -32,7 +33,8 @@ use Rattle.oram_walk.specs.declared.slots.Access.{Access}
 use Rattle.oram_walk.specs.declared.slots.Purpose.{Purpose}
 use Rattle.oram_walk.specs.declared.slots.Purpose.TheVariants.{Refill, Keep, Replace}
 use Rattle.oram_walk.specs.declared.slots.Seen.{Seen}
-use Rattle.rate_enforcer.specs.PortStep.{PortState, PortStep, Opened, Taken, HasNoted, HasPut, Closed, Resting, InSlot, contents}
+use Rattle.rate_enforcer.specs.PortStep.{PortState, PortStep, Opened, Taken, HasNoted, HasPut, Closed, Resting, InSlot}
+use Rattle.rate_enforcer.specs.PortStep.{contents}
 use Rattle.rate_enforcer.specs.Served.{keys_of, IsServed}
 use Rattle.oram_frontend.specs.Access.{accept_plan, put_plan, back_plan, judged_plan, close_plan, SlotStep}
 use Rattle.oram_frontend.specs.Access.{found_line, next_message}

@@ -39,6 +39,7 @@ same_none s = record {
   port = refl;
   tagger = refl;
   leaves = refl;
+  config = refl;
   tree = record { shape = refl; stash = refl; key = refl };
 }
 
@@ -49,6 +50,7 @@ same_then a b = record {
   port = b.port ∙ a.port;
   tagger = b.tagger ∙ a.tagger;
   leaves = b.leaves ∙ a.leaves;
+  config = b.config ∙ a.config;
   tree = record {
     shape = b.tree.shape ∙ a.tree.shape;
     stash = b.tree.stash ∙ a.tree.stash;

@@ -17,7 +17,8 @@ use Rattle.oram_walk.specs.declared.slots.Access.{Access}
 use Rattle.oram_walk.specs.declared.slots.Purpose.{Purpose}
 use Rattle.oram_walk.specs.declared.slots.Purpose.TheVariants.{Refill, Keep, Replace}
 use Rattle.oram_walk.specs.declared.slots.Seen.{Seen}
-use Rattle.rate_enforcer.specs.PortStep.{PortState, PortRequest, Open, Take, Note, Put, Close, Abort, Join, Said, PortStep}
+use Rattle.rate_enforcer.specs.PortStep.{PortState, PortRequest, Open, Take, Note, Put, Close, Abort, Join, Said}
+use Rattle.rate_enforcer.specs.PortStep.{PortStep}
 
 -- a plan of a port's calls that leaves nothing where it is stopped
 abbrev pub PortPlan : Type 0 → Type 0

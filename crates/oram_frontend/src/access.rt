@@ -52,6 +52,7 @@ pub(crate) fn access<M: UntrustedMemory, W: Watch, L: LeafFn>(
     ensures same { IsSameBus bus.old bus.new }
     ensures leaves { port.new.leaves ≡ port.old.leaves }
     ensures kept { IsSameTree port.old.tree port.new.tree }
+    ensures config { port.new.clock.config ≡ port.old.clock.config }
     ensures rests { OnOk result (Rests 1 port.new.clock port.new.tree (L.levels port.new.leaves)
         (M.state bus.new.memory.now) (W.state bus.new.tap.now)) }
     ensures spare { OnOk result (0 < port.new.tree.spare) }
@@ -97,6 +98,7 @@ fn finish<M: UntrustedMemory, W: Watch, L: LeafFn>(
     ensures same { IsSameBus bus.old bus.new }
     ensures leaves { port.new.leaves ≡ port.old.leaves }
     ensures kept { IsSameTree port.old.tree port.new.tree }
+    ensures config { port.new.clock.config ≡ port.old.clock.config }
     ensures rests { OnOk result (Rests 1 port.new.clock port.new.tree (L.levels port.new.leaves)
         (M.state bus.new.memory.now) (W.state bus.new.tap.now)) }
     ensures spare { OnOk result (0 < port.new.tree.spare) }
@@ -156,6 +158,7 @@ fn put_back<M: UntrustedMemory, W: Watch, L: LeafFn>(
     ensures same { IsSameBus bus.old bus.new }
     ensures leaves { port.new.leaves ≡ port.old.leaves }
     ensures kept { IsSameTree port.old.tree port.new.tree }
+    ensures config { port.new.clock.config ≡ port.old.clock.config }
     ensures opens { Opens 1 port.new.clock slot.now port.new.tree (L.levels port.new.leaves)
         (M.state bus.new.memory.now) (W.state bus.new.tap.now) }
     ensures spare { 0 < port.new.tree.spare }
@@ -194,6 +197,7 @@ fn put<M: UntrustedMemory, W: Watch, L: LeafFn>(
     ensures same { IsSameBus bus.old bus.new }
     ensures leaves { port.new.leaves ≡ port.old.leaves }
     ensures kept { IsSameTree port.old.tree port.new.tree }
+    ensures config { port.new.clock.config ≡ port.old.clock.config }
     ensures opens { Opens 1 port.new.clock slot.now port.new.tree (L.levels port.new.leaves)
         (M.state bus.new.memory.now) (W.state bus.new.tap.now) }
     ensures spare { 0 < port.new.tree.spare }
@@ -243,6 +247,7 @@ pub(crate) fn append<M: UntrustedMemory, W: Watch, L: LeafFn>(
     ensures same { IsSameBus bus.old bus.new }
     ensures leaves { port.new.leaves ≡ port.old.leaves }
     ensures kept { IsSameTree port.old.tree port.new.tree }
+    ensures config { port.new.clock.config ≡ port.old.clock.config }
     ensures rests { OnOk result (Rests 0 port.new.clock port.new.tree (L.levels port.new.leaves)
         (M.state bus.new.memory.now) (W.state bus.new.tap.now)) }
     ensures last { OnOk result (port.new.clock.last ≡ port.old.clock.last) }

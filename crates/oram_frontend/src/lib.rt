@@ -10,3 +10,6 @@ mod slots;
 
 pub use laws::answered_requests;
 pub use oram::Oram;
+
+#[cfg(test)]
+mod tests;

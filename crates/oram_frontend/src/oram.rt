@@ -1,5 +1,4 @@
 ghost use Rattle.std.specs.Prelude.{◌≡◌, ◌<◌, ◌≤◌, None, Some, Ok, Err, max, MatchResult, OnOk, IfOk, IfErr};
-ghost use Rattle.asc_base.specs.TreeShape.{olat_of};
 ghost use Rattle.asc_base.specs.Settings.{IsConfig};
 ghost use Rattle.asc_base.specs.declared.stop.Stop.{Stop as StopValue};
 ghost use Rattle.asc_outside.specs.Memory.{MemoryState};
@@ -13,6 +12,7 @@ ghost use Rattle.oram_walk.specs.Front.{first_front};
 ghost use Rattle.oram_walk.specs.Plans.{fetch_plan, store_plan};
 ghost use Rattle.oram_walk.specs.Request.{Steps};
 ghost use Rattle.request_plan.specs.Plan.{Ends, Stops};
+ghost use Rattle.unified_tree.specs.Tree.{IsSameTree};
 
 use crate::slots::PortSlots;
 use asc_base::{Config, Line, NoMemory, Stop};
@@ -27,8 +27,8 @@ use std::alloc::Global;
 
 /// An encrypted memory of lines.
 ///
-/// Contracts see it as its front end, its tags, its port and its stop, so these fields are public. A caller that changes
-/// one of them itself goes around it, and nothing is said of it here.
+/// Contracts see it as its front end, its tags, its port and its stop, so these fields are public. A caller that
+/// changes one of them itself goes around it, and nothing is said of it here.
 #[derive(Drop)]
 pub struct Oram<L: LeafFn> {
     /// The counters and the held blocks on chip.
@@ -68,9 +68,10 @@ impl<L: LeafFn> Oram<L> {
     /// Fetches a line, asked for at a time in cycles that isn't before the last end, and answers it with the end of the
     /// last slot that it took.
     ///
-    /// `TimeUp` where a slot that it needs wouldn't start before the time of the settings; `Integrity` where what a
-    /// slot shows isn't what was put; `StashFull`, `Device` and `NoMemory` may come in each slot, and `NoMemory` where a
-    /// block comes to be held. Every later call answers the same stop and asks the bus nothing.
+    /// `TimeUp` where a slot that it needs wouldn't start before the time of the settings; `Integrity` where a
+    /// bucket, or the block that was asked for, isn't right; `Device` where a move failed; `StashFull` where more
+    /// entries must stay at hand than may; `NoMemory` where a slot, or a block that comes to be held, finds none.
+    /// Every later call answers the same stop and asks the bus nothing.
     pub fn fetch<M: UntrustedMemory, W: Watch>(
         &mut self,
         bus: &mut Bus<'_, M, W>,
@@ -99,6 +100,9 @@ impl<L: LeafFn> Oram<L> {
         ensures same { IsSameBus bus.old bus.new }
         ensures tagger { self.new.tagger ≡ self.old.tagger }
         ensures leaves { self.new.port.leaves ≡ self.old.port.leaves }
+        ensures kept { IsSameTree self.old.port.tree self.new.port.tree }
+        ensures config { self.new.port.clock.config ≡ self.old.port.clock.config }
+        ensures shape { self.new.front.shape ≡ self.old.front.shape }
         ensures serves { OnOk result (CanServe self.new.front self.new.port.clock self.new.port.tree
             (L.levels self.new.port.leaves) (M.state bus.new.memory.now) (W.state bus.new.tap.now)) }
         ensures last { IfOk result (λ (value, end). self.new.port.clock.last ≡ end) }
@@ -128,12 +132,14 @@ impl<L: LeafFn> Oram<L> {
             (L.levels self.old.port.leaves) (M.state bus.old.memory.now) (W.state bus.old.tap.now) }
         requires line { line < self.old.front.shape.lines }
         requires asked { self.old.port.clock.last ≤ asked }
-        ensures ok { IfOk result (λ seen. Ends (Steps (SlotStep (keys_of self.old.port.tree self.old.tagger (L.leaf_of self.old.port.leaves))
+        ensures ok { IfOk result (λ seen. Ends (Steps (SlotStep
+            (keys_of self.old.port.tree self.old.tagger (L.leaf_of self.old.port.leaves))
             (L.levels self.old.port.leaves))) (fetch_plan self.old.front asked line)
             (port_of self.old.port.clock self.old.port.tree (M.state bus.old.memory.now) (W.state bus.old.tap.now))
             (port_of self.new.port.clock self.new.port.tree (M.state bus.new.memory.now) (W.state bus.new.tap.now))
             (self.new.front, seen)) }
-        ensures err { IfErr result (λ stop. Stops (Steps (SlotStep (keys_of self.old.port.tree self.old.tagger (L.leaf_of self.old.port.leaves))
+        ensures err { IfErr result (λ stop. Stops (Steps (SlotStep
+            (keys_of self.old.port.tree self.old.tagger (L.leaf_of self.old.port.leaves))
             (L.levels self.old.port.leaves))) (fetch_plan self.old.front asked line)
             (port_of self.old.port.clock self.old.port.tree (M.state bus.old.memory.now) (W.state bus.old.tap.now))
             (port_of self.new.port.clock self.new.port.tree (M.state bus.new.memory.now) (W.state bus.new.tap.now))
@@ -141,6 +147,9 @@ impl<L: LeafFn> Oram<L> {
         ensures same { IsSameBus bus.old bus.new }
         ensures tagger { self.new.tagger ≡ self.old.tagger }
         ensures leaves { self.new.port.leaves ≡ self.old.port.leaves }
+        ensures kept { IsSameTree self.old.port.tree self.new.port.tree }
+        ensures config { self.new.port.clock.config ≡ self.old.port.clock.config }
+        ensures shape { self.new.front.shape ≡ self.old.front.shape }
         ensures stop { self.new.stop ≡ self.old.stop }
         ensures serves { OnOk result (CanServe self.new.front self.new.port.clock self.new.port.tree
             (L.levels self.new.port.leaves) (M.state bus.new.memory.now) (W.state bus.new.tap.now)) }
@@ -150,8 +159,8 @@ impl<L: LeafFn> Oram<L> {
         self.front.fetch(&mut slots, asked, line)
     }
 
-    /// Stores a line, asked for at a time in cycles that isn't before the last end, and answers the end of the last slot
-    /// that it took. The stops are those of a fetch.
+    /// Stores a line, asked for at a time in cycles that isn't before the last end, and answers the end of the last
+    /// slot that it took. The stops are those of a fetch.
     pub fn store<M: UntrustedMemory, W: Watch>(
         &mut self,
         bus: &mut Bus<'_, M, W>,
@@ -181,6 +190,9 @@ impl<L: LeafFn> Oram<L> {
         ensures same { IsSameBus bus.old bus.new }
         ensures tagger { self.new.tagger ≡ self.old.tagger }
         ensures leaves { self.new.port.leaves ≡ self.old.port.leaves }
+        ensures kept { IsSameTree self.old.port.tree self.new.port.tree }
+        ensures config { self.new.port.clock.config ≡ self.old.port.clock.config }
+        ensures shape { self.new.front.shape ≡ self.old.front.shape }
         ensures serves { OnOk result (CanServe self.new.front self.new.port.clock self.new.port.tree
             (L.levels self.new.port.leaves) (M.state bus.new.memory.now) (W.state bus.new.tap.now)) }
         ensures last { IfOk result (λ end. self.new.port.clock.last ≡ end) }
@@ -211,12 +223,14 @@ impl<L: LeafFn> Oram<L> {
             (L.levels self.old.port.leaves) (M.state bus.old.memory.now) (W.state bus.old.tap.now) }
         requires line { line < self.old.front.shape.lines }
         requires asked { self.old.port.clock.last ≤ asked }
-        ensures ok { IfOk result (λ end. Ends (Steps (SlotStep (keys_of self.old.port.tree self.old.tagger (L.leaf_of self.old.port.leaves))
+        ensures ok { IfOk result (λ end. Ends (Steps (SlotStep
+            (keys_of self.old.port.tree self.old.tagger (L.leaf_of self.old.port.leaves))
             (L.levels self.old.port.leaves))) (store_plan self.old.front asked line value.now)
             (port_of self.old.port.clock self.old.port.tree (M.state bus.old.memory.now) (W.state bus.old.tap.now))
             (port_of self.new.port.clock self.new.port.tree (M.state bus.new.memory.now) (W.state bus.new.tap.now))
             (self.new.front, end)) }
-        ensures err { IfErr result (λ stop. Stops (Steps (SlotStep (keys_of self.old.port.tree self.old.tagger (L.leaf_of self.old.port.leaves))
+        ensures err { IfErr result (λ stop. Stops (Steps (SlotStep
+            (keys_of self.old.port.tree self.old.tagger (L.leaf_of self.old.port.leaves))
             (L.levels self.old.port.leaves))) (store_plan self.old.front asked line value.now)
             (port_of self.old.port.clock self.old.port.tree (M.state bus.old.memory.now) (W.state bus.old.tap.now))
             (port_of self.new.port.clock self.new.port.tree (M.state bus.new.memory.now) (W.state bus.new.tap.now))
@@ -224,6 +238,9 @@ impl<L: LeafFn> Oram<L> {
         ensures same { IsSameBus bus.old bus.new }
         ensures tagger { self.new.tagger ≡ self.old.tagger }
         ensures leaves { self.new.port.leaves ≡ self.old.port.leaves }
+        ensures kept { IsSameTree self.old.port.tree self.new.port.tree }
+        ensures config { self.new.port.clock.config ≡ self.old.port.clock.config }
+        ensures shape { self.new.front.shape ≡ self.old.front.shape }
         ensures stop { self.new.stop ≡ self.old.stop }
         ensures serves { OnOk result (CanServe self.new.front self.new.port.clock self.new.port.tree
             (L.levels self.new.port.leaves) (M.state bus.new.memory.now) (W.state bus.new.tap.now)) }
@@ -261,6 +278,9 @@ impl<L: LeafFn> Oram<L> {
         ensures same { IsSameBus bus.old bus.new }
         ensures tagger { self.new.tagger ≡ self.old.tagger }
         ensures leaves { self.new.port.leaves ≡ self.old.port.leaves }
+        ensures kept { IsSameTree self.old.port.tree self.new.port.tree }
+        ensures config { self.new.port.clock.config ≡ self.old.port.clock.config }
+        ensures shape { self.new.front.shape ≡ self.old.front.shape }
         ensures serves { OnOk result (CanServe self.new.front self.new.port.clock self.new.port.tree
             (L.levels self.new.port.leaves) (M.state bus.new.memory.now) (W.state bus.new.tap.now)) }
         ensures last { IfOk result (λ end. end ≡ max time self.new.port.clock.last) }

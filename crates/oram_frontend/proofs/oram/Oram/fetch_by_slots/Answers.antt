@@ -1,4 +1,5 @@
-use Rattle.std.proofs.Common.{◌∙◌, sym, ap}
+use Rattle.std.proofs.Common.{◌∙◌, sym, ap, subst}
+use Rattle.unified_tree.specs.Tree.{IsSameTree}
 use Rattle.asc_base.specs.declared.stop.Stop.{Stop}
 use Rattle.request_plan.specs.Plan.{Ends, Stops}
 use Rattle.oram_walk.specs.Plans.{fetch_plan}
@@ -63,3 +64,10 @@ returns-clause-serves g c =
       shape = c.fetch.ensures.shape ∙ c.requires.serves.shape
           ∙ sym ((kept g c).tree.shape ∙ ap (λ port. port.tree.shape) c.new-slots.ensures.port);
     })
+
+pub returns-clause-config : goal.returns-clause-config
+returns-clause-config g c = (kept g c).config ∙ ap (λ port. port.clock.config) c.new-slots.ensures.port
+
+pub returns-clause-kept : goal.returns-clause-kept
+returns-clause-kept g c =
+    subst (λ (port : _). IsSameTree port.tree c.fetch.new.slots.port.now.tree) c.new-slots.ensures.port (kept g c).tree

@@ -34,6 +34,7 @@ returns-clause-step g c =
       port = refl;
       tagger = refl;
       leaves = c.access.ensures.leaves;
+      config = c.access.ensures.config;
       tree = c.access.ensures.kept;
     })
 

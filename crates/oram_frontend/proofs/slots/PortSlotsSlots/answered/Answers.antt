@@ -25,6 +25,7 @@ returns-clause-step g c =
         port = refl;
         tagger = refl;
         leaves = refl;
+        config = refl;
         tree = record { shape = refl; stash = refl; key = refl };
       },
     )
