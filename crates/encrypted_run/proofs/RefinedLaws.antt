@@ -35,7 +35,7 @@ use Rattle.encrypted_run.specs.Refined.{OramLine, HoldsList, Computes}
 
 module _ (keys : Keys) (lawful : AreKeys keys) (levels : ℕ) where
   -- the same lines, named in another way
-  lines_same : (lines others : Lines) (o : OramState) → ((n : ℕ) → n < keys.shape.lines → lines n ≡ others n)
+  pub lines_same : (lines others : Lines) (o : OramState) → ((n : ℕ) → n < keys.shape.lines → lines n ≡ others n)
       → HoldsLines keys levels lines o → HoldsLines keys levels others o
   lines_same lines others o same x = record {
     ghost = x.ghost;
@@ -94,7 +94,7 @@ module _ (keys : Keys) (lawful : AreKeys keys) (levels : ℕ) where
   forgery_line old new (Store line value) bytes (below, whole, none, asked, end, one) f =
       forgery_call keys lawful levels old new (OramStore asked line (record { 0 = value })) _ one f
 
-  forgery_plan : {B A : Type 0} (plan : Plan LineRequest (List ℕ) B A) (old new : OramState) (a : A)
+  pub forgery_plan : {B A : Type 0} (plan : Plan LineRequest (List ℕ) B A) (old new : OramState) (a : A)
       → Ends (OramLine keys levels) plan old new a → Forgery keys old.port.tap.log → Forgery keys new.port.tap.log
   forgery_plan (Done x) old new a ends f =
       subst (λ (o : OramState). Forgery keys o.port.tap.log) (sym ends.1) f

@@ -3,14 +3,21 @@
 //! The crate has laws alone; the calls do nothing.
 #![tactic(auto)]
 
-ghost use Rattle.std.specs.Prelude.{◌≡◌, ◌<◌, ◌*◌, ◌⊎◌, ℕ, List, length};
+ghost use Rattle.std.specs.Prelude.{◌≡◌, ◌<◌, ◌*◌, ◌⊎◌, ℕ, List, All, Ok, length, replicate};
+ghost use Rattle.asc_base.specs.Has.{Has};
+ghost use Rattle.asc_base.specs.Settings.{IsConfig};
 ghost use Rattle.asc_base.specs.declared.block.Line.{Line};
+ghost use Rattle.asc_base.specs.declared.settings.Config.{Config};
 ghost use Rattle.data_cache.specs.Cached.{cache_access};
+ghost use Rattle.data_cache.specs.CacheLists.{line_in};
 ghost use Rattle.data_cache.specs.Contents.{Contents, write_line_plan};
-ghost use Rattle.encrypted_run.specs.Refined.{OramLine, Computes};
+ghost use Rattle.encrypted_run.specs.Refined.{OramLine, Computes, empty_cache, loaded};
+ghost use Rattle.fed_run.specs.Whole.{cache_image, cache_run};
+ghost use Rattle.oram_contents.specs.Counts.{zero_line};
 ghost use Rattle.oram_contents.specs.Entries.{Keys, AreKeys};
 ghost use Rattle.oram_contents.specs.Forgery.{Forgery};
-ghost use Rattle.oram_frontend.specs.Oram.{OramState};
+ghost use Rattle.oram_frontend.specs.Oram.{OramState, OramStep, Wait, Told};
+ghost use Rattle.oram_lines.specs.Lines.{IsNew};
 ghost use Rattle.request_plan.specs.Plan.{Ends, through};
 ghost use Rattle.rv32_core.specs.Access.{spliced};
 ghost use Rattle.rv32_core.specs.FlatMachine.{flat_step};
@@ -46,6 +53,40 @@ pub fn runs_refine_flat_runs()
         (after, end)
         → Forgery keys new.port.tap.log
         ⊎ (let run = flat_run n machine memory in
+        (run.instructions ≡ end.instructions) × (run.machine ≡ end.machine) × (run.ending ≡ end.ending)
+        × Computes keys levels after run.memory new) }
+{}
+
+/// An empty cache over a new encrypted memory stands for zeros. Lines of an image that are written whole through it
+/// make the image, where every other line of it is zeros; and dummies change nothing. So a whole run over a new
+/// encrypted memory, the image lines first and then so many instructions at most, is the flat run on the image: as many
+/// instructions, the machine with its output, the ending and the bytes. Or the log shows a forgery.
+pub fn whole_runs_refine_flat_runs()
+    ensures start { (keys : Keys) → AreKeys keys → (levels : ℕ) (config : Config) (o : OramState) (sets ways : ℕ)
+        → IsConfig config → IsNew keys config levels o → 0 < sets → 0 < ways
+        → Computes keys levels (empty_cache sets ways) (replicate (64 * keys.shape.lines) 0) o }
+    ensures wait { (keys : Keys) → AreKeys keys → (levels : ℕ) (memory : List ℕ) (cache : Contents)
+        (old new : OramState) (time : ℕ) (told : Told) → Computes keys levels cache memory old
+        → OramStep keys levels old (Wait time) (Ok told) new
+        → Forgery keys new.port.tap.log ⊎ Computes keys levels cache memory new }
+    ensures image { (image marked : List ℕ) (count : ℕ) → length image ≡ 64 * count
+        → All (λ line. line < count) marked
+        → ((k : ℕ) → k < count → Has k marked ⊎ (line_in image k ≡ zero_line))
+        → loaded image marked (replicate (64 * count) 0) ≡ image }
+    ensures lines { (keys : Keys) → AreKeys keys → (levels : ℕ) (image marked : List ℕ)
+        → length image ≡ 64 * keys.shape.lines → All (λ line. line < keys.shape.lines) marked
+        → (memory : List ℕ) (old new : OramState) (cache after : Contents) → Computes keys levels cache memory old
+        → Ends (OramLine keys levels) (cache_image image marked cache) old new after
+        → Forgery keys new.port.tap.log ⊎ Computes keys levels after (loaded image marked memory) new }
+    ensures run { (keys : Keys) → AreKeys keys → (levels : ℕ) (config : Config) (image marked : List ℕ)
+        (machine : Machine) (sets ways n : ℕ) → IsConfig config → length image ≡ 64 * keys.shape.lines
+        → All (λ line. line < keys.shape.lines) marked
+        → ((k : ℕ) → k < keys.shape.lines → Has k marked ⊎ (line_in image k ≡ zero_line))
+        → IsCore machine.core → machine.core.size ≡ 64 * keys.shape.lines → 0 < sets → 0 < ways
+        → (old new : OramState) (after : Contents) (end : RunEnd) → IsNew keys config levels old
+        → Ends (OramLine keys levels) (cache_run image marked n machine (empty_cache sets ways)) old new (after, end)
+        → Forgery keys new.port.tap.log
+        ⊎ (let run = flat_run n machine image in
         (run.instructions ≡ end.instructions) × (run.machine ≡ end.machine) × (run.ending ≡ end.ending)
         × Computes keys levels after run.memory new) }
 {}
