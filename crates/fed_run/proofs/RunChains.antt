@@ -43,7 +43,7 @@ module _ {S Q X P Y E H C : Type 0} (step : S → P → Result Y E → S → Typ
         rest.3,
       )
 
-  stops-parts : {B C' A D : Type 0} (put : B → C') (plan : Plan Q X B A) (next : A → Plan Q X C' D) (held : H)
+  pub stops-parts : {B C' A D : Type 0} (put : B → C') (plan : Plan Q X B A) (next : A → Plan Q X C' D) (held : H)
       (s t : S) (e : E) (left : C × C') → Stops step (through serve (bind put plan next) held) s t e left
       → ((l : C × B) × Stops step (through serve plan held) s t e l × (left ≡ (l.0, put (l.1))))
       ⊎ ((r : H × A) × (m : S) × Ends step (through serve plan held) s m r
@@ -82,7 +82,7 @@ outcomes-second : {Q X B C A D : Type 0} (P : D → Type 0) (put : B → C) (p :
 outcomes-second P put (Outcome a) next each = each a
 outcomes-second P put (Ask q b k) next each = λ x. outcomes-second P put (k x) next each
 
-outcomes-through : {Q X R Y C H B A : Type 0} (P : A → Type 0) (serve : H → Q → Plan R Y C (H × X))
+pub outcomes-through : {Q X R Y C H B A : Type 0} (P : A → Type 0) (serve : H → Q → Plan R Y C (H × X))
     (plan : Plan Q X B A) (held : H) → Outcomes P plan → Outcomes (λ (r : H × A). P (r.1)) (through serve plan held)
 outcomes-through P serve (Outcome a) held h = h
 outcomes-through {Q} {X} {R} {Y} {C} {H} {B} {A} P serve (Ask q b k) held h =

@@ -1,6 +1,6 @@
 -- What stays over the steps of a port and of its slots: a forgery that a log shows, and that a clock counts its starts.
-use Rattle.std.proofs.Common.{◌≡◌, ℕ, List, [], Ok, count_by, sym, ap, ◌∙◌, subst}
-use Rattle.request_plan.specs.Plan.{Plan, Done, Ask, Ends}
+use Rattle.std.proofs.Common.{◌≡◌, ℕ, List, [], Ok, Err, inl, inr, count_by, sym, ap, ◌∙◌, subst}
+use Rattle.request_plan.specs.Plan.{Plan, Done, Ask, Ends, Stops}
 use Rattle.asc_base.specs.declared.block.Point.{Point}
 use Rattle.asc_base.specs.declared.stop.Stop.{Stop}
 use Rattle.asc_outside.specs.Memory.{MemoryState}
@@ -90,6 +90,37 @@ module _ (keys : Keys) (levels : ℕ) (P : PortState → Type 0)
       let (x, mid, one, rest) = ends in
       walk_keeps (k x) mid t outcome rest (step_keeps s mid q x one p)
 
+-- What each call of a port that is stopped keeps too, a walk that is stopped does.
+module _ (keys : Keys) (levels : ℕ) (P : PortState → Type 0)
+    (each : (s t : PortState) (q : PortRequest) (x : Said) → PortStep keys.leaf_of levels s q (Ok x) t → P s → P t)
+    (halts : (s t : PortState) (q : PortRequest) (stop : Stop) → PortStep keys.leaf_of levels s q (Err stop) t → P s
+    → P t) where
+  calls_halt : {B A : Type 0} (plan : Plan PortRequest Said B A) (s t : PortState) (stop : Stop) (left : B)
+      → Stops (PortStep keys.leaf_of levels) plan s t stop left → P s → P t
+  calls_halt (Done a) s t stop left stops p = absurd stops
+  calls_halt (Ask q b k) s t stop left (inl one) p = halts s t q stop one.0 p
+  calls_halt (Ask q b k) s t stop left (inr (x, mid, one, rest)) p =
+      calls_halt (k x) mid t stop left rest (each s mid q x one p)
+
+  -- a request of a walk is refused behind its calls, or stopped in one
+  request_halts : (s t : PortState) (q : Request) (stop : Stop) → SlotStep keys levels s q (Err stop) t → P s → P t
+  request_halts s t q stop (inl ends) p = calls_keep keys levels P each (serve_plan keys q) s t _ ends p
+  request_halts s t q stop (inr stops) p = calls_halt (serve_plan keys q) s t stop _ stops p
+
+  step_halts : (s t : PortState) (q : Request) (stop : Stop) → Steps (SlotStep keys levels) s q (Err stop) t → P s
+      → P t
+  step_halts s t (Slot access) stop h p = request_halts s t (Slot access) stop h p
+  step_halts s t (Append message) stop h p = request_halts s t (Append message) stop h p
+  step_halts s t (Answer line value) stop h p = request_halts s t (Answer line value) stop h p
+  step_halts s t Room stop h p = subst P (sym h.1) p
+
+  pub walk_halts : {B A : Type 0} (plan : Plan Request Seen B A) (s t : PortState) (stop : Stop) (left : B)
+      → Stops (Steps (SlotStep keys levels)) plan s t stop left → P s → P t
+  walk_halts (Done a) s t stop left stops p = absurd stops
+  walk_halts (Ask q b k) s t stop left (inl one) p = step_halts s t q stop one.0 p
+  walk_halts (Ask q b k) s t stop left (inr (x, mid, one, rest)) p =
+      walk_halts (k x) mid t stop left rest (step_keeps keys levels P each s mid q x one p)
+
 pub forgery_walk : (keys : Keys) {B A : Type 0} (levels : ℕ) (plan : Plan Request Seen B A) (s t : PortState)
     (outcome : A) → Ends (Steps (SlotStep keys levels)) plan s t outcome → Forgery keys s.tap.log
     → Forgery keys t.tap.log
@@ -101,3 +132,29 @@ pub counted_walk : (keys : Keys) {B A : Type 0} (levels : ℕ) (plan : Plan Requ
     → IsCounted t.clock t.tap.log
 counted_walk keys levels plan s t outcome ends c =
     walk_keeps keys levels (λ s. IsCounted s.clock s.tap.log) (counted_port keys.leaf_of levels) plan s t outcome ends c
+
+-- a forgery stays over a call of the port that is stopped
+module _ (keys : Keys) where
+  had_stopped : (s t : PortState) → t ≡ s → Forgery keys s.tap.log → Forgery keys t.tap.log
+  had_stopped s t is f = subst (λ (x : PortState). Forgery keys x.tap.log) (sym is) f
+
+  pub forgery_halt : (leaf_of : Point → ℕ) (levels : ℕ) (s t : PortState) (q : PortRequest) (stop : Stop)
+      → PortStep leaf_of levels s q (Err stop) t → Forgery keys s.tap.log → Forgery keys t.tap.log
+  forgery_halt leaf_of levels s t (Open asked point) stop (inl h) f = had_stopped s t h.1 f
+  forgery_halt leaf_of levels s t (Open asked point) stop (inr h) f = forgery_made keys h.used.made f
+  forgery_halt leaf_of levels s t (Take address) stop h f = absurd h
+  forgery_halt leaf_of levels s t (Note event) stop h f = absurd h
+  forgery_halt leaf_of levels s t (Put entry) stop h f = absurd h
+  forgery_halt leaf_of levels s t Close stop h f = forgery_made keys h.used.made f
+  forgery_halt leaf_of levels s t (Abort given) stop h f = absurd h
+  forgery_halt leaf_of levels s t (Join entry) stop (inl h) f = had_stopped s t h.1 f
+  forgery_halt leaf_of levels s t (Join entry) stop (inr h) f = same_tap keys s.tap t.tap h.tap f
+  forgery_halt leaf_of levels s t (Idle time) stop (inl h) f = had_stopped s t h.1 f
+  forgery_halt leaf_of levels s t (Idle time) stop (inr h) f = forgery_made keys h.used.made f
+
+  pub forgery_walk_stop : {B A : Type 0} (levels : ℕ) (plan : Plan Request Seen B A) (s t : PortState) (stop : Stop)
+      (left : B) → Stops (Steps (SlotStep keys levels)) plan s t stop left → Forgery keys s.tap.log
+      → Forgery keys t.tap.log
+  forgery_walk_stop levels plan s t stop left stops f =
+      walk_halts keys levels (λ s. Forgery keys s.tap.log) (forgery_port keys keys.leaf_of levels)
+      (forgery_halt keys.leaf_of levels) plan s t stop left stops f

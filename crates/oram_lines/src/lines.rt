@@ -1,8 +1,9 @@
 //! What an encrypted memory holds. The functions do nothing: each states laws in its contract.
 
-ghost use Rattle.std.specs.Prelude.{◌⊎◌, ℕ, Ok};
+ghost use Rattle.std.specs.Prelude.{◌⊎◌, ℕ, Ok, Err};
 ghost use Rattle.asc_base.specs.Settings.{IsConfig};
 ghost use Rattle.asc_base.specs.declared.settings.Config.{Config};
+ghost use Rattle.asc_base.specs.declared.stop.Stop.{Stop};
 ghost use Rattle.oram_contents.specs.Counts.{zero_line};
 ghost use Rattle.oram_contents.specs.Entries.{Keys, AreKeys};
 ghost use Rattle.oram_contents.specs.Forgery.{Forgery};
@@ -12,7 +13,7 @@ ghost use Rattle.oram_lines.specs.Lines.{AreRequests, AreLinesOf, lines_by};
 
 /// A new encrypted memory holds zeros. Over each call that is answered it goes on holding its lines, or those with the
 /// one that was stored, and a fetch is answered with its line; or the log shows a forgery. So it is over any number of
-/// calls. A forgery that a log shows, it goes on showing.
+/// calls. A forgery that a log shows, it goes on showing, also over a call that is stopped.
 pub fn encrypted_memory_holds_lines()
     ensures start { (keys : Keys) → AreKeys keys → (levels : ℕ) (config : Config) (o : OramState) → IsConfig config
         → IsNew keys config levels o → HoldsLines keys levels (λ line. zero_line) o }
@@ -28,5 +29,8 @@ pub fn encrypted_memory_holds_lines()
         ⊎ (HoldsLines keys levels (lines_by lines calls) new × AreLinesOf lines calls) }
     ensures forged { (keys : Keys) → AreKeys keys → (levels : ℕ) (old new : OramState) (request : OramRequest)
         (told : Told) → OramStep keys levels old request (Ok told) new → Forgery keys old.port.tap.log
+        → Forgery keys new.port.tap.log }
+    ensures forged_stop { (keys : Keys) → AreKeys keys → (levels : ℕ) (old new : OramState) (request : OramRequest)
+        (stop : Stop) → OramStep keys levels old request (Err stop) new → Forgery keys old.port.tap.log
         → Forgery keys new.port.tap.log }
 {}

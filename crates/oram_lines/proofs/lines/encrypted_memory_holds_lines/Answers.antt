@@ -1,5 +1,11 @@
-use Rattle.oram_lines.proofs.LineLaws.{new_holds, call_holds, calls_hold, forgery_call}
+use Rattle.oram_lines.proofs.LineLaws.{new_holds, call_holds, calls_hold, forgery_call, forgery_stop}
 use Rattle.oram_lines.proofs.lines.encrypted_memory_holds_lines.Goals as goal
 
 pub returns : goal.returns
-returns c = record { start = new_holds; call = call_holds; calls = calls_hold; forged = forgery_call }
+returns c = record {
+  start = new_holds;
+  call = call_holds;
+  calls = calls_hold;
+  forged = forgery_call;
+  forged_stop = forgery_stop;
+}
