@@ -1,3 +1,4 @@
 pub mod ImageLaws
 pub mod RefinedLaws
+pub mod StopLaws
 pub mod WholeLaws

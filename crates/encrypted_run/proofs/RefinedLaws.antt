@@ -86,7 +86,7 @@ module _ (keys : Keys) (lawful : AreKeys keys) (levels : ℕ) where
         )
       ]
 
-  forgery_line : (old new : OramState) (request : LineRequest) (bytes : List ℕ)
+  pub forgery_line : (old new : OramState) (request : LineRequest) (bytes : List ℕ)
       → OramLine keys levels old request (Ok bytes) new → Forgery keys old.port.tap.log
       → Forgery keys new.port.tap.log
   forgery_line old new (Fetch line) bytes (below, is_line, asked, end, one) f =

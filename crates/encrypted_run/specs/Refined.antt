@@ -9,6 +9,8 @@ use Rattle.oram_contents.specs.Entries.{Keys}
 use Rattle.oram_frontend.specs.Oram.{OramState, OramStep, Fetch as OramFetch, Store as OramStore}
 use Rattle.oram_lines.specs.Lines.{HoldsLines}
 use Rattle.rv32_core.specs.Access.{spliced}
+use Rattle.rv32_core.specs.FlatRun.{Budget, flat_run}
+use Rattle.rv32_core.specs.Machine.{Machine}
 
 module _ (keys : Keys) (levels : ℕ) where
   -- What a cache asks of its store, as a call of an encrypted memory at some time: it is for a line that there is, and
@@ -46,3 +48,10 @@ empty_cache sets ways = record { ways = ways; sets = replicate sets [] }
 abbrev pub loaded : List ℕ → List ℕ → List ℕ → List ℕ
 loaded image [] memory = memory
 loaded image (line ∷ marked) memory = loaded image marked (spliced memory (64 * line) (line_in image line))
+
+-- So many instructions finish in the flat run from a machine and its bytes, none of which ends it, and leave this
+-- machine.
+pub record IsPrefix (count : ℕ) (machine : Machine) (memory : List ℕ) (last : Machine) : Type 0 where
+  pub instructions : (flat_run count machine memory).instructions ≡ count
+  pub leaves : (flat_run count machine memory).machine ≡ last
+  pub ending : (flat_run count machine memory).ending ≡ Budget

@@ -3,22 +3,24 @@
 //! The crate has laws alone; the calls do nothing.
 #![tactic(auto)]
 
-ghost use Rattle.std.specs.Prelude.{◌≡◌, ◌<◌, ◌*◌, ◌⊎◌, ℕ, List, All, Ok, length, replicate};
+ghost use Rattle.std.specs.Prelude.{◌≡◌, ◌<◌, ◌+◌, ◌*◌, ◌⊎◌, ℕ, List, All, Ok, length, replicate};
 ghost use Rattle.asc_base.specs.Has.{Has};
 ghost use Rattle.asc_base.specs.Settings.{IsConfig};
 ghost use Rattle.asc_base.specs.declared.block.Line.{Line};
 ghost use Rattle.asc_base.specs.declared.settings.Config.{Config};
+ghost use Rattle.asc_base.specs.declared.stop.Stop.{Stop};
 ghost use Rattle.data_cache.specs.Cached.{cache_access};
 ghost use Rattle.data_cache.specs.CacheLists.{line_in};
 ghost use Rattle.data_cache.specs.Contents.{Contents, write_line_plan};
-ghost use Rattle.encrypted_run.specs.Refined.{OramLine, Computes, empty_cache, loaded};
+ghost use Rattle.data_cache.specs.Lines.{LineRequest};
+ghost use Rattle.encrypted_run.specs.Refined.{OramLine, Computes, IsPrefix, empty_cache, loaded};
 ghost use Rattle.fed_run.specs.Whole.{cache_image, cache_run};
 ghost use Rattle.oram_contents.specs.Counts.{zero_line};
 ghost use Rattle.oram_contents.specs.Entries.{Keys, AreKeys};
 ghost use Rattle.oram_contents.specs.Forgery.{Forgery};
 ghost use Rattle.oram_frontend.specs.Oram.{OramState, OramStep, Wait, Told};
 ghost use Rattle.oram_lines.specs.Lines.{IsNew};
-ghost use Rattle.request_plan.specs.Plan.{Ends, through};
+ghost use Rattle.request_plan.specs.Plan.{Plan, Ends, Stops, through};
 ghost use Rattle.rv32_core.specs.Access.{spliced};
 ghost use Rattle.rv32_core.specs.FlatMachine.{flat_step};
 ghost use Rattle.rv32_core.specs.FlatRun.{flat_run};
@@ -89,4 +91,28 @@ pub fn whole_runs_refine_flat_runs()
         ⊎ (let run = flat_run n machine image in
         (run.instructions ≡ end.instructions) × (run.machine ≡ end.machine) × (run.ending ≡ end.ending)
         × Computes keys levels after run.memory new) }
+{}
+
+/// A run that is stopped in a request, for whatever reason: the instructions that it reports as finished finish in the
+/// flat run on the image, none of which ends it, and leave the machine that it leaves, output and all. Or the log shows
+/// a forgery.
+pub fn stopped_runs_are_prefixes()
+    ensures run { (keys : Keys) → AreKeys keys → (levels n before base : ℕ) (machine : Machine) (memory : List ℕ)
+        (old new : OramState) (cache : Contents) (stop : Stop) (left : Contents × (ℕ × Machine))
+        → IsCore machine.core → machine.core.base ≡ base → machine.core.size ≡ 64 * keys.shape.lines
+        → Computes keys levels cache memory old
+        → Stops (OramLine keys levels) (through (cache_access base) (run_plan n before machine) cache) old new stop left
+        → Forgery keys new.port.tap.log
+        ⊎ ((k : ℕ) × ((left.1).0 ≡ before + k) × IsPrefix k machine memory ((left.1).1)) }
+    ensures whole { (keys : Keys) → AreKeys keys → (levels : ℕ) (config : Config) (image marked : List ℕ)
+        (machine : Machine) (sets ways n : ℕ) → IsConfig config → length image ≡ 64 * keys.shape.lines
+        → All (λ line. line < keys.shape.lines) marked
+        → ((k : ℕ) → k < keys.shape.lines → Has k marked ⊎ (line_in image k ≡ zero_line))
+        → IsCore machine.core → machine.core.size ≡ 64 * keys.shape.lines → 0 < sets → 0 < ways
+        → (old new : OramState) (stop : Stop) (left : Contents × (ℕ × Machine)) → IsNew keys config levels old
+        → Stops (OramLine keys levels) (cache_run image marked n machine (empty_cache sets ways)) old new stop left
+        → Forgery keys new.port.tap.log ⊎ IsPrefix ((left.1).0) machine image ((left.1).1) }
+    ensures forged { (keys : Keys) → AreKeys keys → (levels : ℕ) (plan : Plan LineRequest (List ℕ) Contents Contents)
+        (old new : OramState) (stop : Stop) (left : Contents) → Stops (OramLine keys levels) plan old new stop left
+        → Forgery keys old.port.tap.log → Forgery keys new.port.tap.log }
 {}
