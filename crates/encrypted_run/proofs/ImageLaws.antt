@@ -1,6 +1,6 @@
 -- Lines of an image that are written whole into zeros make the image.
-use Rattle.std.proofs.Common.{◌≡◌, ◌<◌, ◌≤◌, ◌+◌, ◌-◌, ◌*◌, ◌⊎◌, inl, inr, ℕ, zero, suc, List, [], ◌∷◌, ◌++◌, length}
-use Rattle.std.proofs.Common.{All, take, drop, replicate, refl, sym, ap, ◌∙◌, subst, arith}
+use Rattle.std.proofs.Common.{◌≡◌, ◌<◌, ◌+◌, ◌-◌, ◌*◌, ◌⊎◌, inl, inr, ℕ, zero, suc, List, [], ◌∷◌, ◌++◌, length}
+use Rattle.std.proofs.Common.{All, take, drop, replicate, sym, ap, ◌∙◌, arith}
 use Rattle.std.proofs.lemmas.Bool.{cases_eq}
 use Rattle.std.proofs.lemmas.List.{length-take-le, length-drop, length-replicate, take-append-drop, drop-replicate, take-replicate}
 use Rattle.std.proofs.lemmas.List.{nil_from_length, drop-drop}
@@ -23,8 +23,8 @@ pub by_lines : (count : ℕ) (xs ys : List ℕ) → length xs ≡ 64 * count →
 by_lines zero xs ys a b same = nil_from_length xs (omega arith) ∙ sym (nil_from_length ys (omega arith))
 by_lines (suc count) xs ys a b same =
     let rest : drop 64 xs ≡ drop 64 ys = by_lines count (drop 64 xs) (drop 64 ys)
-        (length-drop 64 xs ∙ omega arith) (length-drop 64 ys ∙ omega arith)
-        (λ n below. later xs n ∙ (same (n + 1) (omega arith) ∙ sym (later ys n))) in
+    (length-drop 64 xs ∙ omega arith) (length-drop 64 ys ∙ omega arith)
+    (λ n below. later xs n ∙ (same (n + 1) (omega arith) ∙ sym (later ys n))) in
     sym (take-append-drop 64 xs) ∙ (ap (λ front. front ++ drop 64 xs) (same 0 (omega arith))
     ∙ (ap (λ back. take 64 ys ++ back) rest ∙ take-append-drop 64 ys))
   where
@@ -62,7 +62,8 @@ module _ (image : List ℕ) (count : ℕ) (long : length image ≡ 64 * count) w
   loaded_line [] memory inside whole n below (inr same) = same
   loaded_line (line ∷ marked) memory inside whole n below written =
       loaded_line marked after others
-      (length-spliced memory (64 * line) (line_in image line) (omega (arith, line_whole line first, first)) ∙ whole) n below
+      (length-spliced memory (64 * line) (line_in image line) (omega (arith, line_whole line first, first))
+      ∙ whole) n below
       (by_case (cases_eq n line) written)
     where
       first : line < count

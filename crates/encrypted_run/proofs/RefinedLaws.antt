@@ -1,20 +1,19 @@
 -- A plan over an encrypted memory is one over a list of lines, or the log shows a forgery.
-use Rattle.std.proofs.Common.{◌≡◌, ◌<◌, ◌≤◌, ◌+◌, ◌*◌, ◌⊎◌, inl, inr, ℕ, zero, suc, List, [], ◌∷◌, Option, None, Some, Result, Ok, Err, length}
-use Rattle.std.proofs.Common.{All, get_or, set, length-set, refl, sym, ap, ◌∙◌, subst, arith, replicate}
+use Rattle.std.proofs.Common.{◌≡◌, ◌<◌, ◌*◌, ◌⊎◌, inl, inr, ℕ, List, [], Option, None, Some, Ok, length}
+use Rattle.std.proofs.Common.{get_or, set, length-set, refl, sym, ap, ◌∙◌, subst, arith}
 use Rattle.std.proofs.lemmas.Bool.{cases_eq}
-use Rattle.std.proofs.lemmas.List.{get_or-set_same, get_or-set_other, get_or-replicate}
+use Rattle.std.proofs.lemmas.List.{get_or-set_same, get_or-set_other}
 use Rattle.std.proofs.lemmas.Option.{slice_get-get_or}
 use Rattle.request_plan.specs.Plan.{Plan, Done, Ask, Ends, through}
 use Rattle.asc_base.proofs.Lookups.{some_is}
 use Rattle.asc_base.specs.declared.block.Line.{Line}
 use Rattle.asc_base.specs.declared.stop.Stop.{Stop}
-use Rattle.bus_watch.specs.Log.{LogLists}
-use Rattle.oram_contents.specs.Counts.{put_at, zero_line}
+use Rattle.oram_contents.specs.Counts.{put_at}
 use Rattle.oram_contents.specs.Entries.{Keys, AreKeys}
 use Rattle.oram_contents.specs.Forgery.{Forgery}
 use Rattle.oram_contents.proofs.Lines.{put_same, put_other}
-use Rattle.oram_frontend.specs.Oram.{OramState, OramRequest, OramStep, Fetch as OramFetch, Store as OramStore, Wait, Told}
-use Rattle.oram_lines.specs.Lines.{Lines, HoldsLines, IsRequest, lines_after, IsLineOf}
+use Rattle.oram_frontend.specs.Oram.{OramState, Fetch as OramFetch, Store as OramStore}
+use Rattle.oram_lines.specs.Lines.{Lines, HoldsLines}
 use Rattle.oram_lines.proofs.LineLaws.{call_holds, forgery_call}
 use Rattle.rv32_core.specs.FlatMachine.{flat_step}
 use Rattle.rv32_core.specs.FlatRun.{flat_run}
@@ -24,7 +23,6 @@ use Rattle.rv32_core.specs.StepPlan.{step_plan}
 use Rattle.rv32_core.specs.Access.{spliced}
 use Rattle.rv32_core.specs.declared.outcome.Done.{Done as Finished}
 use Rattle.data_cache.specs.Cached.{cache_access}
-use Rattle.data_cache.specs.CacheLists.{line_in}
 use Rattle.data_cache.specs.Contents.{Contents, write_line_plan}
 use Rattle.data_cache.specs.Lines.{LineRequest, Fetch, Store, FlatStep, FlatStep-length, FlatStep-answers, FlatStep-told}
 use Rattle.data_cache.specs.Lines.{FlatStep-fetch, FlatStep-store}
@@ -62,18 +60,27 @@ module _ (keys : Keys) (lawful : AreKeys keys) (levels : ℕ) where
       ⊎ ((now : List (List ℕ)) × FlatStep {E = Stop} list request (Ok bytes) now × HoldsList keys levels now new)
   step_holds list old new (Fetch line) bytes x (below, is_line, asked, end, one) =
       elim (call_holds keys lawful levels (λ n. get_or list n []) old new (OramFetch asked line)
-          (record { line = Some (record { 0 = bytes }); end = end }) x.holds below one) [
+      (record { line = Some (record { 0 = bytes }); end = end }) x.holds below one) [
         | inl forged ↦ inl forged
         | inr (holds, answered) ↦
             (let (value, is, right) = answered in
             let same : ◌≡◌ {A = Line} (record { 0 = bytes }) value = cc in
             let bytes_are : bytes ≡ get_or list line [] = ap (λ (l : Line). l.0) same ∙ right in
-            inr (list, (slice_get-get_or list line [] (omega (arith, x.number)) ∙ ap Some (sym bytes_are), refl, is_line),
-            record { number = x.number; holds = holds }))
+            inr (
+              list,
+              (
+                slice_get-get_or list line [] (omega (arith, x.number))
+                    ∙ ap Some (sym bytes_are),
+                refl,
+                is_line,
+              ),
+              record { number = x.number; holds = holds },
+            ))
       ]
   step_holds list old new (Store line value) bytes x (below, whole, none, asked, end, one) =
       elim (call_holds keys lawful levels (λ n. get_or list n []) old new
-          (OramStore asked line (record { 0 = value })) (record { line = None; end = end }) x.holds (below, whole) one) [
+      (OramStore asked line (record { 0 = value })) (record { line = None; end = end }) x.holds
+      (below, whole) one) [
         | inl forged ↦ inl forged
         | inr (holds, is) ↦ inr (
           set list line value,
@@ -137,11 +144,12 @@ module _ (keys : Keys) (lawful : AreKeys keys) (levels : ℕ) where
       × Computes keys levels after now new)
   instruction_refines machine is long memory old new cache after end x ends =
       elim (plan_holds (through (cache_access machine.core.base) (step_plan machine) cache) x.list old new (after, end)
-          x.held ends) [
+      x.held ends) [
         | inl forged ↦ inl forged
         | inr (list, flat, held) ↦
             (let (now, step, stands) = told-instruction (FlatStep {E = Stop}) length told FlatStep-length
-            (FlatStep-answers Stop) FlatStep-told (FlatStep-fetch Stop) (FlatStep-store Stop) keys.shape.lines machine is
+            (FlatStep-answers Stop) FlatStep-told (FlatStep-fetch Stop)
+            (FlatStep-store Stop) keys.shape.lines machine is
             long memory x.list list cache after end x.held.number
             (stand_told cache x.list memory x.stands) flat list refl in
             inr (now, step, record { list = list; held = held; stands = stands }))
@@ -158,12 +166,14 @@ module _ (keys : Keys) (lawful : AreKeys keys) (levels : ℕ) where
       (run.instructions ≡ end.instructions) × (run.machine ≡ end.machine) × (run.ending ≡ end.ending)
       × Computes keys levels after run.memory new)
   run_refines machine is long n memory old new cache after end x ends =
-      elim (plan_holds (through (cache_access machine.core.base) (run_plan n 0 machine) cache) x.list old new (after, end)
-          x.held ends) [
+      elim (plan_holds (through (cache_access machine.core.base) (run_plan n 0 machine) cache) x.list old
+      new (after, end)
+      x.held ends) [
         | inl forged ↦ inl forged
         | inr (list, flat, held) ↦
             (let (count, same, ending, stands) = told-run (FlatStep {E = Stop}) length told FlatStep-length
-            (FlatStep-answers Stop) FlatStep-told (FlatStep-fetch Stop) (FlatStep-store Stop) keys.shape.lines machine is
+            (FlatStep-answers Stop) FlatStep-told (FlatStep-fetch Stop)
+            (FlatStep-store Stop) keys.shape.lines machine is
             long n memory x.list list cache after end x.held.number
             (stand_told cache x.list memory x.stands) flat list refl in
             inr (count, same, ending, record { list = list; held = held; stands = stands }))

@@ -1,8 +1,8 @@
 -- A run over an encrypted memory that is stopped: its finished instructions are the flat run's, or the log shows a
 -- forgery.
-use Rattle.std.proofs.Common.{◌≡◌, ◌<◌, ◌+◌, ◌*◌, ◌⊎◌, inl, inr, ℕ, zero, suc, List, [], ◌∷◌, Ok, Err, length}
+use Rattle.std.proofs.Common.{◌≡◌, ◌<◌, ◌+◌, ◌*◌, ◌⊎◌, inl, inr, ℕ, zero, suc, List, Err, length}
 use Rattle.std.proofs.Common.{All, replicate, refl, sym, ap, ◌∙◌, subst, arith}
-use Rattle.request_plan.specs.Plan.{Plan, Done, Ask, Ends, Stops, bind, through}
+use Rattle.request_plan.specs.Plan.{Plan, Done, Ask, Ends, Stops, through}
 use Rattle.request_plan.proofs.Chains.{Stops-unbind}
 use Rattle.request_plan.proofs.Keeps.{Ends-has}
 use Rattle.asc_base.specs.Has.{Has}
@@ -12,13 +12,13 @@ use Rattle.asc_base.specs.declared.stop.Stop.{Stop}
 use Rattle.oram_contents.specs.Counts.{zero_line}
 use Rattle.oram_contents.specs.Entries.{Keys, AreKeys}
 use Rattle.oram_contents.specs.Forgery.{Forgery}
-use Rattle.oram_frontend.specs.Oram.{OramState, OramStep, Fetch as OramFetch, Store as OramStore}
+use Rattle.oram_frontend.specs.Oram.{OramState, Fetch as OramFetch, Store as OramStore}
 use Rattle.oram_lines.specs.Lines.{IsNew}
 use Rattle.oram_lines.proofs.LineLaws.{forgery_stop}
 use Rattle.rv32_core.specs.FlatMachine.{FlatStep, flat_step}
-use Rattle.rv32_core.specs.FlatRun.{FlatRun, FlatEnding, Budget, flat_run, run_from, finished_before}
+use Rattle.rv32_core.specs.FlatRun.{FlatRun, flat_run, run_from, finished_before}
 use Rattle.rv32_core.specs.Machine.{Machine, IsCore}
-use Rattle.rv32_core.specs.RunPlan.{RunEnd, MachineRun, after_instruction, run_plan}
+use Rattle.rv32_core.specs.RunPlan.{MachineRun, after_instruction, run_plan}
 use Rattle.rv32_core.specs.StepPlan.{step_plan}
 use Rattle.rv32_core.specs.declared.outcome.Done.{Done as Finished}
 use Rattle.rv32_core.specs.declared.outcome.Ended.{Ended}
@@ -27,13 +27,13 @@ use Rattle.rv32_core.proofs.FlatRunLaws.{flat_run-zero, flat_run-suc}
 use Rattle.rv32_core.proofs.RunLaws.{run_plan-none, run_plan-next, step_plan-keeps}
 use Rattle.data_cache.specs.Cached.{cache_access}
 use Rattle.data_cache.specs.CacheLists.{line_in}
-use Rattle.data_cache.specs.Contents.{Contents, write_line_plan}
+use Rattle.data_cache.specs.Contents.{Contents}
 use Rattle.data_cache.specs.Lines.{LineRequest, Fetch, Store}
 use Rattle.fed_run.specs.Whole.{cache_image, cache_run}
 use Rattle.fed_run.proofs.Left.{step_left}
 use Rattle.fed_run.proofs.RunChains.{stops-parts, outcomes-through}
 use Rattle.encrypted_run.specs.Refined.{OramLine, Computes, IsPrefix, empty_cache}
-use Rattle.encrypted_run.proofs.ImageLaws.{line_whole, loaded_is}
+use Rattle.encrypted_run.proofs.ImageLaws.{loaded_is}
 use Rattle.encrypted_run.proofs.RefinedLaws.{forgery_line, instruction_refines}
 use Rattle.encrypted_run.proofs.WholeLaws.{start_computes, image_refines}
 
@@ -127,9 +127,10 @@ module _ (keys : Keys) (lawful : AreKeys keys) (levels : ℕ) where
   stop_refines (suc n) before base machine memory old new cache stop left is at long x stops =
       let next : Machine × Finished → MachineRun =
       λ e. after_instruction before (run_plan n (before + 1)) (e.0) ((e.1).ended) in
-      elim (stops-parts (OramLine keys levels) (cache_access base) (λ (l : Machine). (before, l)) (step_plan machine) next
-          cache old new stop left (subst (λ (p : MachineRun). Stops (OramLine keys levels)
-          (through (cache_access base) p cache) old new stop left) (run_plan-next n before machine) stops)) [
+      elim (stops-parts (OramLine keys levels) (cache_access base)
+      (λ (l : Machine). (before, l)) (step_plan machine) next
+      cache old new stop left (subst (λ (p : MachineRun). Stops (OramLine keys levels)
+      (through (cache_access base) p cache) old new stop left) (run_plan-next n before machine) stops)) [
         | inl first ↦ inr (
           0,
           ap (λ (l : Contents × (ℕ × Machine)). (l.1).0) first.2 ∙ (let e : before ≡ before + 0 = omega arith in e),
@@ -141,16 +142,19 @@ module _ (keys : Keys) (lawful : AreKeys keys) (levels : ℕ) where
             ending = ap (λ (r : FlatRun). r.ending) (flat_run-zero machine memory);
           },
         )
-        | inr (r, mid, one, rest) ↦ elim (instruction_refines keys lawful levels machine is long memory old mid cache r.0
-            r.1 x (subst (λ b. Ends (OramLine keys levels) (through (cache_access b) (step_plan machine) cache) old mid r)
+        | inr (r, mid, one, rest) ↦ elim
+            (instruction_refines keys lawful levels machine is long memory old mid cache r.0
+            r.1 x
+            (subst (λ b. Ends (OramLine keys levels) (through (cache_access b) (step_plan machine) cache) old mid r)
             (sym at) one)) [
-          | inl forged ↦ inl (plan_stop (through (cache_access base) (next r.1) r.0) mid new stop left rest forged)
-          | inr (now, step, y) ↦
-              (let (core, same_base, same_size) = kept base machine old mid cache r is one in
-              behind_first n before base machine ((r.1).0) ((r.1).1) ((r.1).1).ended memory now mid new r.0 stop left refl
-              step (λ later. stop_refines n (before + 1) base ((r.1).0) now mid new r.0 stop left core (same_base ∙ at)
-              (same_size ∙ long) y later) rest)
-        ]
+              | inl forged ↦ inl (plan_stop (through (cache_access base) (next r.1) r.0) mid new stop left rest forged)
+              | inr (now, step, y) ↦
+                  (let (core, same_base, same_size) = kept base machine old mid cache r is one in
+                  behind_first n before base machine ((r.1).0) ((r.1).1)
+                  ((r.1).1).ended memory now mid new r.0 stop left refl
+                  step (λ later. stop_refines n (before + 1) base ((r.1).0) now mid new r.0 stop left core (same_base ∙ at)
+                  (same_size ∙ long) y later) rest)
+            ]
       ]
 
   -- A whole run that is stopped.
@@ -164,8 +168,8 @@ module _ (keys : Keys) (lawful : AreKeys keys) (levels : ℕ) where
   whole_stop config image marked machine sets ways n is_config long inside zeros is size some room old new stop left
       is_new stops =
       elim (Stops-unbind (OramLine keys levels) (λ (l : Contents). (l, (0, machine)))
-          (cache_image image marked (empty_cache sets ways))
-          (through (cache_access machine.core.base) (run_plan n 0 machine)) old new stop left stops) [
+      (cache_image image marked (empty_cache sets ways))
+      (through (cache_access machine.core.base) (run_plan n 0 machine)) old new stop left stops) [
         | inl early ↦ inr (
             let same : left.1 ≡ (0, machine) = ap (λ (l : Contents × (ℕ × Machine)). l.1) early.2 in
             subst (λ (l : ℕ × Machine). IsPrefix l.0 machine image l.1) (sym same) (record {
@@ -176,14 +180,14 @@ module _ (keys : Keys) (lawful : AreKeys keys) (levels : ℕ) where
         | inr (cache, mid, one, rest) ↦ elim (image_refines keys lawful levels image marked long inside
             (replicate (64 * keys.shape.lines) 0) old mid (empty_cache sets ways) cache
             (start_computes keys lawful levels config old sets ways is_config is_new some room) one) [
-          | inl forged ↦ inl (plan_stop (through (cache_access machine.core.base) (run_plan n 0 machine) cache) mid new
-              stop left rest forged)
-          | inr y ↦ elim (stop_refines n 0 machine.core.base machine image mid new cache stop left is refl size
-              (subst (λ m. Computes keys levels cache m mid) (loaded_is image keys.shape.lines long marked inside zeros)
-              y) rest) [
-            | inl forged ↦ inl forged
-            | inr (k, count, is_prefix) ↦ inr (subst (λ (c : ℕ). IsPrefix c machine image ((left.1).1))
-                (let e : k ≡ (left.1).0 = omega (arith, count) in e) is_prefix)
-          ]
-        ]
+              | inl forged ↦ inl (plan_stop (through (cache_access machine.core.base) (run_plan n 0 machine) cache) mid new
+                  stop left rest forged)
+              | inr y ↦ elim (stop_refines n 0 machine.core.base machine image mid new cache stop left is refl size
+                  (subst (λ m. Computes keys levels cache m mid) (loaded_is image keys.shape.lines long marked inside zeros)
+                  y) rest) [
+                    | inl forged ↦ inl forged
+                    | inr (k, count, is_prefix) ↦ inr (subst (λ (c : ℕ). IsPrefix c machine image ((left.1).1))
+                        (let e : k ≡ (left.1).0 = omega (arith, count) in e) is_prefix)
+                  ]
+            ]
       ]

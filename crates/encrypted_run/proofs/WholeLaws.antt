@@ -1,8 +1,8 @@
 -- A whole run over a new encrypted memory is the flat run on its image, or the log shows a forgery.
 use Rattle.std.proofs.Common.{◌≡◌, ◌<◌, ◌*◌, ◌⊎◌, inl, inr, ℕ, List, [], ◌∷◌, Ok, length}
-use Rattle.std.proofs.Common.{All, get_or, replicate, refl, sym, ap, ◌∙◌, subst, arith}
+use Rattle.std.proofs.Common.{All, get_or, replicate, sym, ap, ◌∙◌, subst, arith}
 use Rattle.std.proofs.lemmas.List.{get_or-replicate, length-replicate}
-use Rattle.request_plan.specs.Plan.{Plan, Done, Ask, Ends, bind, through}
+use Rattle.request_plan.specs.Plan.{Ends, through}
 use Rattle.request_plan.proofs.Chains.{Ends-unbind}
 use Rattle.asc_base.specs.Has.{Has}
 use Rattle.asc_base.specs.Settings.{IsConfig}
@@ -19,7 +19,6 @@ use Rattle.rv32_core.specs.RunPlan.{RunEnd, run_plan}
 use Rattle.data_cache.specs.Cached.{cache_access}
 use Rattle.data_cache.specs.CacheLists.{line_in}
 use Rattle.data_cache.specs.Contents.{Contents, write_line_plan}
-use Rattle.data_cache.specs.Lines.{LineRequest}
 use Rattle.data_cache.proofs.ToldLaws.{stand-start}
 use Rattle.fed_run.specs.Whole.{cache_image, cache_run}
 use Rattle.encrypted_run.specs.Refined.{OramLine, Computes, empty_cache, loaded}
@@ -40,7 +39,8 @@ module _ (keys : Keys) (lawful : AreKeys keys) (levels : ℕ) where
           (λ n below. sym (get_or-replicate keys.shape.lines n zero_line [] below))
           (new_holds keys lawful levels config o is_config new);
     };
-    stands = stand-start sets ways (replicate keys.shape.lines zero_line) (replicate (64 * keys.shape.lines) 0) some room
+    stands = stand-start sets ways (replicate keys.shape.lines zero_line)
+        (replicate (64 * keys.shape.lines) 0) some room
         (length-replicate (64 * keys.shape.lines) 0
         ∙ ap (λ n. 64 * n) (sym (length-replicate keys.shape.lines zero_line)))
         (λ n below.
@@ -65,7 +65,8 @@ module _ (keys : Keys) (lawful : AreKeys keys) (levels : ℕ) where
   -- the image lines
   pub image_refines : (image marked : List ℕ) → length image ≡ 64 * keys.shape.lines
       → All (λ line. line < keys.shape.lines) marked → (memory : List ℕ) (old new : OramState) (cache after : Contents)
-      → Computes keys levels cache memory old → Ends (OramLine keys levels) (cache_image image marked cache) old new after
+      → Computes keys levels cache memory old
+      → Ends (OramLine keys levels) (cache_image image marked cache) old new after
       → Forgery keys new.port.tap.log ⊎ Computes keys levels after (loaded image marked memory) new
   image_refines image [] long inside memory old new cache after x ends =
       inr (subst (λ c. Computes keys levels c memory new) (sym ends.0)
@@ -76,8 +77,9 @@ module _ (keys : Keys) (lawful : AreKeys keys) (levels : ℕ) where
       let (between, mid, one, rest) = Ends-unbind (OramLine keys levels) (λ (left : Contents). left)
       (write_line_plan cache line (record { 0 = line_in image line })) (cache_image image marked) old new after ends in
       elim (line_refines keys lawful levels line (record { 0 = line_in image line }) first
-          (line_whole image keys.shape.lines long line first) memory old mid cache between x one) [
-        | inl forged ↦ inl (forgery_plan keys lawful levels (cache_image image marked between) mid new after rest forged)
+      (line_whole image keys.shape.lines long line first) memory old mid cache between x one) [
+        | inl forged ↦ inl (forgery_plan keys lawful levels (cache_image image marked between) mid new
+            after rest forged)
         | inr y ↦ image_refines image marked long others _ mid new between after y rest
       ]
 
@@ -98,10 +100,11 @@ module _ (keys : Keys) (lawful : AreKeys keys) (levels : ℕ) where
       (cache_image image marked (empty_cache sets ways))
       (through (cache_access machine.core.base) (run_plan n 0 machine)) old new (after, end) ends in
       elim (image_refines image marked long inside (replicate (64 * keys.shape.lines) 0) old mid (empty_cache sets ways)
-          cache (start_computes config old sets ways is_config is_new some room) one) [
+      cache (start_computes config old sets ways is_config is_new some room) one) [
         | inl forged ↦ inl (forgery_plan keys lawful levels
             (through (cache_access machine.core.base) (run_plan n 0 machine) cache) mid new (after, end) rest forged)
         | inr y ↦ run_refines keys lawful levels machine is size n image mid new cache after end
-            (subst (λ m. Computes keys levels cache m mid) (loaded_is image keys.shape.lines long marked inside zeros) y)
+            (subst (λ m. Computes keys levels cache m mid)
+            (loaded_is image keys.shape.lines long marked inside zeros) y)
             rest
       ]

@@ -1,24 +1,19 @@
 -- What is known over the steps between two slots: an append, an answer, and a block that comes to be held.
-use Rattle.std.proofs.Common.{◌≡◌, ◌<◌, ◌+◌, ◌++◌, ◌⊎◌, inl, inr, ℕ, List, [], ◌∷◌, Option, None, Some, length, bytes_eq}
-use Rattle.std.proofs.Common.{count_by, refl, sym, ap, ◌∙◌, subst, arith, append-nil, is_some}
+use Rattle.std.proofs.Common.{◌≡◌, inl, inr, ℕ, List, [], ◌∷◌, Option, None, Some, length}
+use Rattle.std.proofs.Common.{count_by, refl, sym, ap, ◌∙◌, subst, arith, append-nil}
 use Rattle.asc_base.proofs.Lookups.{count_by-cons}
 use Rattle.asc_base.specs.Has.{Has}
 use Rattle.asc_base.specs.declared.block.Address.{Address}
-use Rattle.asc_base.specs.declared.block.Counter.{Counter}
 use Rattle.asc_base.specs.declared.block.Entry.{Entry}
-use Rattle.asc_base.specs.declared.block.Leaf.{Leaf}
 use Rattle.asc_base.specs.declared.block.Line.{Line}
 use Rattle.asc_base.specs.declared.block.Message.{Message}
 use Rattle.asc_base.specs.declared.stop.Evidence.TheVariants.{Doubled}
 use Rattle.asc_base.specs.declared.stop.Stop.{Stop}
 use Rattle.asc_base.specs.declared.stop.Stop.TheVariants.{Integrity}
-use Rattle.bus_watch.specs.Log.{LogLists}
-use Rattle.bus_watch.specs.declared.log.Event.{Event}
-use Rattle.bus_watch.specs.declared.log.Event.TheVariants.{Drawn, Tagged, Answered}
-use Rattle.oram_contents.specs.Contents.{Contents}
+use Rattle.bus_watch.specs.declared.log.Event.TheVariants.{Tagged, Answered}
 use Rattle.oram_contents.specs.Counts.{Ghost, line_at}
 use Rattle.oram_contents.specs.Decided.{draws}
-use Rattle.oram_contents.specs.Entries.{Keys, AreKeys, message_of}
+use Rattle.oram_contents.specs.Entries.{Keys, AreKeys}
 use Rattle.oram_contents.specs.Provenance.{Sound, Always}
 use Rattle.oram_contents.specs.Slots.{IsPut}
 use Rattle.oram_contents.specs.Steps.{Adds, landed, inserted}
@@ -87,7 +82,8 @@ module _ (keys : Keys) (lawful : AreKeys keys) where
     fits = keeps.fits;
     sound = subst (λ c. Sound keys new.tap.log g c) (sym x.contents_are)
         (sound_log keys old.tap.log new.tap.log (Answered line value ∷ []) [] g (contents old) adds
-        (λ m h. elim h [ inl is ↦ absurd (cc) | inr n ↦ n ]) (λ a c p h. elim h [ inl is ↦ absurd (cc) | inr n ↦ absurd n ])
+        (λ m h. elim h [ inl is ↦ absurd (cc) | inr n ↦ n ])
+        (λ a c p h. elim h [ inl is ↦ absurd (cc) | inr n ↦ absurd n ])
         (λ n p h. elim h [ inl is ↦ absurd (cc) | inr n ↦ absurd n ]) known.sound);
     always = subst (λ c. Always keys new.tap.log c) (sym x.contents_are)
         (always_adds keys old.tap.log new.tap.log (Answered line value ∷ []) (contents old) old.tree.hand adds

@@ -1,40 +1,36 @@
 -- Fetches and stores, from a state that stands for counters and lines to one that does, or a forgery.
-use Rattle.std.proofs.Common.{◌≡◌, ◌≢◌, ◌<◌, ◌≤◌, ◌+◌, ◌-◌, ◌*◌, ◌/◌, ◌⊎◌, inl, inr, ℕ, zero, suc, List, [], ◌∷◌, Option, None, Some, Ok, length}
+use Rattle.std.proofs.Common.{◌≡◌, ◌<◌, ◌≤◌, ◌+◌, ◌-◌, ◌/◌, inl, inr, ℕ, zero, suc, List, [], Option, None, Some, length}
 use Rattle.std.proofs.Common.{refl, sym, ap, ◌∙◌, subst, arith, append-nil}
 use Rattle.std.proofs.lemmas.Bool.{cases_eq}
-use Rattle.request_plan.specs.Plan.{Plan, Done, Ask, Ends}
+use Rattle.request_plan.specs.Plan.{Done, Ask}
 use Rattle.asc_base.proofs.Layers.{layer_of_is, layer_of-lt, index_of-lt, parent_of-top, parent_of-below, children_of-line}
 use Rattle.asc_base.proofs.Layers.{layer_count-next, layer_first-next, layer_first-le, layer_first-zero, layer_count-zero}
 use Rattle.asc_base.proofs.Families.{parent_above}
 use Rattle.asc_base.proofs.ShapeFacts.{shape_layered}
-use Rattle.asc_base.specs.Has.{Has}
-use Rattle.asc_base.specs.TreeShape.{parent_of, children_of, layer_first, layer_count, layer_of, index_of, IsInLayer}
+use Rattle.asc_base.specs.TreeShape.{parent_of, children_of, layer_first, layer_of, index_of, IsInLayer}
 use Rattle.asc_base.specs.declared.block.Address.{Address}
 use Rattle.asc_base.specs.declared.block.Line.{Line}
 use Rattle.asc_base.specs.declared.shape.Shape.{Shape}
 use Rattle.oram_contents.specs.Counts.{Ghost, line_at, line_by, put_at}
 use Rattle.oram_contents.specs.Entries.{Keys, AreKeys}
-use Rattle.oram_contents.specs.Forgery.{Forgery}
 use Rattle.oram_contents.specs.Slots.{done}
 use Rattle.oram_contents.proofs.Lines.{put_same, put_other}
 use Rattle.oram_contents.proofs.SmallLaws.{small_more}
-use Rattle.oram_walk.specs.Front.{FrontState, counter_in}
-use Rattle.oram_walk.specs.Plans.{FrontPlan, on, visit_plan, walk_plan, request_plan, fetch_plan, store_plan}
-use Rattle.oram_walk.specs.Request.{Answer, Steps}
+use Rattle.oram_walk.specs.Front.{FrontState}
+use Rattle.oram_walk.specs.Plans.{visit_plan, walk_plan, request_plan, fetch_plan, store_plan}
+use Rattle.oram_walk.specs.Request.{Answer}
 use Rattle.oram_walk.specs.declared.slots.Access.{Access}
 use Rattle.oram_walk.specs.declared.slots.Purpose.{Purpose}
-use Rattle.oram_walk.specs.declared.slots.Purpose.TheVariants.{Refill, Keep, Replace}
+use Rattle.oram_walk.specs.declared.slots.Purpose.TheVariants.{Keep, Replace}
 use Rattle.oram_walk.specs.declared.slots.Seen.{Seen}
 use Rattle.rate_enforcer.specs.PortStep.{PortState, Resting}
 use Rattle.oram_frontend.proofs.SlotLaws.{served_answer}
-use Rattle.oram_frontend.specs.Access.{SlotStep}
-use Rattle.oram_lines.specs.Standing.{IsKnown, IsShown, StandsFor, IsCalm, SameData, FitsPurpose, after_access}
+use Rattle.oram_lines.specs.Standing.{StandsFor, IsCalm, SameData, FitsPurpose, after_access}
 use Rattle.oram_lines.proofs.BetweenLaws.{answer_known}
 use Rattle.oram_lines.proofs.MoveTriples.{SameFront, keep_data}
 use Rattle.oram_lines.proofs.RequestTriples.{IsUnder, Walked, walk_comes}
-use Rattle.oram_lines.proofs.ShownLaws.{shown_same}
 use Rattle.oram_lines.proofs.StepTriples.{Comes, comes_on}
-use Rattle.oram_lines.proofs.WalkTriples.{Visited, visit_comes, front_then}
+use Rattle.oram_lines.proofs.WalkTriples.{visit_comes, front_then}
 
 module _ (keys : Keys) (lawful : AreKeys keys) (levels : ℕ) where
   -- a parent is one layer up
@@ -68,7 +64,8 @@ module _ (keys : Keys) (lawful : AreKeys keys) (levels : ℕ) where
       parent_of-top keys.shape.lines keys.shape.layers a _ refl
       (omega (arith, layer_of-lt keys.shape.lines keys.shape.layers a inside))
   under (suc above) a inside high = λ p up.
-      under above p (parent_above keys.shape.lines keys.shape.layers a p inside up).1 (omega (arith, parent_layer a p inside up))
+      under above p (parent_above keys.shape.lines keys.shape.layers a p inside up).1
+      (omega (arith, parent_layer a p inside up))
 
   -- a data line's layer is the lowest
   data_layer : (line : ℕ) → line < keys.shape.lines → layer_of keys.shape.lines keys.shape.layers line ≡ 0
@@ -123,9 +120,10 @@ module _ (keys : Keys) (lawful : AreKeys keys) (levels : ℕ) where
       (omega (arith, data_layer line below)))))
       (λ now end m x t later_front seen ends.
       elim (visit_comes keys lawful levels now x.h m end (record { 0 = line }) purpose x.stands x.calm x.first
-          (data_inside line below) (λ has. let family = x.stands.shown.blocks line has in
-          absurd (let bad : ◌≡◌ {A = Option (ℕ × ℕ)} None (Some family.0) = sym (data_leaf line below) ∙ family.1 in cc))
-          fits t later_front seen ends) [
+      (data_inside line below) (λ has. let family = x.stands.shown.blocks line has in
+      absurd (let bad : ◌≡◌ {A = Option (ℕ × ℕ)} None (Some family.0) = sym (data_leaf line below)
+      ∙ family.1 in cc))
+      fits t later_front seen ends) [
         | inl forged ↦ inl forged
         | inr y ↦ inr (record {
           h = y.h;
@@ -159,8 +157,9 @@ module _ (keys : Keys) (lawful : AreKeys keys) (levels : ℕ) where
       let h : Ghost = done x.h a x.access.next (line_at keys.shape x.h a) in
       let (notes, least, rests) = x.stands.rests in
       let fewer : Resting ((notes - 1) + 1) levels m = subst (λ k. Resting k levels m) (omega arith) rests in
-      let (served, keeps) = served_answer keys levels (notes - 1) line seen.line nothing_is m n x.stands.known.fits fewer
-          one in
+      let (served, keeps) = served_answer keys levels (notes - 1) line seen.line nothing_is m n
+      x.stands.known.fits fewer
+      one in
       let known = answer_known keys lawful h line seen.line m n levels (notes - 1) x.stands.known served keeps in
       let stands : StandsFor keys levels 0 now h n = record {
         known = known;

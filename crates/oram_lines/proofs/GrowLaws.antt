@@ -1,10 +1,10 @@
 -- What stays over the steps of a port and of its slots: a forgery that a log shows, and that a clock counts its starts.
-use Rattle.std.proofs.Common.{◌≡◌, ℕ, List, [], Ok, Err, inl, inr, count_by, sym, ap, ◌∙◌, subst}
+use Rattle.std.proofs.Common.{◌≡◌, ℕ, List, Ok, Err, inl, inr, count_by, sym, ap, ◌∙◌, subst}
 use Rattle.request_plan.specs.Plan.{Plan, Done, Ask, Ends, Stops}
 use Rattle.asc_base.specs.declared.block.Point.{Point}
 use Rattle.asc_base.specs.declared.stop.Stop.{Stop}
 use Rattle.asc_outside.specs.Memory.{MemoryState}
-use Rattle.bus_watch.specs.Log.{LogLists, TapState}
+use Rattle.bus_watch.specs.Log.{TapState}
 use Rattle.bus_watch.specs.Made.{Made}
 use Rattle.bus_watch.specs.RunEnd.{RunEnd}
 use Rattle.bus_watch.specs.declared.log.Event.{Event}
@@ -69,26 +69,26 @@ counted_port leaf_of levels s t (Idle time) x h c = h.1.counts c
 -- What each call of a port keeps, a whole walk does.
 module _ (keys : Keys) (levels : ℕ) (P : PortState → Type 0)
     (each : (s t : PortState) (q : PortRequest) (x : Said) → PortStep keys.leaf_of levels s q (Ok x) t → P s → P t)
-    where
-  calls_keep : {B A : Type 0} (plan : Plan PortRequest Said B A) (s t : PortState) (outcome : A)
-      → Ends (PortStep keys.leaf_of levels) plan s t outcome → P s → P t
-  calls_keep (Done a) s t outcome ends p = subst P (sym ends.1) p
-  calls_keep (Ask q b k) s t outcome ends p =
-      let (x, mid, one, rest) = ends in
-      calls_keep (k x) mid t outcome rest (each s mid q x one p)
+  where
+    calls_keep : {B A : Type 0} (plan : Plan PortRequest Said B A) (s t : PortState) (outcome : A)
+        → Ends (PortStep keys.leaf_of levels) plan s t outcome → P s → P t
+    calls_keep (Done a) s t outcome ends p = subst P (sym ends.1) p
+    calls_keep (Ask q b k) s t outcome ends p =
+        let (x, mid, one, rest) = ends in
+        calls_keep (k x) mid t outcome rest (each s mid q x one p)
 
-  step_keeps : (s t : PortState) (q : Request) (x : Seen) → Steps (SlotStep keys levels) s q (Ok x) t → P s → P t
-  step_keeps s t (Slot access) x h p = calls_keep (serve_plan keys (Slot access)) s t _ h p
-  step_keeps s t (Append message) x h p = calls_keep (serve_plan keys (Append message)) s t _ h p
-  step_keeps s t (Answer line value) x h p = calls_keep (serve_plan keys (Answer line value)) s t _ h p
-  step_keeps s t Room x h p = subst P (sym h.1) p
+    step_keeps : (s t : PortState) (q : Request) (x : Seen) → Steps (SlotStep keys levels) s q (Ok x) t → P s → P t
+    step_keeps s t (Slot access) x h p = calls_keep (serve_plan keys (Slot access)) s t _ h p
+    step_keeps s t (Append message) x h p = calls_keep (serve_plan keys (Append message)) s t _ h p
+    step_keeps s t (Answer line value) x h p = calls_keep (serve_plan keys (Answer line value)) s t _ h p
+    step_keeps s t Room x h p = subst P (sym h.1) p
 
-  pub walk_keeps : {B A : Type 0} (plan : Plan Request Seen B A) (s t : PortState) (outcome : A)
-      → Ends (Steps (SlotStep keys levels)) plan s t outcome → P s → P t
-  walk_keeps (Done a) s t outcome ends p = subst P (sym ends.1) p
-  walk_keeps (Ask q b k) s t outcome ends p =
-      let (x, mid, one, rest) = ends in
-      walk_keeps (k x) mid t outcome rest (step_keeps s mid q x one p)
+    pub walk_keeps : {B A : Type 0} (plan : Plan Request Seen B A) (s t : PortState) (outcome : A)
+        → Ends (Steps (SlotStep keys levels)) plan s t outcome → P s → P t
+    walk_keeps (Done a) s t outcome ends p = subst P (sym ends.1) p
+    walk_keeps (Ask q b k) s t outcome ends p =
+        let (x, mid, one, rest) = ends in
+        walk_keeps (k x) mid t outcome rest (step_keeps s mid q x one p)
 
 -- What each call of a port that is stopped keeps too, a walk that is stopped does.
 module _ (keys : Keys) (levels : ℕ) (P : PortState → Type 0)

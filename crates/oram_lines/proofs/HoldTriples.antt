@@ -1,19 +1,18 @@
 -- A refilled block comes to be held, and walks to a line.
-use Rattle.std.proofs.Common.{◌≡◌, ◌<◌, ◌≤◌, ◌+◌, ◌-◌, ◌⊎◌, inl, inr, ℕ, zero, suc, List, [], ◌∷◌, Option, None, Some, Ok, length}
-use Rattle.std.proofs.Common.{is_some, take, slice_get, refl, sym, ap, ◌∙◌, subst, arith, append-nil}
-use Rattle.request_plan.specs.Plan.{Plan, Done, Ask, Ends}
+use Rattle.std.proofs.Common.{◌≡◌, ◌<◌, ◌≤◌, ◌+◌, ◌-◌, ◌⊎◌, inl, inr, ℕ, zero, suc, List, [], ◌∷◌, Option, None, Some, Ok}
+use Rattle.std.proofs.Common.{take, refl, sym, ap, ◌∙◌, subst, arith, append-nil}
+use Rattle.request_plan.specs.Plan.{Ends}
 use Rattle.asc_base.specs.Has.{Has}
-use Rattle.asc_base.specs.TreeShape.{parent_of, children_of}
+use Rattle.asc_base.specs.TreeShape.{children_of}
 use Rattle.asc_base.specs.declared.block.Address.{Address}
 use Rattle.asc_base.specs.declared.block.Line.{Line}
-use Rattle.oram_contents.specs.Counts.{Ghost, line_at, put_at}
+use Rattle.oram_contents.specs.Counts.{Ghost, line_at}
 use Rattle.oram_contents.specs.Entries.{Keys, AreKeys}
 use Rattle.oram_contents.specs.Forgery.{Forgery}
-use Rattle.oram_contents.specs.Groups.{AreSmall}
 use Rattle.oram_contents.specs.Steps.{landed, inserted as with_block}
 use Rattle.oram_contents.proofs.SmallLaws.{small_more}
 use Rattle.oram_walk.specs.Front.{FrontState, counter_in, with_held}
-use Rattle.oram_walk.specs.Plans.{FrontPlan, append_plan, hold_plan, refilled, message_of}
+use Rattle.oram_walk.specs.Plans.{append_plan, hold_plan, refilled, message_of}
 use Rattle.oram_walk.specs.Request.{Append, Steps}
 use Rattle.oram_walk.specs.declared.slots.Seen.{Seen}
 use Rattle.posmap_lookaside.specs.Held.{inserted, displaced}
@@ -21,8 +20,8 @@ use Rattle.posmap_lookaside.specs.declared.held.Held.{Held}
 use Rattle.rate_enforcer.specs.PortStep.{PortState, Resting}
 use Rattle.oram_frontend.proofs.SlotLaws.{served_append}
 use Rattle.oram_frontend.specs.Access.{SlotStep}
-use Rattle.oram_lines.specs.Standing.{IsKnown, IsShown, StandsFor, IsCalm, SameData}
-use Rattle.oram_lines.specs.Shown.{IsInserted, IsDisplaced}
+use Rattle.oram_lines.specs.Standing.{IsKnown, StandsFor, IsCalm, SameData}
+use Rattle.oram_lines.specs.Shown.{IsInserted}
 use Rattle.oram_lines.proofs.BetweenLaws.{append_known, insert_known}
 use Rattle.oram_lines.proofs.MoveTriples.{SameFront}
 use Rattle.oram_lines.proofs.ShownHeld.{insert_shown}
@@ -67,7 +66,8 @@ module _ (keys : Keys) (lawful : AreKeys keys) (levels : ℕ) where
     h = with_block g front.plb a.0
 
     x : IsInserted keys front g a line
-    x = insert_shown keys lawful front g a line st.shown pend ahead still inside unheld counter is_line (family, family_is)
+    x = insert_shown keys lawful front g a line st.shown pend ahead still inside unheld counter is_line
+        (family, family_is)
 
     known : IsKnown keys h s
     known = insert_known keys lawful g s front.plb a.0 st.known flight
@@ -81,7 +81,12 @@ module _ (keys : Keys) (lawful : AreKeys keys) (levels : ℕ) where
     none_left : displaced front.plb (refilled front a line) front.held ≡ None → NowHeld front g a now s
     none_left none = record {
       h = h;
-      stands = record { known = known; shown = x.shown; small = st.small; rests = (st.rests.0, omega arith, st.rests.2) };
+      stands = record {
+        known = known;
+        shown = x.shown;
+        small = st.small;
+        rests = (st.rests.0, omega arith, st.rests.2);
+      };
       calm = record { flight = x.none none; pend = pend; stepped = ahead; move = still };
       rest = start.0;
       first = start.1;
@@ -98,15 +103,20 @@ module _ (keys : Keys) (lawful : AreKeys keys) (levels : ℕ) where
         let (notes, least, rests) = st.rests in
         let fewer : Resting ((notes - 1) + 1) levels s = subst (λ n. Resting n levels s) (omega arith) rests in
         let (served, keeps) = served_append keys levels (notes - 1) (message_of d) seen s t known.fits fewer one in
-        let after = append_known keys lawful h (message_of d) s t levels (notes - 1) known served keeps gone.place gone.counter gone.line
-            gone.gone in
+        let after = append_known keys lawful h (message_of d) s t levels
+        (notes - 1) known served keeps gone.place gone.counter gone.line
+        gone.gone in
         record {
           h = landed h;
           stands = record {
             known = after;
             shown = shown_same keys lawful now h (landed h) refl refl refl refl refl x.shown;
             small = small_more keys.shape now.ic s.tap.log t.tap.log _ [] g.count
-                (record { events_are = served.events; altered_are = served.altered ∙ sym (append-nil s.tap.log.altered) })
+                (record {
+                  events_are = served.events;
+                  altered_are = served.altered
+                      ∙ sym (append-nil s.tap.log.altered);
+                })
                 st.small;
             rests = (keeps.rests.0, omega arith, keeps.rests.2);
           };
@@ -129,8 +139,10 @@ module _ (keys : Keys) (lawful : AreKeys keys) (levels : ℕ) where
             → Ends (Steps (SlotStep keys levels)) (append_plan o now) s t (later_front, done_it)
             → Forgery keys t.tap.log ⊎ NowHeld front g a later_front t
         by_left None none ends =
-            inr (subst (λ (f : FrontState). NowHeld front g a f t) (sym (ap (λ (z : FrontState × Unit {0}). z.0) ends.0))
+            inr (subst (λ (f : FrontState). NowHeld front g a f t)
+            (sym (ap (λ (z : FrontState × Unit {0}). z.0) ends.0))
             (subst (λ (y : PortState). NowHeld front g a now y) (sym ends.1) (none_left none)))
         by_left (Some d) some (answer, m, one, (outcome, is)) =
-            inr (subst (λ (f : FrontState). NowHeld front g a f t) (sym (ap (λ (z : FrontState × Unit {0}). z.0) outcome))
+            inr (subst (λ (f : FrontState). NowHeld front g a f t)
+            (sym (ap (λ (z : FrontState × Unit {0}). z.0) outcome))
             (subst (λ (y : PortState). NowHeld front g a now y) (sym is) (one_left d answer m some one)))

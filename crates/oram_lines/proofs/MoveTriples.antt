@@ -1,34 +1,30 @@
 -- Group moves, from a state that stands for counters and lines to one that does, or a forgery.
-use Rattle.std.proofs.Common.{◌≡◌, ◌<◌, ◌≤◌, ◌+◌, ◌^◌, ◌⊎◌, inl, inr, ℕ, zero, suc, List, [], ◌∷◌, map, Option, None, Some, Ok}
+use Rattle.std.proofs.Common.{◌≡◌, ◌<◌, ◌+◌, ◌⊎◌, inl, inr, ℕ, zero, suc, List, [], ◌∷◌, map, Option, None, Some, Ok}
 use Rattle.std.proofs.lemmas.Bool.{cases_eq}
 use Rattle.std.proofs.lemmas.Bool.Decides.{nat_tests}
-use Rattle.std.proofs.Common.{nat_eq, Bool, true, false, is_some, option_map, count_by, refl, sym, ap, ◌∙◌, subst, arith, replicate}
-use Rattle.request_plan.specs.Plan.{Plan, Done, Ask, Ends}
+use Rattle.std.proofs.Common.{nat_eq, true, false, is_some, refl, sym, ap, ◌∙◌, subst, arith}
+use Rattle.request_plan.specs.Plan.{Done, Ends}
 use Rattle.asc_base.proofs.Families.{parent_of_child}
 use Rattle.asc_base.proofs.Lookups.{find-none_has, find-holds, find-has, changed_first-none}
-use Rattle.asc_base.proofs.Members.{has_map}
 use Rattle.asc_base.proofs.ShapeFacts.{shape_layered}
 use Rattle.asc_base.specs.Has.{Has}
-use Rattle.asc_base.specs.Shape.{parent_in, children_in}
+use Rattle.asc_base.specs.Shape.{children_in}
 use Rattle.asc_base.specs.TreeShape.{parent_of, children_of, layer_first}
 use Rattle.asc_base.specs.declared.block.Address.{Address}
 use Rattle.asc_base.specs.declared.block.Counter.{Counter}
-use Rattle.asc_base.specs.declared.shape.Shape.{Shape}
 use Rattle.bus_watch.specs.Log.{LogLists}
-use Rattle.oram_contents.specs.Chip.{HeldBlock, addresses}
+use Rattle.oram_contents.specs.Chip.{addresses}
 use Rattle.oram_contents.specs.Contents.{Contents}
 use Rattle.oram_contents.specs.Counts.{Ghost, line_at, line_by, put_at, IsAway}
-use Rattle.oram_contents.specs.Decided.{draws}
 use Rattle.oram_contents.specs.Entries.{Keys, AreKeys}
 use Rattle.oram_contents.specs.Forgery.{Forgery}
-use Rattle.oram_contents.specs.Groups.{AreSmall}
 use Rattle.oram_contents.specs.Provenance.{Sound}
 use Rattle.oram_contents.specs.Slots.{MayRise, done}
 use Rattle.oram_contents.proofs.Lines.{put_same, put_other, children_inside}
 use Rattle.oram_contents.proofs.Passes.{renumber_sound}
-use Rattle.oram_walk.specs.Front.{FrontState, group_at, full_parent, full_by, full_under, child_in, with_held}
-use Rattle.oram_walk.specs.Plans.{FrontPlan, child_plan, child_by, children_plan, family_plan, move_plan, full_plan, group_plan}
-use Rattle.oram_walk.specs.Request.{Request, Slot, Steps}
+use Rattle.oram_walk.specs.Front.{FrontState, full_parent, with_held}
+use Rattle.oram_walk.specs.Plans.{child_plan, child_by, children_plan, family_plan, move_plan}
+use Rattle.oram_walk.specs.Request.{Slot, Steps}
 use Rattle.oram_walk.specs.declared.slots.Access.{Access}
 use Rattle.oram_walk.specs.declared.slots.Purpose.TheVariants.{Keep}
 use Rattle.oram_walk.specs.declared.slots.Seen.{Seen}
@@ -36,14 +32,14 @@ use Rattle.posmap_counters.specs.Counters.{next_group, IsBefore}
 use Rattle.posmap_counters.specs.Group.{GroupState, child_counter, moved_group}
 use Rattle.posmap_lookaside.specs.Held.{held_at, is_of, changed, with_counter, with_group}
 use Rattle.posmap_lookaside.specs.declared.held.Held.{Held}
-use Rattle.rate_enforcer.specs.PortStep.{PortState, Resting, contents}
+use Rattle.rate_enforcer.specs.PortStep.{PortState, contents}
 use Rattle.oram_frontend.proofs.SlotLaws.{served_slot}
 use Rattle.oram_frontend.specs.Access.{SlotStep}
-use Rattle.oram_lines.specs.Standing.{IsKnown, IsShown, StandsFor, IsCalm, SameData, after_access, later, held_block, chip_of}
-use Rattle.oram_lines.specs.Shown.{ParentFirst, IsFirst, IsMoving, IsMoved, IsRenumbered, HasUsed, IsFull}
+use Rattle.oram_lines.specs.Standing.{IsKnown, IsShown, StandsFor, IsCalm, SameData, later, held_block}
+use Rattle.oram_lines.specs.Shown.{IsFirst, IsMoving, HasUsed, IsFull}
 use Rattle.oram_lines.proofs.KnownLaws.{served_right}
 use Rattle.oram_lines.proofs.ShownMoves.{move_begins, child_shown, held_child_shown, move_ends}
-use Rattle.oram_lines.proofs.StepTriples.{Comes, comes_on, waiting, few_draws, same_after, draws_more}
+use Rattle.oram_lines.proofs.StepTriples.{Comes, comes_on, waiting, few_draws, draws_more}
 
 -- a held address is that of a held block
 pub has_block : (list : List Held) (a : ℕ) → Has a (addresses (map held_block list))
@@ -75,7 +71,8 @@ is_held list a some = by_found (held_at list a) refl some
     by_found (Some h) is some =
         let same : nat_eq h.address.0 a.0 ≡ true = find-holds (is_of a) list h is in
         let equal : h.address.0 ≡ a.0 = grind (arith, nat_tests) in
-        subst (λ (n : ℕ). Has n (addresses (map held_block list))) equal (block_has list h (find-has (is_of a) list h is))
+        subst (λ (n : ℕ). Has n (addresses (map held_block list))) equal
+        (block_has list h (find-has (is_of a) list h is))
 
 -- the same front end but for what is held
 pub record SameFront (old new : FrontState) : Type 0 where
@@ -164,13 +161,14 @@ module _ (keys : Keys) (lawful : AreKeys keys) (levels : ℕ) where
     pub front_is : SameFront front later_front
 
   module _ (p : Address) (group : GroupState) (first number : ℕ)
-      (family : children_of keys.shape.lines keys.shape.layers p.0 ≡ Some (first, number)) (inside : p.0 < keys.shape.total)
+      (family : children_of keys.shape.lines keys.shape.layers p.0 ≡ Some (first, number))
+      (inside : p.0 < keys.shape.total)
       (uses : HasUsed number group) where
     parent_is : (child q : ℕ) → child < number
         → parent_of keys.shape.lines keys.shape.layers (first + child) ≡ Some q → p.0 ≡ q
     parent_is child q less up =
         let within : p.0 < layer_first keys.shape.lines keys.shape.layers =
-            omega (arith, (shape_layered keys.shape lawful.shape).total) in
+        omega (arith, (shape_layered keys.shape lawful.shape).total) in
         let is = (parent_of_child keys.shape.lines keys.shape.layers p.0 first number child within family less).0 in
         let same : Some p.0 ≡ Some q = sym is ∙ up in
         cc
@@ -185,11 +183,11 @@ module _ (keys : Keys) (lawful : AreKeys keys) (levels : ℕ) where
         let (notes, least, rests) = st.rests in
         let has = held_in front g (first + child) st.shown (is_held front.held (record { 0 = first + child }) some) in
         let x = held_child_shown keys lawful front g p group first number st.shown at family s.tap.log child st.small
-            (few_draws keys lawful levels notes g s st.known rests) moving.stepped moving.pend moving.move less uses in
+        (few_draws keys lawful levels notes g s st.known rests) moving.stepped moving.pend moving.move less uses in
         let c = next_group (child_counter group child) in
         let known1 = renumber_known g s (first + child) c has x.rises
-            (λ q up. inl (subst (λ (n : ℕ). Has n g.held) (parent_is child q less up)
-            (first_is front g p group st.shown at))) st.known in
+        (λ q up. inl (subst (λ (n : ℕ). Has n g.held) (parent_is child q less up)
+        (first_is front g p group st.shown at))) st.known in
         record {
           h = record g { count = put_at g.count (first + child) c; move = Some (p.0, child + 1) };
           stands = record {
@@ -209,16 +207,23 @@ module _ (keys : Keys) (lawful : AreKeys keys) (levels : ℕ) where
     access_comes : (front : FrontState) (g : Ghost) (s t : PortState) (asked child : ℕ) (seen : Seen)
         → StandsFor keys levels 0 front g s → IsMoving g p.0 child → IsFirst front p group → child < number
         → held_at front.held (record { 0 = first + child }) ≡ None
-        → SlotStep keys levels s (Slot (record { asked = asked; address = record { 0 = first + child };
-        counter = child_counter group child; next = next_group (child_counter group child); purpose = Keep })) (Ok seen) t
+        → SlotStep keys levels s (Slot (record {
+          asked = asked;
+          address = record { 0 = first + child };
+          counter = child_counter group child;
+          next = next_group (child_counter group child);
+          purpose = Keep;
+        }))
+        (Ok seen) t
         → Forgery keys t.tap.log ⊎ MovesOn front g p group (child + 1) front t
     access_comes front g s t asked child seen st moving at less none one =
         let (notes, least, rests) = st.rests in
         let a = first + child in
         let unheld : Has a g.held → ⊥ = λ has. not_held front.held (record { 0 = a }) none
-            (held_by front g a st.shown has) in
+        (held_by front g a st.shown has) in
         let x = child_shown keys lawful front g p group first number st.shown at family s.tap.log child st.small
-            (few_draws keys lawful levels notes g s st.known rests) moving.stepped moving.pend moving.move less unheld in
+        (few_draws keys lawful levels notes g s st.known rests) moving.stepped moving.pend
+        moving.move less unheld in
         let access : Access = record {
           asked = asked;
           address = record { 0 = a };
@@ -236,7 +241,7 @@ module _ (keys : Keys) (lawful : AreKeys keys) (levels : ℕ) where
               (first_is front g p group st.shown at));
         } in
         elim (served_right keys lawful g1 access seen s t levels (notes + 1) known1 served keeps moving.flight refl
-            x.counter rises unheld tt) [
+        x.counter rises unheld tt) [
           | inl forged ↦ inl forged
           | inr both ↦ inr (record {
             h = record (done (later g served.passed) a access.next (line_at keys.shape g a))
@@ -302,8 +307,8 @@ module _ (keys : Keys) (lawful : AreKeys keys) (levels : ℕ) where
             })) s t (later_front, end)) none ends in
             let (seen, m, one, (outcome, same)) = asked_here in
             let front_same : later_front ≡ front = ap (λ (x : FrontState × ℕ). x.0) outcome
-                ∙ ap (with_held front) (changed_first-none
-                (with_counter (next_group (child_counter group child))) (is_of a) front.held is) in
+            ∙ ap (with_held front) (changed_first-none
+            (with_counter (next_group (child_counter group child))) (is_of a) front.held is) in
             elim (access_comes front g s m asked child seen st moving at less is one) [
               | inl forged ↦ inl (subst (λ (y : PortState). Forgery keys y.tap.log) (sym same) forged)
               | inr on_it ↦ inr (subst (λ (f : FrontState). MovesOn front g p group (child + 1) f t) (sym front_same)
@@ -354,7 +359,8 @@ module _ (keys : Keys) (lawful : AreKeys keys) (levels : ℕ) where
         (λ later_front end t. MovesOn front g p group number later_front t)
         (child_comes front g s asked child st moving at (omega arith))
         (λ now end m x t later_front y ends.
-        elim (children_come left (child + 1) (omega arith) now x.h m end x.stands x.moving x.first t later_front y ends) [
+        elim (children_come left (child + 1) (omega arith) now x.h m end x.stands x.moving x.first t
+        later_front y ends) [
           | inl forged ↦ inl forged
           | inr rest ↦ inr (moves_then front now later_front g (child + 1) number m t x rest)
         ])
@@ -403,7 +409,7 @@ module _ (keys : Keys) (lawful : AreKeys keys) (levels : ℕ) where
           m (λ later_front end t. HasRoom front g a later_front t)
       ended now end m x t later_front y ends =
           let over = move_ends keys lawful now x.h p group full.first full.number x.stands.shown x.first full.children
-              x.moving.stepped x.moving.move in
+          x.moving.stepped x.moving.move in
           inr (subst (λ (f : FrontState). HasRoom front g a f t) (sym (ap (λ (z : FrontState × ℕ). z.0) ends.0))
           (subst (λ (v : PortState). HasRoom front g a
           (with_held now (changed (with_group (moved_group group)) now.held p)) v) (sym ends.1) (record {

@@ -1,15 +1,14 @@
 -- What a walk's plans come to, each from a state that stands for counters and lines: to one that does, or a forgery.
-use Rattle.std.proofs.Common.{◌≡◌, ◌<◌, ◌≤◌, ◌+◌, ◌^◌, ◌⊎◌, inl, inr, ℕ, List, ◌∷◌, Option, None, Some, Result, Ok, Err, length}
+use Rattle.std.proofs.Common.{◌≡◌, ◌<◌, ◌≤◌, ◌+◌, ◌^◌, ◌⊎◌, inl, inr, ℕ, Option, None, Some}
 use Rattle.std.proofs.Common.{count_by, refl, sym, ap, ◌∙◌, subst, arith}
-use Rattle.request_plan.specs.Plan.{Plan, Done, Ask, Ends, bind}
+use Rattle.request_plan.specs.Plan.{Ends}
 use Rattle.request_plan.proofs.Chains.{Ends-unbind}
 use Rattle.asc_base.specs.Has.{Has}
-use Rattle.asc_base.specs.TreeShape.{parent_of, children_of}
+use Rattle.asc_base.specs.TreeShape.{parent_of}
 use Rattle.asc_base.specs.declared.block.Address.{Address}
-use Rattle.asc_base.specs.declared.block.Counter.{Counter}
 use Rattle.bus_watch.specs.Log.{LogLists}
 use Rattle.oram_contents.specs.Contents.{Contents}
-use Rattle.oram_contents.specs.Counts.{Ghost, line_at, put_at, IsAway}
+use Rattle.oram_contents.specs.Counts.{Ghost, line_at, put_at}
 use Rattle.oram_contents.specs.Decided.{draws}
 use Rattle.oram_contents.specs.Entries.{Keys, AreKeys}
 use Rattle.oram_contents.specs.Forgery.{Forgery}
@@ -21,7 +20,7 @@ use Rattle.asc_base.specs.Shape.{parent_in}
 use Rattle.oram_walk.specs.Front.{FrontState, counter_in, stepped, stepped_by, stepped_under, group_at, full_parent}
 use Rattle.posmap_counters.specs.Group.{GroupState}
 use Rattle.oram_walk.specs.Plans.{FrontPlan, on, step_plan}
-use Rattle.oram_walk.specs.Request.{Request, Slot, Steps}
+use Rattle.oram_walk.specs.Request.{Steps}
 use Rattle.oram_walk.specs.declared.slots.Access.{Access}
 use Rattle.oram_walk.specs.declared.slots.Purpose.{Purpose}
 use Rattle.oram_walk.specs.declared.slots.Purpose.TheVariants.{Refill, Keep, Replace}
@@ -33,7 +32,7 @@ use Rattle.oram_frontend.proofs.SlotLaws.{served_slot}
 use Rattle.oram_frontend.specs.Access.{SlotStep}
 use Rattle.oram_frontend.specs.Slots.{IsServedSlot, Keeps}
 use Rattle.oram_lines.specs.Standing.{IsKnown, IsShown, StandsFor, IsCalm, FitsPurpose, after_access, later}
-use Rattle.oram_lines.specs.Shown.{ParentFirst, IsStepped}
+use Rattle.oram_lines.specs.Shown.{ParentFirst}
 use Rattle.oram_lines.proofs.GrowLaws.{forgery_walk}
 use Rattle.oram_lines.proofs.KnownLaws.{served_right}
 use Rattle.oram_lines.proofs.ShownLaws.{step_shown}
@@ -122,7 +121,8 @@ module _ (keys : Keys) (lawful : AreKeys keys) (levels : ℕ) where
   same_after g k access pend ahead (Replace value) = refl
 
   -- a parent on chip is away from hand and tree
-  pub parent_away : (g : Ghost) (a p : ℕ) → ParentFirst keys g a → parent_of keys.shape.lines keys.shape.layers a ≡ Some p
+  pub parent_away : (g : Ghost) (a p : ℕ) → ParentFirst keys g a
+      → parent_of keys.shape.lines keys.shape.layers a ≡ Some p
       → Has p g.held
   parent_away g a p first up = let (rest, is) = first p up in subst (Has p) (sym is) (inl refl)
 

@@ -1,45 +1,25 @@
 -- Walks, from a state that stands for counters and lines to one that does, or a forgery.
-use Rattle.std.proofs.Common.{◌≡◌, ◌<◌, ◌≤◌, ◌+◌, ◌-◌, ◌^◌, ◌⊎◌, inl, inr, ℕ, zero, suc, List, [], ◌∷◌, map, Option, None, Some, Ok, length}
-use Rattle.std.proofs.Common.{nat_eq, Bool, true, false, is_some, option_map, take, slice_get, nat_le, refl, sym, ap, ◌∙◌, subst, arith, if◌then◌else◌}
-use Rattle.std.proofs.lemmas.Bool.{cases_eq}
-use Rattle.std.proofs.lemmas.Bool.Decides.{nat_tests}
-use Rattle.std.specs.Option.{option_map_or}
-use Rattle.request_plan.specs.Plan.{Plan, Done, Ask, Ends}
-use Rattle.asc_base.proofs.Families.{parent_above, child_of_parent}
-use Rattle.asc_base.proofs.Lookups.{promoted_first-none, find-yes, some_is}
+use Rattle.std.proofs.Common.{◌≡◌, ◌<◌, inl, inr, ℕ, Option, None, Some}
+use Rattle.std.proofs.Common.{option_map, refl, sym, ap, ◌∙◌, subst, arith}
+use Rattle.asc_base.proofs.Families.{parent_above}
 use Rattle.asc_base.proofs.ShapeFacts.{shape_layered}
 use Rattle.asc_base.specs.Has.{Has}
 use Rattle.asc_base.specs.Shape.{parent_in}
-use Rattle.asc_base.specs.TreeShape.{parent_of, children_of, layer_first}
+use Rattle.asc_base.specs.TreeShape.{parent_of}
 use Rattle.asc_base.specs.declared.block.Address.{Address}
-use Rattle.asc_base.specs.declared.block.Line.{Line}
 use Rattle.asc_base.specs.declared.shape.Shape.{Shape}
-use Rattle.bus_watch.specs.Log.{LogLists}
-use Rattle.oram_contents.specs.Chip.{addresses}
-use Rattle.oram_contents.specs.Contents.{Contents}
-use Rattle.oram_contents.specs.Counts.{Ghost, line_at, line_by, put_at, IsAway}
+use Rattle.oram_contents.specs.Counts.{Ghost, line_at}
 use Rattle.oram_contents.specs.Entries.{Keys, AreKeys}
-use Rattle.oram_contents.specs.Forgery.{Forgery}
-use Rattle.oram_contents.specs.Provenance.{Sound}
-use Rattle.oram_contents.specs.Slots.{done}
-use Rattle.oram_contents.specs.Steps.{landed, inserted as with_block}
-use Rattle.oram_walk.specs.Front.{FrontState, group_at, stepped_by, stepped_under, full_parent, full_by, full_under, child_in, counter_in, stepped, with_held}
-use Rattle.oram_walk.specs.Plans.{FrontPlan, on, step_plan, group_plan, full_plan, visit_plan, append_plan, hold_plan, refill_plan, refilled, found_plan}
-use Rattle.oram_walk.specs.Plans.{walk_plan, request_plan, fetch_plan, store_plan, message_of}
-use Rattle.oram_walk.specs.Request.{Request, Slot, Append, Answer, Room, Steps, nothing}
+use Rattle.oram_walk.specs.Front.{FrontState, group_at, stepped_by, stepped_under, full_parent, counter_in, stepped}
+use Rattle.oram_walk.specs.Plans.{step_plan, group_plan, full_plan, visit_plan}
 use Rattle.oram_walk.specs.declared.slots.Access.{Access}
 use Rattle.oram_walk.specs.declared.slots.Purpose.{Purpose}
-use Rattle.oram_walk.specs.declared.slots.Purpose.TheVariants.{Refill, Keep, Replace}
 use Rattle.oram_walk.specs.declared.slots.Seen.{Seen}
 use Rattle.posmap_counters.specs.Group.{GroupState}
-use Rattle.posmap_lookaside.specs.Held.{held_at, is_of, promoted, inserted, displaced}
-use Rattle.posmap_lookaside.specs.declared.held.Held.{Held}
-use Rattle.rate_enforcer.specs.PortStep.{PortState, Resting, contents}
-use Rattle.oram_frontend.specs.Access.{SlotStep}
-use Rattle.oram_lines.specs.Standing.{IsKnown, IsShown, StandsFor, IsCalm, SameData, FitsPurpose, after_access, later, held_block, chip_of}
-use Rattle.oram_lines.specs.Shown.{ParentFirst, IsFull}
-use Rattle.oram_lines.proofs.BetweenLaws.{append_known, answer_known, insert_known}
-use Rattle.oram_lines.proofs.MoveTriples.{SameFront, HasRoom, move_comes, not_held, is_held, held_in, held_by, keep_data}
+use Rattle.rate_enforcer.specs.PortStep.{PortState}
+use Rattle.oram_lines.specs.Standing.{StandsFor, IsCalm, SameData, FitsPurpose, after_access, later}
+use Rattle.oram_lines.specs.Shown.{ParentFirst}
+use Rattle.oram_lines.proofs.MoveTriples.{SameFront, HasRoom, move_comes}
 use Rattle.oram_lines.proofs.ShownMoves.{full_shown}
 use Rattle.oram_lines.proofs.StepTriples.{Comes, comes_on, step_comes}
 
@@ -59,7 +39,8 @@ module _ (keys : Keys) (lawful : AreKeys keys) (levels : ℕ) where
   -- A group move where one must come.
   group_comes : (front : FrontState) (g : Ghost) (s : PortState) (asked : ℕ) (a : Address)
       → StandsFor keys levels 0 front g s → IsCalm g → ParentFirst keys g a.0 → a.0 < keys.shape.total
-      → Comes keys lawful levels (group_plan front asked a) s (λ later_front end t. HasRoom keys lawful levels front g a later_front t)
+      → Comes keys lawful levels (group_plan front asked a) s
+      (λ later_front end t. HasRoom keys lawful levels front g a later_front t)
   group_comes front g s asked a st calm first inside = by_full (full_parent front a) refl
     where
       by_full : (o : Option (Address × GroupState)) → full_parent front a ≡ o
@@ -80,7 +61,7 @@ module _ (keys : Keys) (lawful : AreKeys keys) (levels : ℕ) where
       by_full (Some (p, group)) is =
           let full = full_shown keys lawful front g a p group st.shown first inside is in
           let within = (parent_above keys.shape.lines keys.shape.layers a.0 p.0
-              (omega (arith, inside, (shape_layered keys.shape lawful.shape).total)) full.parent).1 in
+          (omega (arith, inside, (shape_layered keys.shape lawful.shape).total)) full.parent).1 in
           move_comes keys lawful levels front g s asked a p group st calm full
           (omega (arith, within, (shape_layered keys.shape lawful.shape).total))
 
@@ -126,8 +107,8 @@ module _ (keys : Keys) (lawful : AreKeys keys) (levels : ℕ) where
       (group_comes front g s asked a st calm first inside)
       (λ now end m x t later_front seen ends.
       elim (step_comes keys lawful levels now x.h m end a purpose x.stands x.calm inside
-          (λ p up. let (rest, is) = first p up in (rest, x.held ∙ is))
-          (λ has. unheld (subst (Has a.0) x.held has)) x.room fits t later_front seen ends) [
+      (λ p up. let (rest, is) = first p up in (rest, x.held ∙ is))
+      (λ has. unheld (subst (Has a.0) x.held has)) x.room fits t later_front seen ends) [
         | inl forged ↦ inl forged
         | inr done_it ↦
             (let (k, is, stands, line) = done_it in
@@ -142,7 +123,12 @@ module _ (keys : Keys) (lawful : AreKeys keys) (levels : ℕ) where
               };
               address = refl;
               next = refl;
-              calm = record { flight = x.calm.flight; pend = x.calm.pend; stepped = x.calm.stepped; move = x.calm.move };
+              calm = record {
+                flight = x.calm.flight;
+                pend = x.calm.pend;
+                stepped = x.calm.stepped;
+                move = x.calm.move;
+              };
               stands = stands;
               line = line;
               held = x.held;

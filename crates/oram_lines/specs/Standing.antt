@@ -1,5 +1,5 @@
 -- What an encrypted memory stands for: the counters and lines of all blocks, wherever they are kept.
-use Rattle.std.specs.Prelude.{◌≡◌, ◌≤◌, ◌+◌, ◌<◌, ℕ, List, length, map, count_by, Option, None, Some}
+use Rattle.std.specs.Prelude.{◌≡◌, ◌≤◌, ◌+◌, ℕ, length, map, count_by, None, Some}
 use Rattle.asc_base.specs.Has.{Has}
 use Rattle.asc_base.specs.TreeShape.{children_of}
 use Rattle.oram_contents.specs.Chip.{Chip, HeldBlock, AreGroups}
