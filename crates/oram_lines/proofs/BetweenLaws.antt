@@ -25,7 +25,8 @@ use Rattle.oram_stash.proofs.Held.{held-none}
 use Rattle.oram_stash.specs.Entries.{held}
 use Rattle.rate_enforcer.specs.PortStep.{PortState, contents}
 use Rattle.oram_frontend.specs.Slots.{IsServedAppend, IsServedAnswer, Keeps}
-use Rattle.oram_lines.specs.Standing.{IsKnown}
+use Rattle.oram_lines.proofs.PointLaws.{once_silent, silent_by}
+use Rattle.oram_lines.specs.Standing.{IsKnown, DrawnOnce}
 use Rattle.oram_lines.proofs.KnownLaws.{count_append, line_length}
 
 -- where nothing is wrong with an append none of its address was at hand
@@ -62,6 +63,8 @@ module _ (keys : Keys) (lawful : AreKeys keys) where
         let both = count_append old.tap.log.events (Tagged m ∷ []) in
         let none = count_by-cons draws (Tagged m) [] in
         omega (arith, is, both, none, known.drawn, ap (λ c. c.dummies) x.clock, ap (λ c. c.real) x.clock);
+    points = subst DrawnOnce (sym x.events) (once_silent old.tap.log.events (Tagged m ∷ []) known.points
+        (silent_by (Tagged m ∷ []) (count_by-cons draws (Tagged m) [])));
     bytes = known.bytes;
   }
     where
@@ -97,6 +100,8 @@ module _ (keys : Keys) (lawful : AreKeys keys) where
         let both = count_append old.tap.log.events (Answered line value ∷ []) in
         let none = count_by-cons draws (Answered line value) [] in
         omega (arith, is, both, none, known.drawn, ap (λ c. c.dummies) x.clock, ap (λ c. c.real) x.clock);
+    points = subst DrawnOnce (sym x.events) (once_silent old.tap.log.events (Answered line value ∷ []) known.points
+        (silent_by (Answered line value ∷ []) (count_by-cons draws (Answered line value) [])));
     bytes = known.bytes;
   }
     where
@@ -113,6 +118,7 @@ module _ (keys : Keys) (lawful : AreKeys keys) where
     closed = known.closed;
     dummies = known.dummies;
     drawn = known.drawn;
+    points = known.points;
     bytes = known.bytes;
   }
 

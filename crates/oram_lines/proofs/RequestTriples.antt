@@ -170,6 +170,7 @@ module _ (keys : Keys) (lawful : AreKeys keys) (levels : ℕ) where
     closed = known.closed;
     dummies = known.dummies;
     drawn = known.drawn;
+    points = known.points;
     bytes = known.bytes;
   }
 

@@ -10,7 +10,7 @@ use Rattle.bus_watch.specs.Log.{LogLists}
 use Rattle.oram_contents.specs.Contents.{Contents}
 use Rattle.oram_contents.specs.Counts.{Ghost, line_at, put_at}
 use Rattle.oram_contents.specs.Decided.{draws}
-use Rattle.oram_contents.specs.Entries.{Keys, AreKeys}
+use Rattle.oram_contents.specs.Entries.{Keys, AreKeys, real}
 use Rattle.oram_contents.specs.Forgery.{Forgery}
 use Rattle.oram_contents.specs.Groups.{AreSmall}
 use Rattle.oram_contents.specs.Provenance.{Sound}
@@ -31,10 +31,10 @@ use Rattle.epoch_learner.proofs.StandLaws.{stands_apart}
 use Rattle.oram_frontend.proofs.SlotLaws.{served_slot}
 use Rattle.oram_frontend.specs.Access.{SlotStep}
 use Rattle.oram_frontend.specs.Slots.{IsServedSlot, Keeps}
-use Rattle.oram_lines.specs.Standing.{IsKnown, IsShown, StandsFor, IsCalm, FitsPurpose, after_access, later}
+use Rattle.oram_lines.specs.Standing.{IsKnown, Undrawn, IsShown, StandsFor, IsCalm, FitsPurpose, after_access, later}
 use Rattle.oram_lines.specs.Shown.{ParentFirst}
 use Rattle.oram_lines.proofs.GrowLaws.{forgery_walk}
-use Rattle.oram_lines.proofs.KnownLaws.{served_right}
+use Rattle.oram_lines.proofs.KnownLaws.{served_right, undrawn}
 use Rattle.oram_lines.proofs.ShownLaws.{step_shown}
 
 module _ (keys : Keys) (lawful : AreKeys keys) (levels : ℕ) where
@@ -83,6 +83,7 @@ module _ (keys : Keys) (lawful : AreKeys keys) (levels : ℕ) where
     closed = known.closed;
     dummies = known.dummies;
     drawn = known.drawn;
+    points = known.points;
     bytes = known.bytes;
   }
 
@@ -193,7 +194,10 @@ module _ (keys : Keys) (lawful : AreKeys keys) (levels : ℕ) where
         parent = λ p up. inl (parent_away g a.0 p first up);
       } in
       elim (served_right keys lawful g1 access x s mid levels (notes + 1) known1 served keeps calm.flight refl
-      stp.counter rises unheld fits) [
+      stp.counter rises unheld
+      (subst (λ c. Undrawn s.tap.log.events (real a.0 c)) (sym stp.counter)
+      (undrawn keys g s a.0 calm.pend st.known))
+      fits) [
         | inl forged ↦ inl (subst (λ (y : PortState). Forgery keys y.tap.log) (sym same) forged)
         | inr both ↦ inr (
           served.passed,

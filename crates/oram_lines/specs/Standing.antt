@@ -1,7 +1,11 @@
 -- What an encrypted memory stands for: the counters and lines of all blocks, wherever they are kept.
-use Rattle.std.specs.Prelude.{◌≡◌, ◌≤◌, ◌+◌, ℕ, length, map, count_by, None, Some}
+use Rattle.std.specs.Prelude.{◌≡◌, ◌≤◌, ◌+◌, ℕ, List, [], ◌∷◌, length, map, count_by, None, Some}
 use Rattle.asc_base.specs.Has.{Has}
 use Rattle.asc_base.specs.TreeShape.{children_of}
+use Rattle.asc_base.specs.declared.block.Leaf.{Leaf}
+use Rattle.asc_base.specs.declared.block.Point.{Point}
+use Rattle.bus_watch.specs.declared.log.Event.{Event}
+use Rattle.bus_watch.specs.declared.log.Event.TheVariants.{Drawn}
 use Rattle.oram_contents.specs.Chip.{Chip, HeldBlock, AreGroups}
 use Rattle.asc_base.specs.declared.shape.Shape.{Shape}
 use Rattle.oram_contents.specs.Counts.{Ghost, line_at}
@@ -18,8 +22,17 @@ use Rattle.posmap_lookaside.specs.declared.held.Held.{Held}
 use Rattle.rate_enforcer.specs.PortStep.{PortState, Resting, contents}
 use Rattle.oram_frontend.specs.Slots.{FitKeys}
 
+-- no leaf was drawn for this point
+abbrev pub Undrawn : List Event → Point → Type 0
+Undrawn events p = (x : Leaf) → Has (Drawn p x) events → ⊥
+
+-- for each point a leaf is drawn at most once
+abbrev pub DrawnOnce : List Event → Type 0
+DrawnOnce [] = Unit {0}
+DrawnOnce (e ∷ later) = ((p : Point) (x : Leaf) → e ≡ Drawn p x → Undrawn later p) × DrawnOnce later
+
 -- What log and contents are known to be between slots, where a ghost record says what the blocks' counters and lines
--- are: the invariant behind refinement or forgery, and how many points were drawn.
+-- are: the invariant behind refinement or forgery, how many points were drawn, and that none was drawn twice.
 pub record IsKnown (keys : Keys) (g : Ghost) (s : PortState) : Type 0 where
   pub fits : FitKeys keys s
   pub sound : Sound keys s.tap.log g (contents s)
@@ -27,6 +40,7 @@ pub record IsKnown (keys : Keys) (g : Ghost) (s : PortState) : Type 0 where
   pub closed : g.path ≡ None
   pub dummies : s.clock.dummies ≡ g.dummies
   pub drawn : count_by draws s.tap.log.events ≡ s.clock.dummies + s.clock.real
+  pub points : DrawnOnce s.tap.log.events
   pub bytes : (a : ℕ) → length (g.data_lines a) ≡ 64
 
 -- a held block, and what a front end has on chip

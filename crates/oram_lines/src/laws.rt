@@ -3,14 +3,14 @@
 ghost use Rattle.std.specs.Prelude.{◌≡◌, ◌⊎◌, ℕ, None, Some};
 ghost use Rattle.asc_base.specs.Has.{Has};
 ghost use Rattle.oram_contents.specs.Counts.{Ghost, line_at};
-ghost use Rattle.oram_contents.specs.Entries.{Keys, AreKeys};
+ghost use Rattle.oram_contents.specs.Entries.{Keys, AreKeys, real};
 ghost use Rattle.oram_contents.specs.Forgery.{Forgery};
 ghost use Rattle.oram_contents.specs.Slots.{MayRise};
 ghost use Rattle.oram_contents.specs.Steps.{landed, inserted};
 ghost use Rattle.asc_base.specs.declared.block.Line.{Line};
 ghost use Rattle.asc_base.specs.declared.block.Message.{Message};
 ghost use Rattle.oram_frontend.specs.Slots.{IsServedSlot, IsServedAppend, IsServedAnswer, Keeps};
-ghost use Rattle.oram_lines.specs.Standing.{IsKnown, FitsPurpose, after_access, later};
+ghost use Rattle.oram_lines.specs.Standing.{IsKnown, Undrawn, FitsPurpose, after_access, later};
 ghost use Rattle.oram_walk.specs.declared.slots.Access.{Access};
 ghost use Rattle.oram_walk.specs.declared.slots.Seen.{Seen};
 ghost use Rattle.rate_enforcer.specs.PortStep.{PortState};
@@ -21,7 +21,8 @@ pub fn known_requests()
         (levels least : ℕ) → IsKnown keys g old → (x : IsServedSlot keys access seen old new)
         → Keeps keys levels least old new → g.flight ≡ None → g.pend ≡ Some access.address.0
         → access.counter ≡ g.count access.address.0 → MayRise keys g access.address.0 access.next
-        → (Has access.address.0 g.held → ⊥) → FitsPurpose keys.shape access.address.0 access.purpose
+        → (Has access.address.0 g.held → ⊥) → Undrawn old.tap.log.events (real access.address.0 access.counter)
+        → FitsPurpose keys.shape access.address.0 access.purpose
         → Forgery keys new.tap.log
         ⊎ (IsKnown keys (after_access keys.shape (later g x.passed) access access.purpose) new
         × (seen.line.0 ≡ line_at keys.shape g access.address.0)) }

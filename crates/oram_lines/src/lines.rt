@@ -9,11 +9,12 @@ ghost use Rattle.oram_contents.specs.Entries.{Keys, AreKeys};
 ghost use Rattle.oram_contents.specs.Forgery.{Forgery};
 ghost use Rattle.oram_frontend.specs.Oram.{OramState, OramRequest, OramStep, Told};
 ghost use Rattle.oram_lines.specs.Lines.{Lines, IsNew, HoldsLines, IsRequest, lines_after, IsLineOf, Calls, Answered};
+ghost use Rattle.oram_lines.specs.Standing.{DrawnOnce};
 ghost use Rattle.oram_lines.specs.Lines.{AreRequests, AreLinesOf, lines_by};
 
 /// A new encrypted memory holds zeros. Over each call that is answered it goes on holding its lines, or those with the
 /// one that was stored, and a fetch is answered with its line; or the log shows a forgery. So it is over any number of
-/// calls. A forgery that a log shows, it goes on showing, also over a call that is stopped.
+/// calls. While it holds lines, no leaf was drawn twice for one point. A forgery that a log shows, it goes on showing, also over a call that is stopped.
 pub fn encrypted_memory_holds_lines()
     ensures start { (keys : Keys) → AreKeys keys → (levels : ℕ) (config : Config) (o : OramState) → IsConfig config
         → IsNew keys config levels o → HoldsLines keys levels (λ line. zero_line) o }
@@ -27,6 +28,8 @@ pub fn encrypted_memory_holds_lines()
         → Answered keys levels old calls new
         → Forgery keys new.port.tap.log
         ⊎ (HoldsLines keys levels (lines_by lines calls) new × AreLinesOf lines calls) }
+    ensures points { (keys : Keys) → AreKeys keys → (levels : ℕ) (lines : Lines) (o : OramState)
+        → HoldsLines keys levels lines o → DrawnOnce o.port.tap.log.events }
     ensures forged { (keys : Keys) → AreKeys keys → (levels : ℕ) (old new : OramState) (request : OramRequest)
         (told : Told) → OramStep keys levels old request (Ok told) new → Forgery keys old.port.tap.log
         → Forgery keys new.port.tap.log }
