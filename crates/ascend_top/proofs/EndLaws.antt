@@ -22,8 +22,8 @@ use Rattle.trace_checker.proofs.Verdicts.{one_verdict}
 use Rattle.rv32_asm.specs.declared.fault.AsmFault.{AsmFault}
 use Rattle.rv32_asm.specs.declared.fault.AsmFault.TheVariants.{Bad}
 use Rattle.rv32_asm.specs.File.{assembled}
-use Rattle.ascend_top.specs.Command.{AreRight, CommandEnds, Completes, IsFirstRefusal, IsOfFiles, StepsEnd, Tells, WorkEnds}
-use Rattle.ascend_top.specs.Command.{IsMade, last_steps, lifted, steps_of}
+use Rattle.ascend_top.specs.Command.{AreRight, CommandEnds, Completes, IsFirstRefusal, IsMade, IsOfFiles, StepsEnd}
+use Rattle.ascend_top.specs.Command.{Tells, WorkEnds, last_steps, lifted, steps_of}
 use Rattle.ascend_top.specs.Flat.{input_steps}
 use Rattle.ascend_top.specs.Asm.{place_in}
 use Rattle.ascend_top.specs.Made.{Made, Ran, Assembled, Listed, Held}

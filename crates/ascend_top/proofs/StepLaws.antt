@@ -15,8 +15,8 @@ use Rattle.bus_trace.specs.declared.fault.TraceKind.{TraceKind}
 use Rattle.elf_loader.specs.declared.fault.ElfFault.{ElfFault}
 use Rattle.ascend_top.specs.FlatRun.{bytes_in}
 use Rattle.ascend_top.specs.Parts.{WasRead, unread, unwritten}
-use Rattle.ascend_top.specs.Steps.{AsksMore, PrintsMore, Breaks, Keeps, Does, Refuses, Rule, Judges, JudgesNumber, Reads, Writes}
-use Rattle.ascend_top.specs.Steps.{Prints, IsInRange, IsWrong, limit_of}
+use Rattle.ascend_top.specs.Steps.{AsksMore, PrintsMore, Breaks, Keeps, Does, Refuses, Rule, Judges, JudgesNumber}
+use Rattle.ascend_top.specs.Steps.{Reads, Writes, Prints, IsInRange, IsWrong, limit_of}
 use Rattle.ascend_words.specs.declared.table.Name.{Name}
 use Rattle.rv32_asm.specs.declared.fault.AsmKind.{AsmKind}
 use Rattle.ascend_top.specs.declared.refusal.Refusal.{Refusal}

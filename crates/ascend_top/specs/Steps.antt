@@ -1,6 +1,7 @@
 -- The steps of commands. Each has the call that it asks of the host, what it takes to be done, and the refusals that it
 -- may end with, each with its cause.
-use Rattle.std.specs.Prelude.{◌≡◌, ◌⊎◌, ℕ, ◌≤◌, ◌<◌, ◌%◌, IsOk, Err, List, [], ◌∷◌, ◌++◌, length, Option, Some, IfSome, option_map}
+use Rattle.std.specs.Prelude.{◌≡◌, ◌⊎◌, ℕ, ◌≤◌, ◌<◌, ◌%◌, IsOk, Err, List, [], ◌∷◌, ◌++◌, length, Option, Some}
+use Rattle.std.specs.Prelude.{IfSome, option_map}
 use Rattle.asc_base.specs.Settings.{AreAllowed, IsFirstFault as IsFirstSetting}
 use Rattle.asc_base.specs.declared.settings.Settings.{Settings}
 use Rattle.asc_outside.specs.Host.{HostCall, Reads as ReadsFile, Writes as WritesFile, Prints as PrintsText}

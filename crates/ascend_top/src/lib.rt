@@ -1,7 +1,7 @@
 //! The commands of `ascend`, over any host.
 //!
-//! A command is a list of steps: numbers are judged, files are read, a program is run, assembled or listed or a trace is
-//! checked, files are written, a text is printed. The first refusal ends it, and its text is printed.
+//! A command is a list of steps: numbers are judged, files are read, a program is run, assembled or listed, or a trace
+//! is checked, files are written, a text is printed. The first refusal ends it, and its text is printed.
 #![tactic(auto)]
 
 mod commands;

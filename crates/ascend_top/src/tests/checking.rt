@@ -24,17 +24,9 @@ fn dummies(alloc: Global, second: u64) -> Result<String, AllocError> {
     Ok(text)
 }
 
-/// The words that ask for the check of the file `t`.
-fn words(alloc: Global) -> Result<Vec<String>, AllocError> {
-    let mut words = Vec::new(alloc);
-    words.push(String::from_str(alloc, "check")?)?;
-    words.push(String::from_str(alloc, "trace=t")?)?;
-    Ok(words)
-}
-
 /// Checks a file with these bytes on a host whose calls of these numbers fail, and compares the status and what is
 /// printed.
-fn compare<R: Abort>(
+fn compare_check<R: Abort>(
     rt: &R,
     alloc: Global,
     failing: &[u64],
@@ -44,21 +36,17 @@ fn compare<R: Abort>(
 ) -> Result<(), Fail> {
     let mut host = MemHost::new(alloc, failing.to_vec(alloc)?);
     host.add("t", trace)?;
-    let words = words(alloc)?;
-    let ended = ascend(alloc, words.as_slice(), &mut host);
-    assert!(rt; ended == status, "{ended}, where it is to be {printed}");
-    assert!(rt; host.printed() == printed.as_bytes(), "{printed}");
-    Ok(())
+    compare(rt, alloc, "check trace=t", &mut host, status, printed, None)
 }
 
 #[test]
 fn traces_are_checked(rt: HostRuntime) -> Result<(), Fail> {
     let alloc = rt.alloc();
-    compare(&rt, alloc, &[], IDLE.as_bytes(), 0, "holds code 0 bits 0\n")?;
+    compare_check(&rt, alloc, &[], IDLE.as_bytes(), 0, "holds code 0 bits 0\n")?;
     let mut whole = dummies(alloc, 1_008)?;
-    compare(&rt, alloc, &[], whole.as_bytes(), 4, "trace line 60 Cut\n")?;
+    compare_check(&rt, alloc, &[], whole.as_bytes(), 4, "trace line 60 Cut\n")?;
     write!(whole, "end 200000\n")?;
-    compare(
+    compare_check(
         &rt,
         alloc,
         &[],
@@ -69,11 +57,11 @@ fn traces_are_checked(rt: HostRuntime) -> Result<(), Fail> {
     let mut late = dummies(alloc, 1_009)?;
     write!(late, "end 200000\n")?;
     let fails = "fails line 8 found 1009 wanted 1008\n";
-    compare(&rt, alloc, &[], late.as_bytes(), 12, fails)?;
+    compare_check(&rt, alloc, &[], late.as_bytes(), 12, fails)?;
     // each call of the host fails in turn: after `fails` its status stays
-    compare(&rt, alloc, &[1], whole.as_bytes(), 5, "")?;
-    compare(&rt, alloc, &[2], whole.as_bytes(), 5, "")?;
-    compare(&rt, alloc, &[2], late.as_bytes(), 12, "")
+    compare_check(&rt, alloc, &[1], whole.as_bytes(), 5, "")?;
+    compare_check(&rt, alloc, &[2], whole.as_bytes(), 5, "")?;
+    compare_check(&rt, alloc, &[2], late.as_bytes(), 12, "")
 }
 
 #[test]
@@ -84,9 +72,9 @@ fn texts_are_refused(rt: HostRuntime) -> Result<(), Fail> {
         ("ascend trace 2\n", "trace line 1 Form\n"),
         ("ascend trace 1\nlevels 21\n", "trace line 2 Range\n"),
     ] {
-        compare(&rt, alloc, &[], text.as_bytes(), 4, printed)?;
+        compare_check(&rt, alloc, &[], text.as_bytes(), 4, printed)?;
     }
     let mut more = String::from_str(alloc, IDLE)?;
     write!(more, "end 12\n")?;
-    compare(&rt, alloc, &[], more.as_bytes(), 4, "trace line 8 Extra\n")
+    compare_check(&rt, alloc, &[], more.as_bytes(), 4, "trace line 8 Extra\n")
 }

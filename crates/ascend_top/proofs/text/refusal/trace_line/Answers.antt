@@ -11,5 +11,6 @@ returns c =
     IfOk-weaker c.format.result (λ text. string_bytes text ≡ codes "trace line " ++ (line ++ (32 ∷
     (c.trace_kind_name-name.result.now ++ 10 ∷ []))))
     (λ text. string_bytes text ≡ trace_text c.args.line c.args.kind)
-    (λ text is. is ∙ ap (λ name. codes "trace line " ++ (line ++ (32 ∷ (name ++ 10 ∷ [])))) c.trace_kind_name-name.ensures
+    (λ text is. is ∙ ap (λ name. codes "trace line " ++ (line ++ (32 ∷ (name ++ 10 ∷ []))))
+    c.trace_kind_name-name.ensures
     ∙ simp append_assoc) c.format.ensures.ok
