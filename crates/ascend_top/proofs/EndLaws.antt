@@ -10,26 +10,32 @@ use Rattle.asc_outside.specs.Rose.{Rose}
 use Rattle.ascend_words.specs.Grammar.{Pair, Read}
 use Rattle.ascend_words.specs.Settings.{text_in, settings_of}
 use Rattle.ascend_words.specs.declared.table.Command.{Command}
-use Rattle.ascend_words.specs.declared.table.Command.TheVariants.{Run, Flat, Asm, Disasm}
+use Rattle.ascend_words.specs.declared.table.Command.TheVariants.{Run, Flat, Asm, Disasm, Check}
 use Rattle.ascend_words.specs.declared.table.Name.{Name}
 use Rattle.ascend_words.specs.declared.table.Name.TheVariants.{Input, At}
+use Rattle.bus_trace.specs.Trace.{TraceLists}
+use Rattle.bus_trace.proofs.OneTrace.{no_fault, one_trace}
+use Rattle.trace_checker.specs.Checker.{Says}
+use Rattle.trace_checker.specs.declared.verdict.Verdict.{Verdict}
+use Rattle.trace_checker.specs.declared.verdict.Verdict.TheVariants.{Holds, Fails as FailsAt}
+use Rattle.trace_checker.proofs.Verdicts.{one_verdict}
 use Rattle.rv32_asm.specs.declared.fault.AsmFault.{AsmFault}
 use Rattle.rv32_asm.specs.declared.fault.AsmFault.TheVariants.{Bad}
 use Rattle.rv32_asm.specs.File.{assembled}
-use Rattle.ascend_top.specs.Command.{AreRight, CommandEnds, Completes, IsFirstRefusal, IsOfFiles, StepsEnd, Tells, WorkEnds}
-use Rattle.ascend_top.specs.Command.{last_steps, lifted, made_of, steps_of}
+use Rattle.ascend_top.specs.Command.{AreRight, CommandEnds, Completes, IsFirstRefusal, IsMade, IsOfFiles, StepsEnd}
+use Rattle.ascend_top.specs.Command.{Tells, WorkEnds, last_steps, lifted, steps_of}
 use Rattle.ascend_top.specs.Flat.{input_steps}
 use Rattle.ascend_top.specs.Asm.{place_in}
-use Rattle.ascend_top.specs.Made.{Made, Ran, Assembled, Listed}
-use Rattle.ascend_top.specs.Status.{status_of, status_of_made, status_of_refusal}
-use Rattle.ascend_top.specs.Steps.{AText, IsInRange, IsNumberCause, JudgesNumber, Keeps}
+use Rattle.ascend_top.specs.Made.{Made, Ran, Assembled, Listed, Held}
+use Rattle.ascend_top.specs.Status.{status_of, status_of_refusal}
+use Rattle.ascend_top.specs.Steps.{AText, ATrace, IsChecked, IsInRange, IsNumberCause, JudgesNumber, Keeps}
 use Rattle.ascend_top.specs.Steps.{AKey, AllDone, AnElf, Breaks, Does, IsCause, IsDone, IsReadCause}
 use Rattle.ascend_top.specs.Steps.{IsRefused, IsRight, IsSettingCause, IsWriteCause, IsWrong, Judges, Prints, Reads}
 use Rattle.ascend_top.specs.Steps.{Refuses, Rule, Step, Writes, limit_of}
 use Rattle.ascend_top.specs.Texts.{refusal_text}
 use Rattle.ascend_top.specs.declared.refusal.Refusal.{Refusal}
 use Rattle.ascend_top.specs.declared.refusal.Refusal.TheVariants.{Usage, OutOfRange, Elf, KeyLength, TooLong, Host}
-use Rattle.ascend_top.specs.declared.refusal.Refusal.TheVariants.{NoMemory, NumberOutOfRange, Assembler}
+use Rattle.ascend_top.specs.declared.refusal.Refusal.TheVariants.{NoMemory, NumberOutOfRange, Assembler, Trace, Fails}
 use Rattle.ascend_top.specs.declared.refusal.Source.{Source}
 use Rattle.ascend_top.proofs.StepLaws.{asks_none}
 
@@ -59,12 +65,24 @@ number_lost name number state = record {
   asked = inl refl;
 }
 
+read_lost_at_start : (source : Source) (name : List ℕ) (rule : Rule) (state : HostState)
+    → Refuses (Reads source name rule) NoMemory state state
+read_lost_at_start source name rule state = record {
+  cause = λ files told. tt;
+  fault = λ e. absurd (let no : ⊥ = cc in no);
+  files = refl;
+  printed = refl;
+  later = omega arith;
+  asked = inl refl;
+}
+
 pub lost_at_start : (command : Command) (given : List Pair) (state : HostState)
     → IsRefused (steps_of command given) NoMemory state state
 lost_at_start Run given state = inl (judge_lost (settings_of given) state)
 lost_at_start Flat given state = inl (judge_lost (settings_of given) state)
 lost_at_start Asm given state = inl (number_lost At (place_in given) state)
 lost_at_start Disasm given state = inl (judge_lost (settings_of given) state)
+lost_at_start Check given state = inl (read_lost_at_start _ _ _ state)
 
 pub tells_nothing : (state : HostState) → Tells NoMemory NoMemory state state
 tells_nothing state = record {
@@ -120,6 +138,7 @@ steps_reading Run given = (tt, (tt, (tt, input_reading (text_in given Input))))
 steps_reading Flat given = (tt, (tt, input_reading (text_in given Input)))
 steps_reading Asm given = (tt, (tt, tt))
 steps_reading Disasm given = (tt, (tt, tt))
+steps_reading Check given = (tt, tt)
 
 -- the input was read, where a file is named, which left all files
 pub input_files : (o : Option (List ℕ)) (old new : HostState) → AllDone (input_steps o) old new → new.files ≡ old.files
@@ -149,6 +168,8 @@ setting_free settings files (Usage word) done cause = absurd cause
 setting_free settings files (Elf fault) done cause = absurd cause
 setting_free settings files (NumberOutOfRange name) done cause = absurd cause
 setting_free settings files (Assembler number kind) done cause = absurd cause
+setting_free settings files (Trace number kind) done cause = absurd cause
+setting_free settings files (Fails number found wanted) done cause = absurd cause
 setting_free settings files (KeyLength count) done cause = absurd cause
 setting_free settings files (TooLong source) done cause = absurd cause
 
@@ -162,12 +183,29 @@ not_both : (answer : Result (List ℕ) AsmFault) (fault : AsmFault) → IsOk ans
 not_both (Ok file) fault ok e = let no : ⊥ = cc in no
 not_both (Err other) fault ok e = search rules
 
+-- bytes are checked in one way
+one_check : (bytes : List ℕ) (one other : Verdict) → IsChecked bytes one → IsChecked bytes other → one ≡ other
+one_check bytes one other a b =
+    one_verdict b.trace one other
+    (subst (λ (t : TraceLists). Says t one) (one_trace bytes a.trace b.trace a.is b.is) a.says) b.says
+
+not_held : (bytes : List ℕ) (code bits number found wanted : ℕ) → IsChecked bytes (Holds code bits)
+    → IsChecked bytes (FailsAt number found wanted) → ⊥
+not_held bytes code bits number found wanted holds fails =
+    let same : Holds code bits ≡ FailsAt number found wanted =
+    one_check bytes (Holds code bits) (FailsAt number found wanted) holds fails in
+    let no : ⊥ = cc in no
+
 -- bytes that keep a rule don't break it
 keeps_breaks : (rule : Rule) (bytes : List ℕ) (refusal : Refusal) → Keeps rule bytes → Breaks rule bytes refusal → ⊥
 keeps_breaks AKey bytes (KeyLength count) keeps breaks = omega (arith, keeps, breaks.0, breaks.1)
 keeps_breaks (AnElf base size) bytes (Elf fault) keeps breaks = keeps fault breaks.present
 keeps_breaks (AText at) bytes (Assembler number kind) keeps breaks =
     not_both (assembled at bytes) (Bad number kind) keeps breaks
+keeps_breaks ATrace bytes (Trace number kind) keeps breaks =
+    no_fault breaks.0 bytes kind keeps.2.trace keeps.2.is breaks.1
+keeps_breaks ATrace bytes (Fails number found wanted) keeps breaks =
+    not_held bytes keeps.0 keeps.1 number found wanted keeps.2 breaks
 keeps_breaks rule bytes refusal keeps breaks = breaks
 
 wrong_free : {P : Type 0} (files : Files) (source : Source) (name : List ℕ) (rule : Rule) (refusal : Refusal)
@@ -187,6 +225,10 @@ read_free files source name rule (KeyLength count) right cause =
 read_free files source name rule (Elf fault) right cause = wrong_free files source name rule (Elf fault) right cause
 read_free files source name rule (Assembler number kind) right cause =
     wrong_free files source name rule (Assembler number kind) right cause
+read_free files source name rule (Trace number kind) right cause =
+    wrong_free files source name rule (Trace number kind) right cause
+read_free files source name rule (Fails number found wanted) right cause =
+    wrong_free files source name rule (Fails number found wanted) right cause
 read_free files source name rule Host right cause = inr refl
 read_free files source name rule NoMemory right cause = inl refl
 read_free files source name rule (Usage word) right cause = absurd cause
@@ -201,6 +243,8 @@ write_free (OutOfRange setting) cause = absurd cause
 write_free (Elf fault) cause = absurd cause
 write_free (NumberOutOfRange name) cause = absurd cause
 write_free (Assembler number kind) cause = absurd cause
+write_free (Trace number kind) cause = absurd cause
+write_free (Fails number found wanted) cause = absurd cause
 write_free (KeyLength count) cause = absurd cause
 write_free (TooLong source) cause = absurd cause
 
@@ -255,6 +299,9 @@ after_free given (Assembled file) files refusal old new told (inr (mid, does, no
 after_free given (Listed text) files refusal old new told (inl refuses) =
     step_free files _ refusal old new tt told refuses
 after_free given (Listed text) files refusal old new told (inr (mid, does, none)) = absurd none
+after_free given (Held code bits) files refusal old new told (inl refuses) =
+    step_free files _ refusal old new tt told refuses
+after_free given (Held code bits) files refusal old new told (inr (mid, does, none)) = absurd none
 
 steps_free : (read : Read) (files : Files) (refusal : Refusal) (old new : HostState) → old.files ≡ Some files
     → AreRight read files
@@ -276,11 +323,11 @@ pub completes : (read : Read) (files : Files) (status : ℕ) (end : Result Made 
     → old.files ≡ Some files → AreRight read files → ¬ Rose old.faults new.faults → Completes read files status old new
 completes read files status (Ok made) old new is (at, before, meant, after) told right safe =
     let reading = steps_reading read.command read.given in
-    let e : made ≡ made_of read.command read.given files = meant files
-    (all_files (steps_of read.command read.given) old at reading before ∙ told) in
     inr (
-      is ∙ ap status_of_made e,
-      subst (λ m. CommandEnds read (Ok m) old new) e (at, before, meant, after),
+      made,
+      meant files (all_files (steps_of read.command read.given) old at reading before ∙ told),
+      is,
+      (at, before, meant, after),
     )
 completes read files status (Err end) old new is (refusal, mid, steps, tells) told right safe = go tells.same
     (steps_free read files refusal old mid told right steps)
@@ -307,20 +354,28 @@ wrong_not_long files source name rule refusal wrong longer =
     let e = ap length (one_file files name wrong.bytes (longer.0) wrong.is (longer.1)) in
     absurd (let no : ⊥ = omega (arith, e, wrong.within, longer.2) in no)
 
--- how a rule is broken gives one status
-breaks_agree : (rule : Rule) (x y : List ℕ) (a b : Refusal) → Breaks rule x a → Breaks rule y b
+-- how bytes break a rule gives one status: a text with a fault is none that is checked
+breaks_agree : (rule : Rule) (bytes : List ℕ) (a b : Refusal) → Breaks rule bytes a → Breaks rule bytes b
     → status_of_refusal a ≡ status_of_refusal b
-breaks_agree AKey x y (KeyLength m) (KeyLength n) h k = refl
-breaks_agree (AnElf base size) x y (Elf m) (Elf n) h k = refl
-breaks_agree (AText at) x y (Assembler m one) (Assembler n other) h k = refl
-breaks_agree AKey x y (KeyLength m) b h k = absurd k
-breaks_agree (AnElf base size) x y (Elf m) b h k = absurd k
-breaks_agree (AText at) x y (Assembler m one) b h k = absurd k
-breaks_agree rule x y a b h k = absurd h
+breaks_agree AKey bytes (KeyLength m) (KeyLength n) h k = refl
+breaks_agree (AnElf base size) bytes (Elf m) (Elf n) h k = refl
+breaks_agree (AText at) bytes (Assembler m one) (Assembler n other) h k = refl
+breaks_agree ATrace bytes (Trace m one) (Trace n other) h k = refl
+breaks_agree ATrace bytes (Fails m x y) (Fails n z w) h k = refl
+breaks_agree ATrace bytes (Trace m kind) (Fails n x y) h k = absurd (no_fault h.0 bytes kind k.trace k.is h.1)
+breaks_agree ATrace bytes (Fails n x y) (Trace m kind) h k = absurd (no_fault k.0 bytes kind h.trace h.is k.1)
+breaks_agree AKey bytes (KeyLength m) b h k = absurd k
+breaks_agree (AnElf base size) bytes (Elf m) b h k = absurd k
+breaks_agree (AText at) bytes (Assembler m one) b h k = absurd k
+breaks_agree ATrace bytes (Trace m kind) b h k = absurd k
+breaks_agree ATrace bytes (Fails n x y) b h k = absurd k
+breaks_agree rule bytes a b h k = absurd h
 
 wrong_agrees : (files : Files) (source : Source) (name : List ℕ) (rule : Rule) (a b : Refusal)
     → IsWrong files source name rule a → IsWrong files source name rule b → Agrees a b
-wrong_agrees files source name rule a b h k = inr (breaks_agree rule h.bytes k.bytes a b h.breaks k.breaks)
+wrong_agrees files source name rule a b h k =
+    inr (breaks_agree rule k.bytes a b (subst (λ bytes. Breaks rule bytes a)
+    (one_file files name h.bytes k.bytes h.is k.is) h.breaks) k.breaks)
 
 read_agrees : (files : Files) (source : Source) (name : List ℕ) (rule : Rule) (a b : Refusal)
     → IsReadCause files source name rule a
@@ -348,24 +403,64 @@ read_agrees files source name rule (TooLong other) (Assembler number kind) h k o
     wrong_not_long files source name rule (Assembler number kind) k (h.1)
 read_agrees files source name rule (Assembler number kind) (TooLong other) h k of =
     wrong_not_long files source name rule (Assembler number kind) h (k.1)
+read_agrees files source name rule (TooLong other) (Trace number kind) h k of =
+    wrong_not_long files source name rule (Trace number kind) k (h.1)
+read_agrees files source name rule (Trace number kind) (TooLong other) h k of =
+    wrong_not_long files source name rule (Trace number kind) h (k.1)
+read_agrees files source name rule (TooLong other) (Fails number found wanted) h k of =
+    wrong_not_long files source name rule (Fails number found wanted) k (h.1)
+read_agrees files source name rule (Fails number found wanted) (TooLong other) h k of =
+    wrong_not_long files source name rule (Fails number found wanted) h (k.1)
 read_agrees files source name rule (KeyLength count) (KeyLength length) h k of =
     wrong_agrees files source name rule (KeyLength count) (KeyLength length) h k
 read_agrees files source name rule (KeyLength count) (Elf other) h k of =
     wrong_agrees files source name rule (KeyLength count) (Elf other) h k
 read_agrees files source name rule (KeyLength count) (Assembler line problem) h k of =
     wrong_agrees files source name rule (KeyLength count) (Assembler line problem) h k
+read_agrees files source name rule (KeyLength count) (Trace line problem) h k of =
+    wrong_agrees files source name rule (KeyLength count) (Trace line problem) h k
+read_agrees files source name rule (KeyLength count) (Fails line is should) h k of =
+    wrong_agrees files source name rule (KeyLength count) (Fails line is should) h k
 read_agrees files source name rule (Elf fault) (KeyLength length) h k of =
     wrong_agrees files source name rule (Elf fault) (KeyLength length) h k
 read_agrees files source name rule (Elf fault) (Elf other) h k of =
     wrong_agrees files source name rule (Elf fault) (Elf other) h k
 read_agrees files source name rule (Elf fault) (Assembler line problem) h k of =
     wrong_agrees files source name rule (Elf fault) (Assembler line problem) h k
+read_agrees files source name rule (Elf fault) (Trace line problem) h k of =
+    wrong_agrees files source name rule (Elf fault) (Trace line problem) h k
+read_agrees files source name rule (Elf fault) (Fails line is should) h k of =
+    wrong_agrees files source name rule (Elf fault) (Fails line is should) h k
 read_agrees files source name rule (Assembler number kind) (KeyLength length) h k of =
     wrong_agrees files source name rule (Assembler number kind) (KeyLength length) h k
 read_agrees files source name rule (Assembler number kind) (Elf other) h k of =
     wrong_agrees files source name rule (Assembler number kind) (Elf other) h k
 read_agrees files source name rule (Assembler number kind) (Assembler line problem) h k of =
     wrong_agrees files source name rule (Assembler number kind) (Assembler line problem) h k
+read_agrees files source name rule (Assembler number kind) (Trace line problem) h k of =
+    wrong_agrees files source name rule (Assembler number kind) (Trace line problem) h k
+read_agrees files source name rule (Assembler number kind) (Fails line is should) h k of =
+    wrong_agrees files source name rule (Assembler number kind) (Fails line is should) h k
+read_agrees files source name rule (Trace number kind) (KeyLength length) h k of =
+    wrong_agrees files source name rule (Trace number kind) (KeyLength length) h k
+read_agrees files source name rule (Trace number kind) (Elf other) h k of =
+    wrong_agrees files source name rule (Trace number kind) (Elf other) h k
+read_agrees files source name rule (Trace number kind) (Assembler line problem) h k of =
+    wrong_agrees files source name rule (Trace number kind) (Assembler line problem) h k
+read_agrees files source name rule (Trace number kind) (Trace line problem) h k of =
+    wrong_agrees files source name rule (Trace number kind) (Trace line problem) h k
+read_agrees files source name rule (Trace number kind) (Fails line is should) h k of =
+    wrong_agrees files source name rule (Trace number kind) (Fails line is should) h k
+read_agrees files source name rule (Fails number found wanted) (KeyLength length) h k of =
+    wrong_agrees files source name rule (Fails number found wanted) (KeyLength length) h k
+read_agrees files source name rule (Fails number found wanted) (Elf other) h k of =
+    wrong_agrees files source name rule (Fails number found wanted) (Elf other) h k
+read_agrees files source name rule (Fails number found wanted) (Assembler line problem) h k of =
+    wrong_agrees files source name rule (Fails number found wanted) (Assembler line problem) h k
+read_agrees files source name rule (Fails number found wanted) (Trace line problem) h k of =
+    wrong_agrees files source name rule (Fails number found wanted) (Trace line problem) h k
+read_agrees files source name rule (Fails number found wanted) (Fails line is should) h k of =
+    wrong_agrees files source name rule (Fails number found wanted) (Fails line is should) h k
 
 setting_agrees : (settings : Settings) (a b : Refusal) → IsSettingCause settings a → IsSettingCause settings b
     → IsOfFiles b → Agrees a b
@@ -377,6 +472,8 @@ setting_agrees settings (OutOfRange x) (Usage word) h k of = absurd k
 setting_agrees settings (OutOfRange x) (Elf fault) h k of = absurd k
 setting_agrees settings (OutOfRange x) (NumberOutOfRange name) h k of = absurd k
 setting_agrees settings (OutOfRange x) (Assembler number kind) h k of = absurd k
+setting_agrees settings (OutOfRange x) (Trace number kind) h k of = absurd k
+setting_agrees settings (OutOfRange x) (Fails number found wanted) h k of = absurd k
 setting_agrees settings (OutOfRange x) (KeyLength count) h k of = absurd k
 setting_agrees settings (OutOfRange x) (TooLong source) h k of = absurd k
 setting_agrees settings Host b h k of = absurd h
@@ -384,6 +481,8 @@ setting_agrees settings (Usage word) b h k of = absurd h
 setting_agrees settings (Elf fault) b h k of = absurd h
 setting_agrees settings (NumberOutOfRange name) b h k of = absurd h
 setting_agrees settings (Assembler number kind) b h k of = absurd h
+setting_agrees settings (Trace number kind) b h k of = absurd h
+setting_agrees settings (Fails number found wanted) b h k of = absurd h
 setting_agrees settings (KeyLength count) b h k of = absurd h
 setting_agrees settings (TooLong source) b h k of = absurd h
 
@@ -468,14 +567,16 @@ refuses_first read files refusal status (Err end) old new is (other, mid, steps,
     go (inl same) (inr e) = inr (is ∙ ap status_of_refusal same ∙ e)
 
 -- the end of one command's work is a command's
-module _ {A : Type 0} (make : A → Made) (after : A → List Step) (meant : Files → A) (given : List Pair)
-    (before : List Step) (same : (made : A) → after made ≡ last_steps given (make made)) where
-  pub lift_ends : (end : Result A Refusal) (old new : HostState) → StepsEnd before after meant end old new
-      → StepsEnd before (last_steps given) (λ files. make (meant files)) (lifted make end) old new
+module _ {A : Type 0} (make : A → Made) (after : A → List Step) (Meant : Files → A → Type 0) (command : Command)
+    (given : List Pair) (same : (made : A) → after made ≡ last_steps given (make made))
+    (are : (files : Files) (made : A) → Meant files made → IsMade command given files (make made)) where
+  pub lift_ends : (end : Result A Refusal) (old new : HostState)
+      → StepsEnd (steps_of command given) after Meant end old new
+      → WorkEnds command given (lifted make end) old new
   lift_ends (Ok made) old new (at, done, told, last) = (
     at,
     done,
-    (λ files is. ap make (told files is)),
+    (λ files is. are files made (told files is)),
     subst (λ steps. AllDone steps at new) (same made) last,
   )
   lift_ends (Err refusal) old new (inl refused) = inl refused
@@ -486,7 +587,7 @@ module _ {A : Type 0} (make : A → Made) (after : A → List Step) (meant : Fil
         done,
         inr (
           make made,
-          (λ files is. ap make (told files is)),
+          (λ files is. are files made (told files is)),
           subst (λ steps. IsRefused steps refusal at new) (same made) refused,
         ),
       )

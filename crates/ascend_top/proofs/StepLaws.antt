@@ -11,16 +11,17 @@ use Rattle.asc_outside.specs.Rose.{Rose}
 use Rattle.asc_outside.specs.declared.host.HostFault.{HostFault}
 use Rattle.asc_outside.specs.declared.host.HostFault.TheVariants.{Failed, TooLong as TooLongFile}
 use Rattle.asc_outside.specs.declared.host.HostFault.TheVariants.{NoMemory as OutOfMemory}
+use Rattle.bus_trace.specs.declared.fault.TraceKind.{TraceKind}
 use Rattle.elf_loader.specs.declared.fault.ElfFault.{ElfFault}
 use Rattle.ascend_top.specs.FlatRun.{bytes_in}
 use Rattle.ascend_top.specs.Parts.{WasRead, unread, unwritten}
-use Rattle.ascend_top.specs.Steps.{AsksMore, PrintsMore, Breaks, Keeps, Does, Refuses, Rule, Judges, JudgesNumber, Reads, Writes}
-use Rattle.ascend_top.specs.Steps.{Prints, IsInRange, IsWrong, limit_of}
+use Rattle.ascend_top.specs.Steps.{AsksMore, PrintsMore, Breaks, Keeps, Does, Refuses, Rule, Judges, JudgesNumber}
+use Rattle.ascend_top.specs.Steps.{Reads, Writes, Prints, IsInRange, IsWrong, limit_of}
 use Rattle.ascend_words.specs.declared.table.Name.{Name}
 use Rattle.rv32_asm.specs.declared.fault.AsmKind.{AsmKind}
 use Rattle.ascend_top.specs.declared.refusal.Refusal.{Refusal}
 use Rattle.ascend_top.specs.declared.refusal.Refusal.TheVariants.{OutOfRange, Elf, KeyLength, NoMemory}
-use Rattle.ascend_top.specs.declared.refusal.Refusal.TheVariants.{NumberOutOfRange, Assembler}
+use Rattle.ascend_top.specs.declared.refusal.Refusal.TheVariants.{NumberOutOfRange, Assembler, Trace, Fails}
 use Rattle.ascend_top.specs.declared.refusal.Source.{Source}
 
 -- what holds of the value that is there
@@ -178,6 +179,28 @@ module _ (source : Source) (name bytes : List ℕ) (rule : Rule) (old new : Host
       → Refuses (Reads source name rule) (Assembler number kind) old new
   text_faulty number kind breaks = record {
     cause = wrong (Assembler number kind) breaks;
+    fault = λ e. absurd (let no : ⊥ = cc in no);
+    files = read.files;
+    printed = read.printed;
+    later = read.later;
+    asked = read.asked;
+  }
+
+  pub trace_faulty : (number : ℕ) (kind : TraceKind) → Breaks rule bytes (Trace number kind)
+      → Refuses (Reads source name rule) (Trace number kind) old new
+  trace_faulty number kind breaks = record {
+    cause = wrong (Trace number kind) breaks;
+    fault = λ e. absurd (let no : ⊥ = cc in no);
+    files = read.files;
+    printed = read.printed;
+    later = read.later;
+    asked = read.asked;
+  }
+
+  pub trace_fails : (number found wanted : ℕ) → Breaks rule bytes (Fails number found wanted)
+      → Refuses (Reads source name rule) (Fails number found wanted) old new
+  trace_fails number found wanted breaks = record {
+    cause = wrong (Fails number found wanted) breaks;
     fault = λ e. absurd (let no : ⊥ = cc in no);
     files = read.files;
     printed = read.printed;

@@ -6,12 +6,13 @@ use Rattle.asc_outside.specs.Host.{HostCall, Prints as PrintsText, HostState, Fi
 use Rattle.asc_outside.specs.Rose.{Rose}
 use Rattle.ascend_words.specs.Grammar.{Pair, Read}
 use Rattle.ascend_words.specs.declared.table.Command.{Command}
-use Rattle.ascend_words.specs.declared.table.Command.TheVariants.{Run, Flat, Asm, Disasm}
+use Rattle.ascend_words.specs.declared.table.Command.TheVariants.{Run, Flat, Asm, Disasm, Check}
 use Rattle.ascend_top.specs.Asm.{asm_steps, asm_file, write_steps}
+use Rattle.ascend_top.specs.Check.{check_steps, held_steps, AreHeld}
 use Rattle.ascend_top.specs.Disasm.{disasm_steps, disasm_listing, print_steps}
 use Rattle.ascend_top.specs.Flat.{flat_steps, report_steps}
 use Rattle.ascend_top.specs.FlatRun.{Report, flat_report, outcome_report}
-use Rattle.ascend_top.specs.Made.{Made, Ran, Assembled, Listed}
+use Rattle.ascend_top.specs.Made.{Made, Ran, Assembled, Listed, Held}
 use Rattle.ascend_top.specs.Run.{run_steps}
 use Rattle.ascend_top.specs.Status.{status_of_made}
 use Rattle.ascend_top.specs.Steps.{AllDone, AsksMore, IsCause, IsDone, IsRefused, PrintsMore, Step}
@@ -21,48 +22,54 @@ use Rattle.ascend_top.specs.declared.commands.Product.{Product}
 use Rattle.ascend_top.specs.declared.commands.Product.TheVariants as product
 use Rattle.ascend_top.specs.declared.refusal.Refusal.{Refusal}
 use Rattle.ascend_top.specs.declared.refusal.Refusal.TheVariants.{Usage, OutOfRange, Elf, KeyLength, TooLong, Host}
-use Rattle.ascend_top.specs.declared.refusal.Refusal.TheVariants.{NoMemory, NumberOutOfRange, Assembler}
+use Rattle.ascend_top.specs.declared.refusal.Refusal.TheVariants.{NoMemory, NumberOutOfRange, Assembler, Trace, Fails}
 
--- the steps of a command before its work: before a run, and before what was read is assembled or listed
+-- the steps of a command before its work: before a run, and before what was read is assembled or listed, or the end of
+-- its check printed
 abbrev pub steps_of : Command → List Pair → List Step
 steps_of Run given = run_steps given
 steps_of Flat given = flat_steps given
 steps_of Asm given = asm_steps given
 steps_of Disasm given = disasm_steps given
+steps_of Check given = check_steps given
 
--- what its work comes to over these files
-abbrev pub made_of : Command → List Pair → Files → Made
-made_of Run given files = Ran (flat_report given files)
-made_of Flat given files = Ran (flat_report given files)
-made_of Asm given files = Assembled (asm_file given files)
-made_of Disasm given files = Listed (disasm_listing given files)
+-- what its work comes to over these files: the report of the flat run, the text's file, the program's lines, or what a
+-- check says of the trace
+abbrev pub IsMade : Command → List Pair → Files → Made → Type 0
+IsMade Run given files made = made ≡ Ran (flat_report given files)
+IsMade Flat given files made = made ≡ Ran (flat_report given files)
+IsMade Asm given files made = made ≡ Assembled (asm_file given files)
+IsMade Disasm given files made = made ≡ Listed (disasm_listing given files)
+IsMade Check given files (Held code bits) = AreHeld given files code bits
+IsMade Check given files made = ⊥
 
 -- the steps after it
 abbrev pub last_steps : List Pair → Made → List Step
 last_steps given (Ran report) = report_steps given report
 last_steps given (Assembled file) = write_steps given file
 last_steps given (Listed text) = print_steps text
+last_steps given (Held code bits) = held_steps code bits
 
 -- The steps and the work between them end so. All steps were done, with what the work made. Or one before the work was
 -- refused; or there was no memory for the work; or one after it was refused. Where files are told the work always made
 -- what is meant.
-abbrev pub StepsEnd : {A : Type 0} → List Step → (A → List Step) → (Files → A) → Result A Refusal
+abbrev pub StepsEnd : {A : Type 0} → List Step → (A → List Step) → (Files → A → Type 0) → Result A Refusal
     → HostState → HostState
     → Type 0
-StepsEnd before after meant (Ok made) old new =
-    (at : HostState) × AllDone before old at × ((files : Files) → at.files ≡ Some files → made ≡ meant files)
+StepsEnd before after Meant (Ok made) old new =
+    (at : HostState) × AllDone before old at × ((files : Files) → at.files ≡ Some files → Meant files made)
     × AllDone (after made) at new
-StepsEnd {A} before after meant (Err refusal) old new =
+StepsEnd {A} before after Meant (Err refusal) old new =
     IsRefused before refusal old new
     ⊎ ((at : HostState) × AllDone before old at
     × (((refusal ≡ NoMemory) × (new ≡ at))
-    ⊎ ((made : A) × ((files : Files) → at.files ≡ Some files → made ≡ meant files)
+    ⊎ ((made : A) × ((files : Files) → at.files ≡ Some files → Meant files made)
     × IsRefused (after made) refusal at new)))
 
 -- the same of a command's own steps and work
 abbrev pub WorkEnds : Command → List Pair → Result Made Refusal → HostState → HostState → Type 0
 WorkEnds command given end old new =
-    StepsEnd (steps_of command given) (last_steps given) (made_of command given) end old new
+    StepsEnd (steps_of command given) (last_steps given) (IsMade command given) end old new
 
 -- the print of a text, if there is one
 abbrev pub print_calls : Option (List ℕ) → List HostCall
@@ -105,6 +112,8 @@ IsOfFiles (Assembler number kind) = Unit {0}
 IsOfFiles (Elf fault) = Unit {0}
 IsOfFiles (KeyLength length) = Unit {0}
 IsOfFiles (TooLong source) = Unit {0}
+IsOfFiles (Trace number kind) = Unit {0}
+IsOfFiles (Fails number found wanted) = Unit {0}
 
 -- over these files this is the first refusal of the steps: those before it are done, and it has its cause there
 abbrev pub IsFirstRefusal : Files → List Step → Refusal → Type 0
@@ -117,8 +126,8 @@ IsFirstRefusal files (step ∷ steps) refusal =
 abbrev pub Completes : Read → Files → ℕ → HostState → HostState → Type 0
 Completes read files status old new =
     (status ≡ 11)
-    ⊎ ((status ≡ status_of_made (made_of read.command read.given files))
-    × CommandEnds read (Ok (made_of read.command read.given files)) old new)
+    ⊎ ((made : Made) × IsMade read.command read.given files made × (status ≡ status_of_made made)
+    × CommandEnds read (Ok made) old new)
 
 -- what a run came to, as its end
 abbrev pub run_end : Result Outcome Refusal → Result Report Refusal
@@ -130,6 +139,7 @@ abbrev pub made_by : Product → Made
 made_by (product.Ran outcome) = Ran (outcome_report outcome)
 made_by (product.Assembled file) = Assembled file.items
 made_by (product.Listed text) = Listed text.items
+made_by (product.Held held) = Held held.code held.bits
 
 -- the same as its end
 abbrev pub end_of : Result Product Refusal → Result Made Refusal

@@ -1,5 +1,6 @@
 pub mod Asm
 pub mod Assembled
+pub mod Check
 pub mod Command
 pub mod Disasm
 pub mod Flat

@@ -2,8 +2,10 @@
 use Rattle.std.specs.Prelude.{ℕ, List}
 use Rattle.ascend_top.specs.FlatRun.{Report}
 
--- the report of a run, the file of an assembled text, or the printed lines of a program's statements
+-- the report of a run, the file of an assembled text, the printed lines of a program's statements, or the code and the
+-- bits of a trace that holds
 pub data Made : Type 0 where
   Ran : Report → Made
   Assembled : (file : List ℕ) → Made
   Listed : (text : List ℕ) → Made
+  Held : (code bits : ℕ) → Made

@@ -1,10 +1,10 @@
 -- The status of a command, by how it ends.
 use Rattle.std.specs.Prelude.{ℕ, Result, Ok, Err}
 use Rattle.rv32_core.specs.FlatRun.{FlatEnding, Exited, Trapped, Budget}
-use Rattle.ascend_top.specs.Made.{Made, Ran, Assembled, Listed}
+use Rattle.ascend_top.specs.Made.{Made, Ran, Assembled, Listed, Held}
 use Rattle.ascend_top.specs.declared.refusal.Refusal.{Refusal}
 use Rattle.ascend_top.specs.declared.refusal.Refusal.TheVariants.{Usage, OutOfRange, Elf, KeyLength, TooLong, Host}
-use Rattle.ascend_top.specs.declared.refusal.Refusal.TheVariants.{NoMemory, NumberOutOfRange, Assembler}
+use Rattle.ascend_top.specs.declared.refusal.Refusal.TheVariants.{NoMemory, NumberOutOfRange, Assembler, Trace, Fails}
 
 -- the status of a command whose run ended so
 abbrev pub status_of_ending : FlatEnding → ℕ
@@ -19,9 +19,11 @@ status_of_refusal (Elf fault) = 3
 status_of_refusal (OutOfRange setting) = 4
 status_of_refusal (NumberOutOfRange name) = 4
 status_of_refusal (Assembler number kind) = 4
+status_of_refusal (Trace number kind) = 4
 status_of_refusal (KeyLength length) = 4
 status_of_refusal Host = 5
 status_of_refusal NoMemory = 11
+status_of_refusal (Fails number found wanted) = 12
 status_of_refusal (TooLong source) = 13
 
 -- the status of a command that came to this
@@ -29,6 +31,7 @@ abbrev pub status_of_made : Made → ℕ
 status_of_made (Ran report) = status_of_ending report.ending
 status_of_made (Assembled file) = 0
 status_of_made (Listed text) = 0
+status_of_made (Held code bits) = 0
 
 -- the status of a command that ends so
 abbrev pub status_of : Result Made Refusal → ℕ

@@ -1,22 +1,29 @@
 -- The steps of commands. Each has the call that it asks of the host, what it takes to be done, and the refusals that it
 -- may end with, each with its cause.
-use Rattle.std.specs.Prelude.{◌≡◌, ◌⊎◌, ℕ, ◌≤◌, ◌<◌, ◌%◌, IsOk, Err, List, [], ◌∷◌, ◌++◌, length, Option, Some, IfSome, option_map}
+use Rattle.std.specs.Prelude.{◌≡◌, ◌⊎◌, ℕ, ◌≤◌, ◌<◌, ◌%◌, IsOk, Err, List, [], ◌∷◌, ◌++◌, length, Option, Some}
+use Rattle.std.specs.Prelude.{IfSome, option_map}
 use Rattle.asc_base.specs.Settings.{AreAllowed, IsFirstFault as IsFirstSetting}
 use Rattle.asc_base.specs.declared.settings.Settings.{Settings}
 use Rattle.asc_outside.specs.Host.{HostCall, Reads as ReadsFile, Writes as WritesFile, Prints as PrintsText}
 use Rattle.asc_outside.specs.Host.{HostState, Files, IsLonger, OthersStay}
 use Rattle.asc_outside.specs.Rose.{Rose}
 use Rattle.elf_loader.specs.Faults.{IsFaultless, IsFirstFault}
+use Rattle.bus_trace.specs.Grammar.{TraceText}
+use Rattle.bus_trace.specs.Reader.{IsFirstFault as IsFirstTraceFault}
+use Rattle.bus_trace.specs.Trace.{TraceLists}
+use Rattle.trace_checker.specs.Checker.{Says}
+use Rattle.trace_checker.specs.declared.verdict.Verdict.{Verdict}
+use Rattle.trace_checker.specs.declared.verdict.Verdict.TheVariants.{Holds, Fails as FailsAt}
 use Rattle.rv32_asm.specs.File.{assembled}
 use Rattle.rv32_asm.specs.declared.fault.AsmFault.TheVariants.{Bad}
 use Rattle.ascend_words.specs.declared.table.Name.{Name}
 use Rattle.ascend_words.specs.declared.table.Name.TheVariants.{At}
 use Rattle.ascend_top.specs.declared.refusal.Refusal.{Refusal}
 use Rattle.ascend_top.specs.declared.refusal.Refusal.TheVariants.{Usage, OutOfRange, Elf, KeyLength, TooLong, Host}
-use Rattle.ascend_top.specs.declared.refusal.Refusal.TheVariants.{NoMemory, NumberOutOfRange, Assembler}
+use Rattle.ascend_top.specs.declared.refusal.Refusal.TheVariants.{NoMemory, NumberOutOfRange, Assembler, Trace, Fails}
 use Rattle.ascend_top.specs.declared.refusal.Source.{Source}
 use Rattle.ascend_top.specs.declared.refusal.Source.TheVariants.{Key as KeyFile, Elf as ElfFile, Input as InputFile}
-use Rattle.ascend_top.specs.declared.refusal.Source.TheVariants.{Text as TextFile}
+use Rattle.ascend_top.specs.declared.refusal.Source.TheVariants.{Text as TextFile, Trace as TraceFile}
 
 -- the length of a key, in bytes
 abbrev pub key_length : ℕ
@@ -28,14 +35,22 @@ limit_of KeyFile = key_length
 limit_of ElfFile = 16777216
 limit_of InputFile = 1048576
 limit_of TextFile = 4194304
+limit_of TraceFile = 67108864
 
--- what the bytes of a file that is read have to be: anything, a key, an ELF file for a memory, or the text of a program
--- that begins at a place
+-- the bytes are a trace's text, of which a check says this
+pub record IsChecked (bytes : List ℕ) (verdict : Verdict) : Type 0 where
+  pub trace : TraceLists
+  pub is : TraceText bytes trace
+  pub says : Says trace verdict
+
+-- what the bytes of a file that is read have to be: anything, a key, an ELF file for a memory, the text of a program
+-- that begins at a place, or a trace that holds
 pub data Rule : Type 0 where
   Anything : Rule
   AKey : Rule
   AnElf : (base size : ℕ) → Rule
   AText : (at : ℕ) → Rule
+  ATrace : Rule
 
 -- bytes keep a rule
 abbrev pub Keeps : Rule → List ℕ → Type 0
@@ -43,12 +58,15 @@ Keeps Anything bytes = Unit {0}
 Keeps AKey bytes = length bytes ≡ key_length
 Keeps (AnElf base size) bytes = IsFaultless base size bytes
 Keeps (AText at) bytes = IsOk (assembled at bytes)
+Keeps ATrace bytes = (code : ℕ) × (bits : ℕ) × IsChecked bytes (Holds code bits)
 
 -- bytes break a rule, and this refusal says how
 abbrev pub Breaks : Rule → List ℕ → Refusal → Type 0
 Breaks AKey bytes (KeyLength count) = (length bytes ≡ count) × (count < key_length)
 Breaks (AnElf base size) bytes (Elf fault) = IsFirstFault base size bytes fault
 Breaks (AText at) bytes (Assembler number kind) = assembled at bytes ≡ Err (Bad number kind)
+Breaks ATrace bytes (Trace number kind) = IsFirstTraceFault bytes number kind
+Breaks ATrace bytes (Fails number found wanted) = IsChecked bytes (FailsAt number found wanted)
 Breaks rule bytes refusal = ⊥
 
 -- the numbers that a name may be given: a place is a multiple of four below 4,294,901,760
@@ -109,6 +127,9 @@ IsReadCause files source name rule (TooLong other) = (other ≡ source) × IsLon
 IsReadCause files source name rule (KeyLength count) = IsWrong files source name rule (KeyLength count)
 IsReadCause files source name rule (Elf fault) = IsWrong files source name rule (Elf fault)
 IsReadCause files source name rule (Assembler number kind) = IsWrong files source name rule (Assembler number kind)
+IsReadCause files source name rule (Trace number kind) = IsWrong files source name rule (Trace number kind)
+IsReadCause files source name rule (Fails number found wanted) =
+    IsWrong files source name rule (Fails number found wanted)
 IsReadCause files source name rule Host = Unit {0}
 IsReadCause files source name rule NoMemory = Unit {0}
 IsReadCause files source name rule (Usage word) = ⊥

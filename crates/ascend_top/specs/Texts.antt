@@ -17,16 +17,18 @@ use Rattle.rv32_core.specs.declared.outcome.TrapKind.TheVariants.{StoreFault, Br
 use Rattle.rv32_core.specs.FlatRun.{FlatEnding, Exited, Trapped, Budget}
 use Rattle.rv32_asm.specs.declared.fault.AsmKind.{AsmKind}
 use Rattle.rv32_asm.specs.declared.fault.AsmKind.TheVariants as asm_kind
+use Rattle.bus_trace.specs.declared.fault.TraceKind.{TraceKind}
+use Rattle.bus_trace.specs.declared.fault.TraceKind.TheVariants.{Form, Range, Cut, Extra}
 use Rattle.ascend_words.specs.Tables.{name_text}
 use Rattle.ascend_words.specs.declared.table.Name.{Name}
-use Rattle.ascend_words.specs.declared.table.Name.TheVariants.{Key, Elf as ElfName, Input, Text}
+use Rattle.ascend_words.specs.declared.table.Name.TheVariants.{Key, Elf as ElfName, Input, Text, Trace as TraceName}
 use Rattle.ascend_top.specs.FlatRun.{Report}
 use Rattle.ascend_top.specs.declared.refusal.Refusal.{Refusal}
 use Rattle.ascend_top.specs.declared.refusal.Refusal.TheVariants.{Usage, OutOfRange, Elf, KeyLength, TooLong, Host}
-use Rattle.ascend_top.specs.declared.refusal.Refusal.TheVariants.{NoMemory, NumberOutOfRange, Assembler}
+use Rattle.ascend_top.specs.declared.refusal.Refusal.TheVariants.{NoMemory, NumberOutOfRange, Assembler, Trace, Fails}
 use Rattle.ascend_top.specs.declared.refusal.Source.{Source}
 use Rattle.ascend_top.specs.declared.refusal.Source.TheVariants.{Key as KeyFile, Elf as ElfFile, Input as InputFile}
-use Rattle.ascend_top.specs.declared.refusal.Source.TheVariants.{Text as TextFile}
+use Rattle.ascend_top.specs.declared.refusal.Source.TheVariants.{Text as TextFile, Trace as TraceFile}
 
 -- a line with this text
 abbrev pub line : List ℕ → List ℕ
@@ -104,12 +106,33 @@ asm_kind_text asm_kind.Range = codes "Range"
 abbrev pub asm_line : ℕ → AsmKind → List ℕ
 asm_line number kind = codes "asm line " ++ (decimal number ++ (codes " " ++ line (asm_kind_text kind)))
 
+-- what is wrong with a line of a trace, as it is printed
+abbrev pub trace_kind_text : TraceKind → List ℕ
+trace_kind_text Form = codes "Form"
+trace_kind_text Range = codes "Range"
+trace_kind_text Cut = codes "Cut"
+trace_kind_text Extra = codes "Extra"
+
+-- what is printed of a text that is no trace's, and of a trace that fails
+abbrev pub trace_text : ℕ → TraceKind → List ℕ
+trace_text number kind = line (codes "trace line " ++ decimal number ++ codes " " ++ trace_kind_text kind)
+
+abbrev pub fails_text : ℕ → ℕ → ℕ → List ℕ
+fails_text number found wanted =
+    line (codes "fails line " ++ decimal number ++ codes " found " ++ decimal found ++ codes " wanted "
+    ++ decimal wanted)
+
+-- what is printed of a trace that holds
+abbrev pub held_text : ℕ → ℕ → List ℕ
+held_text code bits = line (codes "holds code " ++ decimal code ++ codes " bits " ++ decimal bits)
+
 -- the name that a file that is read is given by
 abbrev pub name_of : Source → Name
 name_of KeyFile = Key
 name_of ElfFile = ElfName
 name_of InputFile = Input
 name_of TextFile = Text
+name_of TraceFile = TraceName
 
 -- what is printed of a refusal, if anything is
 abbrev pub refusal_text : Refusal → Option (List ℕ)
@@ -117,6 +140,8 @@ refusal_text (Usage word) = Some (line (codes "usage word " ++ decimal word))
 refusal_text (OutOfRange setting) = Some (line (codes "setting " ++ setting_text setting))
 refusal_text (NumberOutOfRange name) = Some (line (codes "setting " ++ name_text name))
 refusal_text (Assembler number kind) = Some (asm_line number kind)
+refusal_text (Trace number kind) = Some (trace_text number kind)
+refusal_text (Fails number found wanted) = Some (fails_text number found wanted)
 refusal_text (Elf fault) = Some (line (codes "elf " ++ fault_text fault))
 refusal_text (KeyLength length) = Some (line (codes "key length " ++ decimal length))
 refusal_text (TooLong source) = Some (line (codes "long " ++ name_text (name_of source)))

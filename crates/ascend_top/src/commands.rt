@@ -2,14 +2,16 @@
 ghost use Rattle.std.specs.Prelude.{◌≡◌};
 ghost use Rattle.ascend_top.specs.Command.{bytes_end, end_of, lifted, made_by, run_end};
 ghost use Rattle.ascend_top.specs.FlatRun.{file_in};
-ghost use Rattle.ascend_top.specs.Made.{Ran, Assembled, Listed};
+ghost use Rattle.ascend_top.specs.Made.{Ran, Assembled, Listed, Held as MadeHeld};
 ghost use Rattle.ascend_top.specs.Status.{status_of_made};
 
 pub(crate) mod asm;
+pub(crate) mod check;
 pub(crate) mod disasm;
 pub(crate) mod flat;
 pub(crate) mod run;
 
+use crate::commands::check::Held;
 use crate::commands::flat::Outcome;
 use crate::refusal::Refusal;
 use ascend_words::{Name, Words};
@@ -23,6 +25,8 @@ pub(crate) enum Product {
     Assembled(Vec<u8>),
     /// The lines of a program's statements.
     Listed(Vec<u8>),
+    /// What a check says of a trace that holds.
+    Held(Held),
 }
 
 impl Product {
@@ -32,7 +36,7 @@ impl Product {
     {
         match self {
             Product::Ran(outcome) => outcome.ending.status(),
-            Product::Assembled(_) | Product::Listed(_) => 0,
+            Product::Assembled(_) | Product::Listed(_) | Product::Held(_) => 0,
         }
     }
 }
@@ -63,6 +67,16 @@ pub(crate) fn listed(end: Result<Vec<u8>, Refusal>) -> Result<Product, Refusal>
 {
     match end {
         Ok(text) => Ok(Product::Listed(text)),
+        Err(refusal) => Err(refusal),
+    }
+}
+
+/// The end of a check as a command's.
+pub(crate) fn held(end: Result<Held, Refusal>) -> Result<Product, Refusal>
+    ensures { end_of result ≡ lifted (λ held. MadeHeld held.code held.bits) end }
+{
+    match end {
+        Ok(held) => Ok(Product::Held(held)),
         Err(refusal) => Err(refusal),
     }
 }

@@ -1,7 +1,7 @@
 //! The commands of `ascend`, over any host.
 //!
-//! A command is a list of steps: numbers are judged, files are read, a program is run, assembled or listed, files are
-//! written, a text is printed. The first refusal ends it, and its text is printed.
+//! A command is a list of steps: numbers are judged, files are read, a program is run, assembled or listed, or a trace
+//! is checked, files are written, a text is printed. The first refusal ends it, and its text is printed.
 #![tactic(auto)]
 
 mod commands;
@@ -23,7 +23,7 @@ ghost use Rattle.ascend_top.specs.Status.{status_of, status_of_refusal};
 ghost use Rattle.ascend_top.specs.declared.refusal.Refusal.{Refusal as WhyRefused};
 ghost use Rattle.ascend_top.specs.declared.refusal.Refusal.TheVariants.{Usage};
 
-use crate::commands::{Product, asm, assembled, disasm, flat, listed, ran, run};
+use crate::commands::{Product, asm, assembled, check, disasm, flat, held, listed, ran, run};
 use crate::refusal::Refusal;
 use asc_outside::{Host, HostFault};
 use ascend_words::{Command, WordFault, Words, read_words};
@@ -36,13 +36,14 @@ use std::alloc::Global;
 /// | Status | Comes where |
 /// |---|---|
 /// | 0, 1, 9 | the run ended by exit, by a trap, with its budget; its output was written and its report printed |
-/// | 0 | the text was assembled and its file written; the program's statements were printed |
+/// | 0 | the text was assembled and its file written; the program's statements were printed; the trace holds |
 /// | 2 | the words break a rule, or a required one is missing |
 /// | 3 | the ELF file has a fault, the first of which is printed |
-/// | 4 | a setting isn't in its range, the key file has fewer than 32 bytes, or the text has a fault |
+/// | 4 | a setting isn't in its range, the key file has fewer than 32 bytes, the text has a fault, or is no trace's |
 /// | 5 | a call of the host failed |
 /// | 11 | there is no memory |
-/// | 13 | a file has more bytes than its limit: ELF file 16,777,216, text 4,194,304, input 1,048,576, key file 32 |
+/// | 12 | no choices of rates make the slots of the trace |
+/// | 13 | a file is too long, in bytes: trace 67,108,864, ELF 16,777,216, text 4,194,304, input 1,048,576, key 32 |
 ///
 /// The text of a refusal is printed, but for statuses 5 and 11. With these two, as with 0, 1 and 9, the output file is
 /// the run's whole output wherever its write was asked and isn't the call that failed: so where only the print of the
@@ -90,6 +91,7 @@ fn take_steps<H: Host>(alloc: Global, words: &Words, host: &mut H) -> Result<Pro
         Command::Flat => ran(flat::flat(alloc, words, host)),
         Command::Asm => assembled(asm::asm(alloc, words, host)),
         Command::Disasm => listed(disasm::disasm(alloc, words, host)),
+        Command::Check => held(check::check(alloc, words, host)),
     }
 }
 

@@ -6,6 +6,7 @@ ghost use Rattle.ascend_top.specs.Texts.{name_of};
 use crate::status;
 use asc_base::Setting;
 use ascend_words::Name;
+use bus_trace::TraceKind;
 use elf_loader::ElfFault;
 use rv32_asm::AsmKind;
 
@@ -23,6 +24,8 @@ pub(crate) enum Source {
     Input,
     /// The text that is assembled.
     Text,
+    /// The file of a trace.
+    Trace,
 }
 
 impl Source {
@@ -35,6 +38,7 @@ impl Source {
             Source::Elf => 16_777_216,
             Source::Input => 1_048_576,
             Source::Text => 4_194_304,
+            Source::Trace => 67_108_864,
         }
     }
 
@@ -47,6 +51,7 @@ impl Source {
             Source::Elf => Name::Elf,
             Source::Input => Name::Input,
             Source::Text => Name::Text,
+            Source::Trace => Name::Trace,
         }
     }
 }
@@ -68,6 +73,11 @@ pub(crate) enum Refusal {
     KeyLength { length: usize },
     /// The file has more bytes than its limit.
     TooLong(Source),
+    /// The file is no trace's text: the number of its first line at fault, counted from 1, and what is wrong with it.
+    Trace { line: u64, kind: TraceKind },
+    /// No choices of rates make the slots of the trace: the number of its first line that none allows, what stands
+    /// there, and what should.
+    Fails { line: u64, found: u64, wanted: u64 },
     /// A call of the host failed.
     Host,
     /// There is no memory.
@@ -85,9 +95,11 @@ impl Refusal {
             Refusal::OutOfRange(_)
             | Refusal::NumberOutOfRange(_)
             | Refusal::Assembler { .. }
-            | Refusal::KeyLength { .. } => 4,
+            | Refusal::KeyLength { .. }
+            | Refusal::Trace { .. } => 4,
             Refusal::Host => status::HOST_FAILED,
             Refusal::NoMemory => status::NO_MEMORY,
+            Refusal::Fails { .. } => 12,
             Refusal::TooLong(_) => 13,
         }
     }

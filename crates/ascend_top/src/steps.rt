@@ -9,18 +9,23 @@ ghost use Rattle.elf_loader.specs.Memory.{IsImage};
 ghost use Rattle.ascend_top.specs.Asm.{file_of_text};
 ghost use Rattle.ascend_top.specs.FlatRun.{bytes_in};
 ghost use Rattle.ascend_top.specs.Parts.{IsImageOf, WasRead, IsConfigOf, unread, unwritten};
-ghost use Rattle.ascend_top.specs.Steps.{AKey, AnElf, AText, Anything, Judges, JudgesNumber, Reads, Writes, Prints, Rule, Does, Refuses};
+ghost use Rattle.ascend_top.specs.Steps.{AKey, AnElf, AText, ATrace, Anything, IsChecked, Judges, JudgesNumber, Reads};
+ghost use Rattle.ascend_top.specs.Steps.{Writes, Prints, Rule, Does, Refuses};
 ghost use Rattle.ascend_top.specs.declared.refusal.Source.TheVariants.{Key as KeyFile, Elf as ElfFile};
-ghost use Rattle.ascend_top.specs.declared.refusal.Source.TheVariants.{Text as TextFile};
+ghost use Rattle.ascend_top.specs.declared.refusal.Source.TheVariants.{Text as TextFile, Trace as TraceFile};
+ghost use Rattle.trace_checker.specs.declared.verdict.Verdict.TheVariants.{Holds};
 ghost use Rattle.ascend_words.specs.declared.table.Name.TheVariants.{At as AtName};
 
+use crate::commands::check::Held;
 use crate::refusal::{KEY_LENGTH, Refusal, Source};
 use asc_base::{Config, Settings};
 use asc_outside::{Host, HostFault};
 use ascend_words::Name;
+use bus_trace::TraceFault;
 use elf_loader::{ElfFault, Image};
 use rv32_asm::{AsmFault, assemble};
 use std::alloc::Global;
+use trace_checker::Verdict;
 
 /// Judges the settings.
 pub(crate) fn judge(settings: &Settings) -> Result<Config, Refusal>
@@ -181,6 +186,37 @@ pub(crate) fn read_text<H: Host>(
         Ok(file) => Ok(file),
         Err(AsmFault::NoMemory) => Err(Refusal::NoMemory),
         Err(AsmFault::Bad { line, kind }) => Err(Refusal::Assembler { line, kind }),
+    }
+}
+
+/// Reads the file of a trace, and checks the trace.
+pub(crate) fn read_trace<H: Host>(alloc: Global, name: &str, host: &mut H) -> Result<Held, Refusal>
+    ensures held { IfOk result (λ held. (files : Files) → (H.state host.new).files ≡ Some files
+        → IsChecked (bytes_in files name.now) (Holds held.code held.bits)) }
+    ensures read { OnOk result (Does (Reads TraceFile name.now ATrace) (H.state host.old) (H.state host.new)) }
+    ensures refused { IfErr result (λ refusal.
+        Refuses (Reads TraceFile name.now ATrace) refusal (H.state host.old) (H.state host.new)) }
+{
+    let file = match read_file(alloc, Source::Trace, name, host) {
+        Ok(file) => file,
+        Err(refusal) => return Err(refusal),
+    };
+    let trace = match bus_trace::read(alloc, file.as_slice()) {
+        Ok(trace) => trace,
+        Err(TraceFault::Bad { line, kind }) => return Err(Refusal::Trace { line, kind }),
+        Err(TraceFault::NoMemory) => return Err(Refusal::NoMemory),
+    };
+    match trace_checker::check(&trace) {
+        Verdict::Holds { code, bits } => Ok(Held { code, bits }),
+        Verdict::Fails {
+            line,
+            found,
+            wanted,
+        } => Err(Refusal::Fails {
+            line,
+            found,
+            wanted,
+        }),
     }
 }
 

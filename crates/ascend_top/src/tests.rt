@@ -1,4 +1,5 @@
 mod assembling;
+mod checking;
 
 use super::*;
 use asc_outside::{Host, HostFault, MemHost};

@@ -1,7 +1,9 @@
 //! The texts that commands print.
 
+mod held;
 mod refusal;
 mod report;
 
+pub(crate) use held::held_text;
 pub(crate) use refusal::refusal_text;
 pub(crate) use report::report_text;

@@ -17,9 +17,10 @@ use Rattle.ascend_words.specs.Reading.{pair_of, pairs, IsMisfit}
 use Rattle.ascend_words.specs.Tables.{commanded, command_text, commands, is_same, name_text, named, names}
 use Rattle.ascend_words.specs.declared.given.Given.{Given}
 use Rattle.ascend_words.specs.declared.table.Command.{Command}
-use Rattle.ascend_words.specs.declared.table.Command.TheVariants.{Run, Flat, Asm, Disasm}
+use Rattle.ascend_words.specs.declared.table.Command.TheVariants.{Run, Flat, Asm, Disasm, Check}
 use Rattle.ascend_words.specs.declared.table.Name.{Name}
-use Rattle.ascend_words.specs.declared.table.Name.TheVariants.{Elf, Key, Output, Input, Text, At, Size, Base, Budget}
+use Rattle.ascend_words.specs.declared.table.Name.TheVariants.{Elf, Key, Output, Input, Text, Trace, At, Size, Base}
+use Rattle.ascend_words.specs.declared.table.Name.TheVariants.{Budget}
 use Rattle.ascend_words.proofs.NumberLaws.{both_true}
 
 -- The laws of the tables, each with one case for each row.
@@ -29,6 +30,7 @@ commanded-text Run = refl
 commanded-text Flat = refl
 commanded-text Asm = refl
 commanded-text Disasm = refl
+commanded-text Check = refl
 
 pub named-text : (name : Name) → named (name_text name) ≡ Some name
 named-text Elf = refl
@@ -36,6 +38,7 @@ named-text Key = refl
 named-text Output = refl
 named-text Input = refl
 named-text Text = refl
+named-text Trace = refl
 named-text At = refl
 named-text Size = refl
 named-text Base = refl
@@ -51,6 +54,7 @@ name_lacks Key = refl
 name_lacks Output = refl
 name_lacks Input = refl
 name_lacks Text = refl
+name_lacks Trace = refl
 name_lacks At = refl
 name_lacks Size = refl
 name_lacks Base = refl

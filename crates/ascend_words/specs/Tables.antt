@@ -4,37 +4,41 @@ use Rattle.std.specs.Prelude.{ℕ, List, [], ◌∷◌, codes, Bool, ◌||◌, O
 use Rattle.std.specs.List.{find, list_any}
 use Rattle.std.specs.Str.{bytes_eq}
 use Rattle.ascend_words.specs.declared.table.Command.{Command}
-use Rattle.ascend_words.specs.declared.table.Command.TheVariants.{Run, Flat, Asm, Disasm}
+use Rattle.ascend_words.specs.declared.table.Command.TheVariants.{Run, Flat, Asm, Disasm, Check}
 use Rattle.ascend_words.specs.declared.table.Kind.{Kind}
 use Rattle.ascend_words.specs.declared.table.Kind.TheVariants.{File, Number}
 use Rattle.ascend_words.specs.declared.table.Name.{Name}
-use Rattle.ascend_words.specs.declared.table.Name.TheVariants.{Elf, Key, Output, Input, Text, At, Size, Base, Budget}
+use Rattle.ascend_words.specs.declared.table.Name.TheVariants.{Elf, Key, Output, Input, Text, Trace, At, Size, Base}
+use Rattle.ascend_words.specs.declared.table.Name.TheVariants.{Budget}
 
 -- the commands
 abbrev pub commands : List Command
-commands = Run ∷ Flat ∷ Asm ∷ Disasm ∷ []
+commands = Run ∷ Flat ∷ Asm ∷ Disasm ∷ Check ∷ []
 
 abbrev pub command_text : Command → List ℕ
 command_text Run = codes "run"
 command_text Flat = codes "flat"
 command_text Asm = codes "asm"
 command_text Disasm = codes "disasm"
+command_text Check = codes "check"
 
 abbrev pub required : Command → List Name
 required Run = Elf ∷ Key ∷ Output ∷ []
 required Flat = Elf ∷ Output ∷ []
 required Asm = Text ∷ Elf ∷ []
 required Disasm = Elf ∷ []
+required Check = Trace ∷ []
 
 abbrev pub optional : Command → List Name
 optional Run = Input ∷ Size ∷ Base ∷ Budget ∷ []
 optional Flat = Input ∷ Size ∷ Base ∷ Budget ∷ []
 optional Asm = At ∷ []
 optional Disasm = Size ∷ Base ∷ []
+optional Check = []
 
 -- the names
 abbrev pub names : List Name
-names = Elf ∷ Key ∷ Output ∷ Input ∷ Text ∷ At ∷ Size ∷ Base ∷ Budget ∷ []
+names = Elf ∷ Key ∷ Output ∷ Input ∷ Text ∷ Trace ∷ At ∷ Size ∷ Base ∷ Budget ∷ []
 
 abbrev pub name_text : Name → List ℕ
 name_text Elf = codes "elf"
@@ -42,6 +46,7 @@ name_text Key = codes "key"
 name_text Output = codes "output"
 name_text Input = codes "input"
 name_text Text = codes "text"
+name_text Trace = codes "trace"
 name_text At = codes "at"
 name_text Size = codes "size"
 name_text Base = codes "base"
@@ -53,6 +58,7 @@ kind_of Key = File
 kind_of Output = File
 kind_of Input = File
 kind_of Text = File
+kind_of Trace = File
 kind_of At = Number
 kind_of Size = Number
 kind_of Base = Number

@@ -15,6 +15,8 @@ pub enum Command {
     Asm,
     /// Prints the statements of a program.
     Disasm,
+    /// Checks a trace.
+    Check,
 }
 
 /// The name of a word.
@@ -30,6 +32,8 @@ pub enum Name {
     Input,
     /// The text that is assembled.
     Text,
+    /// The file of a trace.
+    Trace,
     /// Where the assembled program begins.
     At,
     /// The bytes of memory.
@@ -50,15 +54,22 @@ pub(crate) enum Kind {
 }
 
 /// Every command.
-const COMMANDS: [Command; 4] = [Command::Run, Command::Flat, Command::Asm, Command::Disasm];
+const COMMANDS: [Command; 5] = [
+    Command::Run,
+    Command::Flat,
+    Command::Asm,
+    Command::Disasm,
+    Command::Check,
+];
 
 /// Every name.
-const NAMES: [Name; 9] = [
+const NAMES: [Name; 10] = [
     Name::Elf,
     Name::Key,
     Name::Output,
     Name::Input,
     Name::Text,
+    Name::Trace,
     Name::At,
     Name::Size,
     Name::Base,
@@ -75,6 +86,7 @@ impl Command {
             Command::Flat => "flat",
             Command::Asm => "asm",
             Command::Disasm => "disasm",
+            Command::Check => "check",
         }
     }
 
@@ -93,6 +105,7 @@ impl Command {
             Command::Flat => &[Name::Elf, Name::Output],
             Command::Asm => &[Name::Text, Name::Elf],
             Command::Disasm => &[Name::Elf],
+            Command::Check => &[Name::Trace],
         }
     }
 
@@ -105,6 +118,7 @@ impl Command {
             Command::Flat => &[Name::Input, Name::Size, Name::Base, Name::Budget],
             Command::Asm => &[Name::At],
             Command::Disasm => &[Name::Size, Name::Base],
+            Command::Check => &[],
         }
     }
 
@@ -134,6 +148,7 @@ impl Name {
             Name::Output => "output",
             Name::Input => "input",
             Name::Text => "text",
+            Name::Trace => "trace",
             Name::At => "at",
             Name::Size => "size",
             Name::Base => "base",
@@ -152,7 +167,9 @@ impl Name {
         ensures { result ≡ kind_of self }
     {
         match self {
-            Name::Elf | Name::Key | Name::Output | Name::Input | Name::Text => Kind::File,
+            Name::Elf | Name::Key | Name::Output | Name::Input | Name::Text | Name::Trace => {
+                Kind::File
+            }
             Name::At | Name::Size | Name::Base | Name::Budget => Kind::Number,
         }
     }

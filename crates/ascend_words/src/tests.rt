@@ -20,13 +20,13 @@ const READ: [(&str, Command, &str); 9] = [
 ];
 
 /// Words that are wrong: the line, and the number of the first word that breaks a rule.
-const REFUSED: [(&str, u64); 35] = [
+const REFUSED: [(&str, u64); 37] = [
     ("", 1),
     ("run", 2),
     ("flat", 2),
     ("walk elf=a key=k output=o", 1),
     ("Run elf=a key=k output=o", 1),
-    ("check trace=t", 1),
+    ("check", 2),
     ("elf=a key=k output=o", 1),
     ("run elf=a elf=b", 3),
     ("run elf=a elf=a key=k output=o", 3),
@@ -56,6 +56,8 @@ const REFUSED: [(&str, u64); 35] = [
     ("asm text=t elf=a at=0x10", 4),
     ("asm text=t elf=a size=4096", 4),
     ("disasm elf=a output=o", 3),
+    ("check trace=t elf=a", 3),
+    ("check elf=a", 2),
 ];
 
 fn words_of(alloc: Global, line: &str) -> Result<Vec<String>, AllocError> {
@@ -113,5 +115,7 @@ fn settings_are_the_given_ones_and_else_the_defaults(rt: HostRuntime) -> Result<
     assert!(rt; words.text(Name::Text) == Some("t") && words.text(Name::At).is_none());
     let words = read_line(rt.alloc(), "disasm elf=a base=4096")?;
     assert!(rt; words.command() == Command::Disasm && words.settings().base == 4_096);
+    let words = read_line(rt.alloc(), "check trace=t")?;
+    assert!(rt; words.command() == Command::Check && words.text(Name::Trace) == Some("t"));
     Ok(())
 }

@@ -40,7 +40,8 @@ fn assembled<H: Host>(alloc: Global, words: &Words, host: &mut H) -> Result<Vec<
 
 /// The command `asm`, up to the first refusal: the file that was written.
 pub(crate) fn asm<H: Host>(alloc: Global, words: &Words, host: &mut H) -> Result<Vec<u8>, Refusal>
-    ensures { StepsEnd (asm_steps words.now.given) (write_steps words.now.given) (asm_file words.now.given)
+    ensures { StepsEnd (asm_steps words.now.given) (write_steps words.now.given)
+        (λ files file. file ≡ asm_file words.now.given files)
         (bytes_end (λ file. file.items) result) (H.state host.old) (H.state host.new) }
 {
     let file = match assembled(alloc, words, host) {

@@ -41,7 +41,8 @@ pub(crate) fn disasm<H: Host>(
     words: &Words,
     host: &mut H,
 ) -> Result<Vec<u8>, Refusal>
-    ensures { StepsEnd (disasm_steps words.now.given) print_steps (disasm_listing words.now.given)
+    ensures { StepsEnd (disasm_steps words.now.given) print_steps
+        (λ files text. text ≡ disasm_listing words.now.given files)
         (bytes_end (λ text. text.items) result) (H.state host.old) (H.state host.new) }
 {
     let file = match read(alloc, words, host) {

@@ -197,8 +197,9 @@ fn prepare<H: Host>(alloc: Global, words: &Words, host: &mut H) -> Result<Progra
 
 /// The command `flat`, up to the first refusal.
 pub(crate) fn flat<H: Host>(alloc: Global, words: &Words, host: &mut H) -> Result<Outcome, Refusal>
-    ensures { StepsEnd (flat_steps words.now.given) (report_steps words.now.given) (flat_report words.now.given)
-        (run_end result) (H.state host.old) (H.state host.new) }
+    ensures { StepsEnd (flat_steps words.now.given) (report_steps words.now.given)
+        (λ files report. report ≡ flat_report words.now.given files) (run_end result)
+        (H.state host.old) (H.state host.new) }
 {
     match prepare(alloc, words, host) {
         Ok(program) => run_and_report(alloc, words, &program, host),

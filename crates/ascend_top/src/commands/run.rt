@@ -39,8 +39,9 @@ fn prepare<H: Host>(alloc: Global, words: &Words, host: &mut H) -> Result<Progra
 
 /// The command `run`, up to the first refusal.
 pub(crate) fn run<H: Host>(alloc: Global, words: &Words, host: &mut H) -> Result<Outcome, Refusal>
-    ensures { StepsEnd (run_steps words.now.given) (report_steps words.now.given) (flat_report words.now.given)
-        (run_end result) (H.state host.old) (H.state host.new) }
+    ensures { StepsEnd (run_steps words.now.given) (report_steps words.now.given)
+        (λ files report. report ≡ flat_report words.now.given files) (run_end result)
+        (H.state host.old) (H.state host.new) }
 {
     match prepare(alloc, words, host) {
         Ok(program) => flat::run_and_report(alloc, words, &program, host),

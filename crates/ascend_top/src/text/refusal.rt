@@ -1,8 +1,10 @@
 ghost use Rattle.std.specs.Prelude.{◌≡◌, ◌++◌, ◌∷◌, [], IfOk, OnErr, IsSome, codes, string_bytes, option_map};
-ghost use Rattle.ascend_top.specs.Texts.{asm_kind_text, asm_line, fault_text, refusal_text, setting_text};
+ghost use Rattle.ascend_top.specs.Texts.{asm_kind_text, asm_line, fails_text, fault_text, refusal_text};
+ghost use Rattle.ascend_top.specs.Texts.{setting_text, trace_kind_text, trace_text};
 
 use crate::refusal::Refusal;
 use asc_base::Setting;
+use bus_trace::TraceKind;
 use elf_loader::ElfFault;
 use rv32_asm::AsmKind;
 use std::alloc::{AllocError, Global};
@@ -76,6 +78,33 @@ fn asm_line(alloc: Global, line: u32, kind: AsmKind) -> Result<String, AllocErro
     format!(in alloc; "asm line {line} {kind}\n")
 }
 
+/// What is wrong with a line of a text that is no trace's.
+fn trace_kind_name(kind: TraceKind) -> &'static str
+    ensures { result.now ≡ trace_kind_text kind }
+{
+    match kind {
+        TraceKind::Form => "Form",
+        TraceKind::Range => "Range",
+        TraceKind::Cut => "Cut",
+        TraceKind::Extra => "Extra",
+    }
+}
+
+/// The line of a text that is no trace's.
+fn trace_line(alloc: Global, line: u64, kind: TraceKind) -> Result<String, AllocError>
+    ensures { IfOk result (λ text. string_bytes text ≡ trace_text line kind) }
+{
+    let name = trace_kind_name(kind);
+    format!(in alloc; "trace line {line} {name}\n")
+}
+
+/// The line of a trace that fails.
+fn fails_line(alloc: Global, line: u64, found: u64, wanted: u64) -> Result<String, AllocError>
+    ensures { IfOk result (λ text. string_bytes text ≡ fails_text line found wanted) }
+{
+    format!(in alloc; "fails line {line} found {found} wanted {wanted}\n")
+}
+
 /// The text of a refusal: None where none is printed.
 pub(crate) fn refusal_text(alloc: Global, refusal: &Refusal) -> Result<Option<String>, AllocError>
     ensures text { IfOk result (λ text. option_map string_bytes text ≡ refusal_text refusal.now) }
@@ -92,6 +121,12 @@ pub(crate) fn refusal_text(alloc: Global, refusal: &Refusal) -> Result<Option<St
             format!(in alloc; "setting {name}\n")?
         }
         Refusal::Assembler { line, kind } => asm_line(alloc, *line, *kind)?,
+        Refusal::Trace { line, kind } => trace_line(alloc, *line, *kind)?,
+        Refusal::Fails {
+            line,
+            found,
+            wanted,
+        } => fails_line(alloc, *line, *found, *wanted)?,
         Refusal::Elf(fault) => fault_line(alloc, fault)?,
         Refusal::KeyLength { length } => format!(in alloc; "key length {length}\n")?,
         Refusal::TooLong(source) => {
