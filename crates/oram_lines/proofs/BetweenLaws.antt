@@ -1,5 +1,5 @@
 -- What is known over the steps between two slots: an append, an answer, and a block that comes to be held.
-use Rattle.std.proofs.Common.{◌≡◌, inl, inr, ℕ, List, [], ◌∷◌, Option, None, Some, length}
+use Rattle.std.proofs.Common.{◌≡◌, ◌≤◌, inl, inr, ℕ, List, [], ◌∷◌, Option, None, Some, length}
 use Rattle.std.proofs.Common.{count_by, refl, sym, ap, ◌∙◌, subst, arith, append-nil}
 use Rattle.asc_base.proofs.Lookups.{count_by-cons}
 use Rattle.asc_base.specs.Has.{Has}
@@ -20,6 +20,9 @@ use Rattle.oram_contents.specs.Steps.{Adds, landed, inserted}
 use Rattle.oram_contents.specs.Verdict.{append_verdict}
 use Rattle.oram_contents.proofs.Access.{put_sound, put_always, always_adds}
 use Rattle.oram_contents.proofs.Passes.{insert_sound}
+use Rattle.oram_contents.proofs.HomeSteps.{home_put, home_insert}
+use Rattle.oram_contents.specs.Fold.{tagged_entry}
+use Rattle.oram_contents.specs.Home.{Home}
 use Rattle.oram_contents.proofs.Steps.{sound_log, came_more}
 use Rattle.oram_stash.proofs.Held.{held-none}
 use Rattle.oram_stash.specs.Entries.{held}
@@ -65,6 +68,9 @@ module _ (keys : Keys) (lawful : AreKeys keys) where
         omega (arith, is, both, none, known.drawn, ap (λ c. c.dummies) x.clock, ap (λ c. c.real) x.clock);
     points = subst DrawnOnce (sym x.events) (once_silent old.tap.log.events (Tagged m ∷ []) known.points
         (silent_by (Tagged m ∷ []) (count_by-cons draws (Tagged m) [])));
+    home = λ none. subst (λ c. Home keys (landed g) c) (sym x.contents_are)
+        (home_put keys g (contents old) m.address.0 (tagged_entry keys m) refl flying
+        (known.home (sym x.altered ∙ none)));
     bytes = known.bytes;
   }
     where
@@ -102,6 +108,7 @@ module _ (keys : Keys) (lawful : AreKeys keys) where
         omega (arith, is, both, none, known.drawn, ap (λ c. c.dummies) x.clock, ap (λ c. c.real) x.clock);
     points = subst DrawnOnce (sym x.events) (once_silent old.tap.log.events (Answered line value ∷ []) known.points
         (silent_by (Answered line value ∷ []) (count_by-cons draws (Answered line value) [])));
+    home = λ none. subst (λ c. Home keys g c) (sym x.contents_are) (known.home (sym x.altered ∙ none));
     bytes = known.bytes;
   }
     where
@@ -110,8 +117,8 @@ module _ (keys : Keys) (lawful : AreKeys keys) where
 
   -- the block in flight is held from now on
   pub insert_known : (g : Ghost) (s : PortState) (plb a : ℕ) → IsKnown keys g s → g.flight ≡ Some a
-      → IsKnown keys (inserted g plb a) s
-  insert_known g s plb a known flying = record {
+      → length g.held ≤ plb → IsKnown keys (inserted g plb a) s
+  insert_known g s plb a known flying few = record {
     fits = known.fits;
     sound = insert_sound keys lawful s.tap.log g (contents s) plb a flying known.sound;
     always = known.always;
@@ -119,6 +126,7 @@ module _ (keys : Keys) (lawful : AreKeys keys) where
     dummies = known.dummies;
     drawn = known.drawn;
     points = known.points;
+    home = λ none. home_insert keys g (contents s) plb a flying few (known.home none);
     bytes = known.bytes;
   }
 

@@ -70,7 +70,7 @@ module _ (keys : Keys) (lawful : AreKeys keys) (levels : ℕ) where
         (family, family_is)
 
     known : IsKnown keys h s
-    known = insert_known keys lawful g s front.plb a.0 st.known flight
+    known = insert_known keys lawful g s front.plb a.0 st.known flight st.shown.groups.few
 
     start : (rest : List ℕ) × (h.held ≡ a.0 ∷ rest)
     start = first_taken front.plb a.0 g.held st.shown.front_is.whole.some

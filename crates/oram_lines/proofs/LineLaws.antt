@@ -16,9 +16,11 @@ use Rattle.oram_contents.specs.Groups.{AreSmall}
 use Rattle.oram_contents.specs.Provenance.{Sound, Always}
 use Rattle.oram_contents.specs.Slots.{ArePasses, passed_by}
 use Rattle.oram_contents.specs.Starts.{empty_log, first_ghost}
+use Rattle.oram_contents.proofs.HomeSlots.{passes_home}
+use Rattle.oram_contents.specs.Home.{Home}
 use Rattle.oram_contents.proofs.Passes.{passes_keep}
 use Rattle.oram_contents.proofs.SmallLaws.{small_more, small_start}
-use Rattle.oram_contents.proofs.StartLaws.{start_sound, start_always}
+use Rattle.oram_contents.proofs.StartLaws.{start_sound, start_always, start_home}
 use Rattle.oram_walk.specs.Front.{FrontState}
 use Rattle.oram_walk.specs.Plans.{fetch_plan, store_plan}
 use Rattle.oram_frontend.proofs.SlotLaws.{keys_fit}
@@ -31,6 +33,7 @@ use Rattle.oram_lines.specs.Standing.{DrawnOnce, IsKnown, IsShown, StandsFor, la
 use Rattle.oram_lines.proofs.FetchLaws.{fetch_comes, store_comes, put_alike, data_leaf}
 use Rattle.oram_lines.proofs.GrowLaws.{forgery_port, forgery_walk, forgery_halt, forgery_walk_stop, counted_walk}
 use Rattle.oram_lines.proofs.PointLaws.{passes_once}
+use Rattle.oram_lines.proofs.HomePlaces.{none_before}
 use Rattle.oram_lines.proofs.KnownLaws.{passes_draw, passed_is}
 use Rattle.oram_lines.proofs.ShownLaws.{start_shown, shown_same}
 
@@ -68,6 +71,10 @@ module _ (keys : Keys) (lawful : AreKeys keys) (levels : ℕ) where
       );
       points = (passes_once keys k s.tap.log t.tap.log (contents s) (contents t) s.clock.dummies passes known.points
           (λ m x has. let less = known.sound.dummies m x has in omega (arith, less, known.dummies))).0;
+      home = λ none. subst (λ (x : Ghost). Home keys x (contents t)) (passed_is g k known.closed)
+          (passes_home keys lawful k s.tap.log t.tap.log g (contents s) (contents t) s.clock.dummies passes none
+          known.closed known.always (known.home (none_before s.tap.log.altered h.used.made.replies.altered
+          t.tap.log.altered h.used.made.replies.gained none))).1;
       bytes = known.bytes;
     };
     shown = shown_same keys lawful front g (later g k) refl refl refl refl refl st.shown;
@@ -115,6 +122,7 @@ module _ (keys : Keys) (lawful : AreKeys keys) (levels : ℕ) where
         drawn = let none = ap (λ (l : LogLists). count_by draws l.events) new.log in
             omega (arith, new.dummies, new.real);
         points = subst DrawnOnce (sym (ap (λ (l : LogLists). l.events) new.log)) tt;
+        home = λ none. subst (λ (c : Contents). Home keys first_ghost c) (sym new.contents_are) (start_home keys);
         bytes = λ a. zero_whole;
       };
       shown = subst (λ (f : FrontState). IsShown keys f first_ghost) (sym new.front)
@@ -234,3 +242,8 @@ module _ (keys : Keys) (lawful : AreKeys keys) (levels : ℕ) where
   pub points_differ : (lines : Lines) (o : OramState) → HoldsLines keys levels lines o
       → DrawnOnce o.port.tap.log.events
   points_differ lines o x = x.stands.known.points
+
+  -- where no reply was altered each block has one place
+  pub blocks_home : (lines : Lines) (o : OramState) (x : HoldsLines keys levels lines o) → o.port.tap.log.altered ≡ []
+      → Home keys x.ghost (contents o.port)
+  blocks_home lines o x none = x.stands.known.home none

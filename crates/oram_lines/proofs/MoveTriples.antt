@@ -21,6 +21,7 @@ use Rattle.oram_contents.specs.Forgery.{Forgery}
 use Rattle.oram_contents.specs.Provenance.{Sound}
 use Rattle.oram_contents.specs.Slots.{MayRise, done}
 use Rattle.oram_contents.proofs.Lines.{put_same, put_other, children_inside}
+use Rattle.oram_contents.proofs.HomeSteps.{home_raised}
 use Rattle.oram_contents.proofs.Passes.{renumber_sound}
 use Rattle.oram_walk.specs.Front.{FrontState, full_parent, with_held}
 use Rattle.oram_walk.specs.Plans.{child_plan, child_by, children_plan, family_plan, move_plan}
@@ -106,6 +107,7 @@ module _ (keys : Keys) (lawful : AreKeys keys) (levels : ℕ) where
     dummies = known.dummies;
     drawn = known.drawn;
     points = known.points;
+    home = known.home;
     bytes = known.bytes;
   }
 
@@ -121,6 +123,7 @@ module _ (keys : Keys) (lawful : AreKeys keys) (levels : ℕ) where
     dummies = known.dummies;
     drawn = known.drawn;
     points = known.points;
+    home = λ none. home_raised keys g (contents s) a c g.pend (known.sound.away a (inl held)).1 rises (known.home none);
     bytes = known.bytes;
   }
 

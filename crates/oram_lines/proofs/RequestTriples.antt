@@ -22,11 +22,12 @@ use Rattle.oram_walk.specs.declared.slots.Seen.{Seen}
 use Rattle.posmap_lookaside.specs.Addresses.{used}
 use Rattle.posmap_lookaside.specs.Held.{held_at, is_of, promoted}
 use Rattle.posmap_lookaside.specs.declared.held.Held.{Held}
-use Rattle.rate_enforcer.specs.PortStep.{PortState}
+use Rattle.rate_enforcer.specs.PortStep.{contents, PortState}
 use Rattle.oram_lines.specs.Standing.{IsKnown, StandsFor, IsCalm, SameData}
 use Rattle.oram_lines.specs.Shown.{ParentFirst}
 use Rattle.oram_lines.proofs.HoldTriples.{NowHeld, hold_comes}
 use Rattle.oram_lines.proofs.MoveTriples.{SameFront, not_held, held_by}
+use Rattle.oram_lines.proofs.HomePlaces.{home_used}
 use Rattle.oram_lines.proofs.ShownHeld.{used_shown, used_first, promoted_has}
 use Rattle.oram_lines.proofs.StepTriples.{Comes, comes_on}
 use Rattle.oram_lines.proofs.WalkTriples.{Visited, visit_comes, parent_as, front_then}
@@ -151,9 +152,9 @@ module _ (keys : Keys) (lawful : AreKeys keys) (levels : ℕ) where
       })))
 
   -- a held block is used
-  used_known : (g : Ghost) (s : PortState) (held : List ℕ) → ((b : ℕ) → Has b held → Has b g.held)
-      → IsKnown keys g s → IsKnown keys (record g { held = held }) s
-  used_known g s held among known = record {
+  used_known : (g : Ghost) (s : PortState) (p : ℕ) → IsKnown keys g s
+      → IsKnown keys (record g { held = used g.held p }) s
+  used_known g s p known = record {
     fits = known.fits;
     sound = record {
       fresh = known.sound.fresh;
@@ -162,7 +163,10 @@ module _ (keys : Keys) (lawful : AreKeys keys) (levels : ℕ) where
       blank = known.sound.blank;
       drawn = known.sound.drawn;
       dummies = known.sound.dummies;
-      away = λ b is. known.sound.away b (elim is [ inl has ↦ inl (among b has) | inr flying ↦ inr flying ]);
+      away = λ b is. known.sound.away b (elim is [
+        | inl has ↦ inl (promoted_has (λ a. nat_eq a p) g.held b has)
+        | inr flying ↦ inr flying
+      ]);
       at_hand = known.sound.at_hand;
       in_tree = known.sound.in_tree;
     };
@@ -171,6 +175,7 @@ module _ (keys : Keys) (lawful : AreKeys keys) (levels : ℕ) where
     dummies = known.dummies;
     drawn = known.drawn;
     points = known.points;
+    home = λ none. home_used keys g (contents s) p (known.home none);
     bytes = known.bytes;
   }
 
@@ -209,8 +214,7 @@ module _ (keys : Keys) (lawful : AreKeys keys) (levels : ℕ) where
           (subst (λ (y : PortState). Walked front g a now y) (sym ends.1) (record {
             h = record g { held = used g.held p.0 };
             stands = record {
-              known = used_known g s (used g.held p.0)
-                  (λ b has. promoted_has (λ a. nat_eq a p.0) g.held b has) st.known;
+              known = used_known g s p.0 st.known;
               shown = used_shown keys lawful front g p st.shown calm.pend;
               small = st.small;
               rests = st.rests;

@@ -1,6 +1,6 @@
 //! Laws of lines. The functions do nothing: each states a law in its contract.
 
-ghost use Rattle.std.specs.Prelude.{◌≡◌, ◌⊎◌, ℕ, None, Some};
+ghost use Rattle.std.specs.Prelude.{◌≡◌, ◌≤◌, ◌⊎◌, ℕ, None, Some, length};
 ghost use Rattle.asc_base.specs.Has.{Has};
 ghost use Rattle.oram_contents.specs.Counts.{Ghost, line_at};
 ghost use Rattle.oram_contents.specs.Entries.{Keys, AreKeys, real};
@@ -38,5 +38,5 @@ pub fn known_between()
         (levels least : ℕ) → IsKnown keys g old → IsServedAnswer line value old new → Keeps keys levels least old new
         → IsKnown keys g new }
     ensures insert { (keys : Keys) → AreKeys keys → (g : Ghost) (s : PortState) (plb a : ℕ) → IsKnown keys g s
-        → g.flight ≡ Some a → IsKnown keys (inserted g plb a) s }
+        → g.flight ≡ Some a → length g.held ≤ plb → IsKnown keys (inserted g plb a) s }
 {}

@@ -1,4 +1,4 @@
-use Rattle.oram_lines.proofs.LineLaws.{new_holds, call_holds, calls_hold, points_differ, forgery_call, forgery_stop}
+use Rattle.oram_lines.proofs.LineLaws.{new_holds, call_holds, calls_hold, points_differ, blocks_home, forgery_call, forgery_stop}
 use Rattle.oram_lines.proofs.lines.encrypted_memory_holds_lines.Goals as goal
 
 pub returns : goal.returns
@@ -7,6 +7,7 @@ returns c = record {
   call = call_holds;
   calls = calls_hold;
   points = points_differ;
+  home = blocks_home;
   forged = forgery_call;
   forged_stop = forgery_stop;
 }
