@@ -2,7 +2,7 @@
 use Rattle.std.proofs.Common.{◌≡◌, ap}
 use Rattle.std.specs.Prelude.{ℕ, ◌<◌, ◌-◌, ◌*◌, ◌/◌, ◌%◌, ◌==◌, if◌then◌else◌, List, [], length, Result, Ok, Err}
 use Rattle.request_plan.specs.Plan.{Plan, Done, Ends, Stops, bind}
-use Rattle.request_plan.proofs.Keeps.{Ends-keeps, Stops-keeps}
+use Rattle.request_plan.proofs.Keeps.{Ends-keeps, Stops-keeps, Ends-narrows}
 use Rattle.rv32_core.specs.Access.{Access, Load, Store, IsAnswer}
 use Rattle.rv32_core.specs.LineList.{LineUse, Read, Write}
 use Rattle.data_cache.specs.Lines.{LineRequest}
@@ -66,6 +66,15 @@ pub CachedStep-size : {S E : Type 0} (step : S → LineRequest → Result (List 
     → CachedStep step base cache s access answer after t → 64 * lines t ≡ 64 * lines s
 CachedStep-size step lines law base cache after s t access answer h =
     ap (λ n. 64 * n) (CachedStep-keeps step lines law base cache after s t access answer h)
+
+-- what each answered step of the store keeps holds after an access that is answered
+pub CachedStep-ready : {S E : Type 0} (step : S → LineRequest → Result (List ℕ) E → S → Type 0) (Ready : S → Type 0)
+    → ((s t : S) (q : LineRequest) (bytes : List ℕ) → Ready s → step s q (Ok bytes) t → Ready t)
+    → (base : ℕ) (cache after : Contents) (s t : S) (access : Access) (bytes : List ℕ) → Ready s
+    → CachedStep step base cache s access (Ok bytes) after t → Ready t
+CachedStep-ready step Ready law base cache after s t access bytes ready h =
+    (Ends-narrows step Ready (λ u v q x one holds. law u v q x holds one) (cache_access base cache access) s t
+    (after, bytes) ready h.0).1
 
 -- an access of some bytes
 abbrev pub HasBytes : Access → Type 0

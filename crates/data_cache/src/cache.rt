@@ -64,6 +64,7 @@ impl Cache {
         into: &mut [u8],
     ) -> Result<(), S::Stop>
         requires line { line < S.lines store.old }
+        requires ready { S.ready store.old }
         requires lines { CacheBelow (S.lines store.old) self.old }
         requires range { offset + length into.old ≤ 64 }
         ensures ok { IfOk result (λ _. Ends S.step (read_plan self.old line offset (length into.old))
@@ -90,6 +91,7 @@ impl Cache {
         bytes: &[u8],
     ) -> Result<(), S::Stop>
         requires line { line < S.lines store.old }
+        requires ready { S.ready store.old }
         requires lines { CacheBelow (S.lines store.old) self.old }
         requires range { offset + length bytes.now ≤ 64 }
         ensures ok { IfOk result (λ _. Ends S.step (write_plan self.old line offset bytes.now)
@@ -115,6 +117,7 @@ impl Cache {
         value: &Line,
     ) -> Result<(), S::Stop>
         requires line { line < S.lines store.old }
+        requires ready { S.ready store.old }
         requires lines { CacheBelow (S.lines store.old) self.old }
         ensures ok { IfOk result (λ _. Ends S.step (write_line_plan self.old line value.now)
             store.old store.new self.new) }

@@ -22,7 +22,7 @@ pub struct CachedBytes<'a, S: LineStore> {
 
 impl<'a, S: LineStore> Bytes for CachedBytes<'a, S> {
     ghost use Rattle.std.specs.Prelude.{None};
-    ghost use Rattle.data_cache.specs.Cached.{CachedStep, CachedStep-size};
+    ghost use Rattle.data_cache.specs.Cached.{CachedStep, CachedStep-size, CachedStep-ready};
 
     type Stop = S::Stop;
 
@@ -31,6 +31,8 @@ impl<'a, S: LineStore> Bytes for CachedBytes<'a, S> {
     ghost size = { λ b. 64 * S.lines b.store.now };
 
     ghost told = { λ _. None };
+
+    ghost ready = { λ b. S.ready b.store.now };
 
     ghost step = { λ b access answer c. (c.base ≡ b.base) × (c.cache.ghost_name ≡ b.cache.ghost_name)
         × (c.store.ghost_name ≡ b.store.ghost_name)
@@ -59,6 +61,9 @@ impl<'a, S: LineStore> Bytes for CachedBytes<'a, S> {
     ghost keeps_size = { λ b c access answer h. CachedStep-size S.step S.lines S.keeps_lines b.base b.cache.now
         c.cache.now b.store.now c.store.now access answer h.3 };
 
+    ghost stays_ready = { λ b c access bytes ready h. CachedStep-ready S.step S.ready S.stays_ready b.base b.cache.now
+        c.cache.now b.store.now c.store.now access bytes ready h.3 };
+
     ghost answers = { λ b c access bytes h. h.3.1 };
 
     ghost told_size = { λ b memory e. Prim.cc };
@@ -76,6 +81,7 @@ fn step_over<S: LineStore>(
 ) -> Result<Done, S::Stop>
     requires base { bytes.old.base ≡ core.old.base }
     requires size { core.old.size ≡ 64 * S.lines bytes.old.store.now }
+    requires ready { S.ready bytes.old.store.now }
     ensures ok { IfOk result (λ done. Ends S.step
         (through (cache_access bytes.old.base) (step_plan (machine_of core.old files.old)) bytes.old.cache.now)
         bytes.old.store.now bytes.new.store.now (bytes.new.cache.now, (machine_of core.new files.new, done))) }
@@ -104,6 +110,7 @@ pub fn step_cached<S: LineStore>(
     requires base { base ≡ core.old.base }
     requires aligned { base % 64 ≡ 0 }
     requires size { core.old.size ≡ 64 * S.lines store.old }
+    requires ready { S.ready store.old }
     requires lines { CacheBelow (S.lines store.old) cache.old }
     ensures ok { IfOk result (λ done. Ends S.step
         (through (cache_access core.old.base) (step_plan (machine_of core.old files.old)) cache.old)

@@ -65,6 +65,8 @@ impl LineStore for FlatLines {
 
     ghost told = { λ s. Some s };
 
+    ghost ready = { λ _. Unit {0} };
+
     ghost step = { FlatStep };
 
     fn fetch(&mut self, line: u32) -> Result<Line, Never> {
@@ -77,6 +79,8 @@ impl LineStore for FlatLines {
     }
 
     ghost keeps_lines = { λ s t request answer h. FlatStep-length s t request answer h };
+
+    ghost stays_ready = { λ s t request bytes ready h. tt };
 
     ghost answers = { λ s t request bytes h. FlatStep-answers Never s t request bytes h };
 

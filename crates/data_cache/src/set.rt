@@ -53,6 +53,8 @@ fn settle_last<S: LineStore>(set: &mut [Held], ways: usize, store: &mut S) -> Re
     requires ways { 0 < ways }
     requires fits { length set.old ≤ ways }
     requires lines { HoldsBelow (S.lines store.old) set.old }
+    requires ready { S.ready store.old }
+    ensures ready { OnOk result (S.ready store.new) }
     ensures ok { IfOk result (λ _. Ends S.step (settle ways set.old) store.old store.new set.new) }
     ensures err { IfErr result (λ stop. Stops S.step (settle ways set.old) store.old store.new stop set.new) }
 {
@@ -95,6 +97,7 @@ pub(crate) fn bring<S: LineStore>(
     requires fits { vec_len set.old ≤ ways }
     requires room { ways ≤ vec_capacity set.old }
     requires line { line < S.lines store.old }
+    requires ready { S.ready store.old }
     requires lines { HoldsBelow (S.lines store.old) set.old.items }
     ensures ok { IfOk result (λ _. Ends S.step (obtain ways set.old.items line) store.old store.new set.new.items) }
     ensures err { IfErr result (λ stop. Stops S.step
@@ -135,6 +138,7 @@ pub(crate) fn put_whole<S: LineStore>(
     requires fits { vec_len set.old ≤ ways }
     requires room { ways ≤ vec_capacity set.old }
     requires line { line < S.lines store.old }
+    requires ready { S.ready store.old }
     requires lines { HoldsBelow (S.lines store.old) set.old.items }
     ensures ok { IfOk result (λ _. Ends S.step
         (replace ways set.old.items line value) store.old store.new set.new.items) }

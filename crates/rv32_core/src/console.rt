@@ -91,6 +91,7 @@ impl Files {
         count: u32,
     ) -> Result<(), B::Stop>
         requires range { IsRange (B.base memory.old) (B.size memory.old) address count }
+        requires ready { B.ready memory.old }
         requires left { count ≤ bytes_left self.old }
         ensures ok { OnOk result (Ends B.step
             (stores_plan (slice_of self.old.input self.old.position count) (pieces address count))
@@ -117,6 +118,7 @@ impl Files {
         count: u32,
     ) -> Result<(), B::Stop>
         requires range { IsRange (B.base memory.old) (B.size memory.old) address count }
+        requires ready { B.ready memory.old }
         requires room { length self.old.output + count ≤ self.old.limit }
         ensures ok { OnOk result (Ends B.step (loads_plan self.old.output (pieces address count))
             memory.old memory.new self.new.output) }

@@ -63,6 +63,8 @@ impl Bytes for FlatBytes {
 
     ghost told = { λ b. Some b.bytes };
 
+    ghost ready = { λ _. Unit {0} };
+
     ghost step = { FlatAccess };
 
     fn load(&mut self, address: u32, into: &mut [u8]) -> Result<(), Never> {
@@ -80,6 +82,8 @@ impl Bytes for FlatBytes {
     ghost keeps_base = { λ old new access answer h. FlatAccess-base old new access answer h };
 
     ghost keeps_size = { λ old new access answer h. FlatAccess-size old new access answer h };
+
+    ghost stays_ready = { λ old new access bytes ready h. tt };
 
     ghost answers = { λ old new access bytes h. FlatAccess-answers Never old new access bytes h };
 

@@ -81,6 +81,7 @@ impl Core {
     pub fn step<B: Bytes>(&mut self, bytes: &mut B, files: &mut Files) -> Result<Done, B::Stop>
         requires base { B.base bytes.old ≡ self.old.base }
         requires size { B.size bytes.old ≡ self.old.size }
+        requires ready { B.ready bytes.old }
         ensures ok { IfOk result (λ done. Ends B.step (step_plan (machine_of self.old files.old))
             bytes.old bytes.new (machine_of self.new files.new, done)) }
         ensures err { IfErr result (λ stop. Stops B.step (step_plan (machine_of self.old files.old))
@@ -100,6 +101,7 @@ impl Core {
     fn follow<B: Bytes>(&mut self, bytes: &mut B, files: &mut Files) -> Result<Done, B::Stop>
         requires base { B.base bytes.old ≡ self.old.base }
         requires size { B.size bytes.old ≡ self.old.size }
+        requires ready { B.ready bytes.old }
         ensures ok { IfOk result (λ done. Ends B.step (step_plan (machine_of self.old files.old))
             bytes.old bytes.new (machine_of self.new files.new, done)) }
         ensures err { IfErr result (λ stop. Stops B.step (step_plan (machine_of self.old files.old))
@@ -130,6 +132,7 @@ impl Core {
     ) -> Result<Done, B::Stop>
         requires base { B.base bytes.old ≡ self.old.base }
         requires size { B.size bytes.old ≡ self.old.size }
+        requires ready { B.ready bytes.old }
         requires below { self.old.base + self.old.size < 2 ^ 32 }
         requires effect { IsEffect (machine_of self.old files.old) effect }
         ensures ok { IfOk result (λ done. Ends B.step (effect_plan (machine_of self.old files.old) cost effect)

@@ -19,19 +19,24 @@ pub trait Bytes {
     /// The bytes, told or not.
     ghost told: { Self → Option (List ℕ) };
 
+    /// It can be asked. A stop may end that.
+    ghost ready: { Self → Type 0 };
+
     /// The value before a call, the request, the answer or the stop, and the value after it.
     ghost step: { Self → Access → Result (List ℕ) Self.Stop → Self → Type 0 };
 
     /// Reads as many bytes as `into` has, from `address` on. After a stop `into` may hold anything.
     fn load(&mut self, address: u32, into: &mut [u8]) -> Result<(), Self::Stop>
-        requires { IsInLine (base self.old) (size self.old) address (length into.old) }
+        requires line { IsInLine (base self.old) (size self.old) address (length into.old) }
+        requires ready { ready self.old }
         ensures { MatchResult result
             (λ _. step self.old (Load address (length into.old)) (Ok into.new) self.new)
             (λ stop. step self.old (Load address (length into.old)) (Err stop) self.new) };
 
     /// Writes `bytes` from `address` on.
     fn store(&mut self, address: u32, bytes: &[u8]) -> Result<(), Self::Stop>
-        requires { IsInLine (base self.old) (size self.old) address (length bytes.now) }
+        requires line { IsInLine (base self.old) (size self.old) address (length bytes.now) }
+        requires ready { ready self.old }
         ensures { MatchResult result
             (λ _. step self.old (Store address bytes.now) (Ok []) self.new)
             (λ stop. step self.old (Store address bytes.now) (Err stop) self.new) };
@@ -41,6 +46,10 @@ pub trait Bytes {
 
     ghost keeps_size: { (old new : Self) (access : Access) (answer : Result (List ℕ) Self.Stop)
         → step old access answer new → size new ≡ size old };
+
+    /// After an answer it can be asked again.
+    ghost stays_ready: { (old new : Self) (access : Access) (bytes : List ℕ)
+        → ready old → step old access (Ok bytes) new → ready new };
 
     /// A load answers as many bytes as were asked for, and a store none.
     ghost answers: { (old new : Self) (access : Access) (bytes : List ℕ)

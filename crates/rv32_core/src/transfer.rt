@@ -19,7 +19,8 @@ fn piece_length(address: u32, most: u32) -> u32
 
 /// Stores bytes from an address on. Where a store is stopped, those before it were made.
 pub(crate) fn store_all<B: Bytes>(memory: &mut B, address: u32, bytes: &[u8]) -> Result<(), B::Stop>
-    requires { IsRange (B.base memory.old) (B.size memory.old) address (length bytes.now) }
+    requires range { IsRange (B.base memory.old) (B.size memory.old) address (length bytes.now) }
+    requires ready { B.ready memory.old }
     ensures ok { OnOk result (Ends B.step (stores_plan bytes.now (pieces address (length bytes.now)))
         memory.old memory.new tt) }
     ensures err { IfErr result (λ stop. Stops B.step (stores_plan bytes.now (pieces address (length bytes.now)))
@@ -47,6 +48,7 @@ fn load_piece<B: Bytes>(
     count: u32,
 ) -> Result<(), B::Stop>
     requires line { IsInLine (B.base memory.old) (B.size memory.old) address count }
+    requires ready { B.ready memory.old }
     requires room { vec_len output.old + count ≤ vec_capacity output.old }
     ensures ok { OnOk result ((bytes : List ℕ) × B.step memory.old (Load address count) (Ok bytes) memory.new
         × (output.new.items ≡ output.old.items ++ bytes)) }
@@ -73,6 +75,7 @@ pub(crate) fn load_all<B: Bytes>(
     count: u32,
 ) -> Result<(), B::Stop>
     requires range { IsRange (B.base memory.old) (B.size memory.old) address count }
+    requires ready { B.ready memory.old }
     requires room { vec_len output.old + count ≤ vec_capacity output.old }
     ensures ok { OnOk result (Ends B.step (loads_plan output.old.items (pieces address count))
         memory.old memory.new output.new.items) }

@@ -40,6 +40,8 @@ impl Bytes for Stopping {
 
     ghost told = { λ _. None };
 
+    ghost ready = { λ _. Unit {0} };
+
     ghost step = { λ s access answer t. (t.inner.base ≡ s.inner.base) × (length t.inner.bytes ≡ length s.inner.bytes) × IfOk answer (IsAnswer access) };
 
     fn load(&mut self, address: u32, into: &mut [u8]) -> Result<(), Stopped> {
@@ -67,6 +69,8 @@ impl Bytes for Stopping {
     ghost keeps_base = { λ s t access answer h. h.0 };
 
     ghost keeps_size = { λ s t access answer h. h.1 };
+
+    ghost stays_ready = { λ s t access bytes ready h. tt };
 
     ghost answers = { λ s t access bytes h. h.2 };
 

@@ -28,6 +28,7 @@ loop-left-preserved g c =
           ∙ take-append-le (vec_len c.args.output.now) c.loop-left.output.items (one.0)
           (omega (arith, c.loop-left.invariant.grown, c.loop-left.output.ok))
           ∙ c.loop-left.invariant.before;
+      ready = g.met.B.Bytes.stays_ready _ _ _ _ c.loop-left.invariant.ready (one.1);
       ends = λ new end rest. c.loop-left.invariant.ends new end
           (loads_on g.B.Bytes.step c.loop-left.at c.loop-left.left c.piece_length-piece.result c.loop-left.output.items
           c.loop-left-test.true c.piece_length-piece.ensures c.loop-left.memory c.load_piece.new.memory new

@@ -11,6 +11,7 @@ invariant-loop-left g l =
       base : g.B.Bytes.base l.memory ≡ g.B.Bytes.base l.fn.memory;
       size : g.B.Bytes.size l.memory ≡ g.B.Bytes.size l.fn.memory;
       range : IsRange (g.B.Bytes.base l.fn.memory) (g.B.Bytes.size l.fn.memory) l.at l.left;
+      ready : g.B.Bytes.ready l.memory;
       len : vec_len l.output + l.left ≡ vec_len l.fn.output + l.fn.count;
       grown : vec_len l.fn.output ≤ vec_len l.output;
       room : vec_len l.fn.output + l.fn.count ≤ vec_capacity l.output;

@@ -25,6 +25,7 @@ loop-rest-preserved g c =
       size = g.met.B.Bytes.keeps_size _ _ _ _ c.in_ok-store.ensures ∙ c.loop-rest.invariant.size;
       range = range-later _ _ c.loop-rest.at (length c.loop-rest.rest.now) c.piece_length-count.result
           (length c.split_at.result.1.now) c.loop-rest.invariant.range part left;
+      ready = g.met.B.Bytes.stays_ready _ _ _ _ c.loop-rest.invariant.ready c.in_ok-store.ensures;
       ends = λ new rest. c.loop-rest.invariant.ends new
           (stores_on g.B.Bytes.step c.loop-rest.at c.piece_length-count.result c.loop-rest.rest.now
           c.split_at.result.0.now c.split_at.result.1.now

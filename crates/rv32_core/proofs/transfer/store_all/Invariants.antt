@@ -11,6 +11,7 @@ invariant-loop-rest g l =
       base : g.B.Bytes.base l.memory ≡ g.B.Bytes.base l.fn.memory;
       size : g.B.Bytes.size l.memory ≡ g.B.Bytes.size l.fn.memory;
       range : IsRange (g.B.Bytes.base l.fn.memory) (g.B.Bytes.size l.fn.memory) l.at (length l.rest);
+      ready : g.B.Bytes.ready l.memory;
       ends : (new : _) → Ends step (stores_plan l.rest (pieces l.at (length l.rest))) l.memory new tt
           → Ends step (stores_plan l.fn.bytes (pieces l.fn.address (length l.fn.bytes))) l.fn.memory new tt;
       stops : (new : _) (stop : _) → Stops step (stores_plan l.rest (pieces l.at (length l.rest))) l.memory new stop tt

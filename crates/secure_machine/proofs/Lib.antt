@@ -1,0 +1,9 @@
+pub mod PortGoes
+pub mod SlotGoes
+pub mod WalkGoes
+pub mod OramGoes
+pub mod Asked
+pub mod LineChains
+pub mod Settles
+pub mod Starts
+pub mod ReportLaws

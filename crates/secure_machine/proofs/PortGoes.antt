@@ -1,0 +1,204 @@
+-- What a port's calls leave, however many there were.
+use Rattle.std.proofs.Common.{◌≡◌, ◌≤◌, ◌∙◌, ℕ, List, [], Ok, refl, sym, ap, subst, inl, inr, arith}
+use Rattle.request_plan.specs.Plan.{Plan, Done, Ask, Ends}
+use Rattle.asc_base.specs.declared.block.Point.{Point}
+use Rattle.asc_base.specs.declared.settings.Config.{Config}
+use Rattle.asc_base.specs.declared.stop.Stop.{Stop}
+use Rattle.asc_base.specs.declared.stop.Stop.TheVariants.{Integrity, StashFull, TimeUp, Device, NoMemory}
+use Rattle.asc_outside.proofs.RoseLaws.{rose_since}
+use Rattle.asc_outside.specs.Memory.{MemoryState}
+use Rattle.asc_outside.specs.Rose.{Rose}
+use Rattle.bus_watch.specs.Log.{TapState}
+use Rattle.bus_watch.specs.RunEnd.{RunEnd, Whole}
+use Rattle.bus_watch.specs.Tied.{Tied}
+use Rattle.epoch_learner.proofs.StandLaws.{stands_pace, stands_next}
+use Rattle.epoch_learner.specs.Stands.{KeepsPace}
+use Rattle.rate_enforcer.specs.Counts.{IsCounted}
+use Rattle.rate_enforcer.specs.PortStep.{PortState, PortStep, PortRequest, Open, Take, Note, Put, Close, Abort, Join, Idle, Said, Used, KeepsCount, Resting, HandOnly}
+use Rattle.rate_enforcer.specs.PortStep.{OpenStopped, CloseStopped, IdleStopped, Aborted}
+use Rattle.rate_enforcer.specs.Stops.{IsEndOf}
+use Rattle.rate_enforcer.specs.declared.clock.Clock.{Clock}
+use Rattle.secure_machine.specs.Goes.{Goes, Breaks, PaceAt, TiedAfter}
+
+-- nothing was asked
+pub goes_none : (s : PortState) → Goes s s
+goes_none s = record {
+  config = refl;
+  counts = λ counted. counted;
+  tied = λ start buckets tied. tied;
+  later = omega arith;
+  real = omega arith;
+}
+
+-- some requests, and then others
+pub goes_then : {a b c : PortState} → Goes a b → Goes b c → Goes a c
+goes_then one two = record {
+  config = two.config ∙ one.config;
+  counts = λ counted. two.counts (one.counts counted);
+  tied = λ start buckets tied. two.tied start buckets (one.tied start buckets tied);
+  later = omega (arith, one.later, two.later);
+  real = omega (arith, one.real, two.real);
+}
+
+-- some requests, and then one that is stopped
+pub breaks_then : {stop : Stop} {a b c : PortState} → Goes a b → Breaks stop b c → Breaks stop a c
+breaks_then {stop} {a} {b} {c} one two = record {
+  config = two.config ∙ one.config;
+  counts = λ counted. two.counts (one.counts counted);
+  tied = λ start buckets tied. two.tied start buckets (one.tied start buckets tied);
+  later = omega (arith, one.later, two.later);
+  cause = λ is. rose_since a.memory.faults b.memory.faults c.memory.faults one.later (two.cause is);
+  pace = subst (λ (config : Config). PaceAt config stop c) one.config two.pace;
+}
+
+-- the hand alone changes
+hand_goes : {leaf_of : Point → ℕ} {levels : ℕ} {old new : PortState} → HandOnly leaf_of levels old new → Goes old new
+hand_goes {leaf_of} {levels} {old} {new} h = record {
+  config = ap (λ (c : Clock). c.config) h.clock;
+  counts = λ counted. subst (λ (t : TapState). IsCounted new.clock t.log) (sym h.tap)
+      (subst (λ (c : Clock). IsCounted c old.tap.log) (sym h.clock) counted);
+  tied = λ start buckets tied. subst (λ (t : TapState). Tied start buckets new.memory t) (sym h.tap)
+      (subst (λ (m : MemoryState). Tied start buckets m old.tap) (sym h.memory) tied);
+  later = let same : new.memory.faults ≡ old.memory.faults = ap (λ (m : MemoryState). m.faults) h.memory in
+      omega (arith, same);
+  real = let same : new.clock.real ≡ old.clock.real = ap (λ (c : Clock). c.real) h.clock in omega (arith, same);
+}
+
+-- a bus that was used, of a port that is the same
+used_goes : {old new : PortState} → Used Whole old new → new.clock.config ≡ old.clock.config → KeepsCount old new
+    → old.clock.real ≤ new.clock.real → Goes old new
+used_goes used config counts real = record {
+  config = config;
+  counts = counts;
+  tied = λ start buckets tied. used.made.tied start buckets tied;
+  later = used.made.later;
+  real = real;
+}
+
+-- an aborted slot
+abort_goes : {leaf_of : Point → ℕ} {levels end : ℕ} {stop : Stop} {old new : PortState}
+    → Aborted leaf_of levels stop end old new → Goes old new
+abort_goes {leaf_of} {levels} {end} {stop} {old} {new} h =
+    let real : new.clock.real ≡ old.clock.real = ap (λ (c : Clock). c.real) h.clock in
+    let dummies : new.clock.dummies ≡ old.clock.dummies = ap (λ (c : Clock). c.dummies) h.clock in
+    record {
+      config = ap (λ (c : Clock). c.config) h.clock;
+      counts = λ counted. subst (λ (t : TapState). IsCounted new.clock t.log) (sym h.tap)
+          (record { dummies = dummies ∙ counted.dummies; real = real ∙ counted.real });
+      tied = λ start buckets tied. subst (λ (t : TapState). Tied start buckets new.memory t) (sym h.tap)
+          (subst (λ (m : MemoryState). Tied start buckets m old.tap) (sym h.memory) tied);
+      later = let same : new.memory.faults ≡ old.memory.faults = ap (λ (m : MemoryState). m.faults) h.memory in
+          omega (arith, same);
+      real = omega (arith, real);
+    }
+
+-- each answered call
+pub step_goes : (leaf_of : Point → ℕ) (levels : ℕ) (old : PortState) (request : PortRequest) (said : Said)
+    (new : PortState) → PortStep leaf_of levels old request (Ok said) new → Goes old new
+step_goes leaf_of levels old (Open asked point) said new h =
+    used_goes h.1.used h.1.same.config h.1.counts (omega (arith, h.1.real))
+step_goes leaf_of levels old (Take address) said new h = hand_goes {leaf_of = leaf_of} {levels = levels} h.1.others
+step_goes leaf_of levels old (Note event) said new h =
+    let real : new.clock.real ≡ old.clock.real = ap (λ (c : Clock). c.real) h.1.clock in
+    record {
+      config = ap (λ (c : Clock). c.config) h.1.clock;
+      counts = h.1.counts;
+      tied = λ start buckets tied. h.1.made.tied start buckets tied;
+      later = h.1.made.later;
+      real = omega (arith, real);
+    }
+step_goes leaf_of levels old (Put entry) said new h = hand_goes h.1.others
+step_goes leaf_of levels old Close said new h =
+    used_goes h.1.used h.1.same.config h.1.counts (omega (arith, h.1.real))
+step_goes leaf_of levels old (Abort stop) said new h = abort_goes h.1
+step_goes leaf_of levels old (Join entry) said new h = hand_goes h.1.others
+step_goes leaf_of levels old (Idle time) said new h =
+    used_goes h.1.used h.1.same.config h.1.counts (omega (arith, h.1.real))
+
+-- a chain of answered calls
+pub plan_goes : (leaf_of : Point → ℕ) (levels : ℕ) {B A : Type 0} (plan : Plan PortRequest Said B A)
+    (old new : PortState) (outcome : A) → Ends (PortStep leaf_of levels) plan old new outcome → Goes old new
+plan_goes leaf_of levels (Done a) old new outcome h = subst (Goes old) (sym h.1) (goes_none old)
+plan_goes leaf_of levels (Ask q b k) old new outcome (said, mid, one, rest) =
+    goes_then (step_goes leaf_of levels old q said mid one) (plan_goes leaf_of levels (k said) mid new outcome rest)
+
+-- ---- stops
+-- a stop with its end
+stop_tied : (stop : Stop) {old new : PortState} (end : RunEnd) → IsEndOf stop end → Used end old new
+    → (start : MemoryState) (buckets : List (List ℕ)) → Tied start buckets old.memory old.tap
+    → TiedAfter stop start buckets new
+stop_tied stop end is used start buckets tied = (end, is, used.made.tied start buckets tied)
+
+-- a failed move has its cause
+stop_cause : (stop : Stop) {old new : PortState} (end : RunEnd) → IsEndOf stop end → Used end old new
+    → stop ≡ Device → Rose old.memory.faults new.memory.faults
+stop_cause stop end is used same = used.made.cause (subst (λ (s : Stop). IsEndOf s end) same is)
+
+module _ (leaf_of : Point → ℕ) (levels : ℕ) where
+  open_pace : (asked : ℕ) (point : Point) (stop : Stop) (old new : PortState)
+      → OpenStopped leaf_of levels asked point stop old new → PaceAt old.clock.config stop new
+  open_pace asked point (Integrity evidence) old new h = h.stopped.pace
+  open_pace asked point (StashFull held) old new h = h.stopped.pace
+  open_pace asked point (TimeUp at) old new h =
+      let (up, passed) = h.breaks [] in
+      let (next, rate) = h.stopped.ends in
+      (up.late, omega (arith, next, rate), up.pace)
+  open_pace asked point Device old new h = h.stopped.pace
+  open_pace asked point NoMemory old new h = h.stopped.pace
+
+  pub open_breaks : (asked : ℕ) (point : Point) (stop : Stop) (old new : PortState)
+      → OpenStopped leaf_of levels asked point stop old new → Breaks stop old new
+  open_breaks asked point stop old new h = record {
+    config = h.same.config;
+    counts = h.counts;
+    tied = stop_tied stop h.end h.is_end h.used;
+    later = h.used.made.later;
+    cause = stop_cause stop h.end h.is_end h.used;
+    pace = open_pace asked point stop old new h;
+  }
+
+  close_pace : (stop : Stop) (old new : PortState) → CloseStopped leaf_of levels stop old new
+      → PaceAt old.clock.config stop new
+  close_pace (Integrity evidence) old new h = h.stopped.pace
+  close_pace (StashFull held) old new h = h.stopped.pace
+  close_pace (TimeUp at) old new h = absurd (h.breaks [])
+  close_pace Device old new h = h.stopped.pace
+  close_pace NoMemory old new h = h.stopped.pace
+
+  pub close_breaks : (stop : Stop) (old new : PortState) → CloseStopped leaf_of levels stop old new
+      → Breaks stop old new
+  close_breaks stop old new h = record {
+    config = h.same.config;
+    counts = h.counts;
+    tied = stop_tied stop h.end h.is_end h.used;
+    later = h.used.made.later;
+    cause = stop_cause stop h.end h.is_end h.used;
+    pace = close_pace stop old new h;
+  }
+
+  idle_pace : (stop : Stop) (old new : PortState) → IdleStopped leaf_of levels stop old new
+      → PaceAt old.clock.config stop new
+  idle_pace (Integrity evidence) old new h = h.stopped.pace
+  idle_pace (StashFull held) old new h = h.stopped.pace
+  idle_pace (TimeUp at) old new h = elim ((h.breaks []).stops) [
+    | inl reads ↦ absurd reads
+    | inr writes ↦ absurd (writes.writes)
+  ]
+  idle_pace Device old new h = h.stopped.pace
+  idle_pace NoMemory old new h = h.stopped.pace
+
+  pub idle_breaks : (stop : Stop) (old new : PortState) → IdleStopped leaf_of levels stop old new
+      → Breaks stop old new
+  idle_breaks stop old new h = record {
+    config = h.same.config;
+    counts = h.counts;
+    tied = stop_tied stop h.end h.is_end h.used;
+    later = h.used.made.later;
+    cause = stop_cause stop h.end h.is_end h.used;
+    pace = idle_pace stop old new h;
+  }
+
+-- between two slots the log keeps the pace up to the last end
+pub resting_pace : {notes levels : ℕ} (s : PortState) → Resting notes levels s
+    → KeepsPace s.clock.config s.clock.last s.tap.log
+resting_pace s r = stands_pace s.clock.last r.stands (omega arith) (omega (arith, stands_next r.stands))

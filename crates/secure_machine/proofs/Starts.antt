@@ -1,0 +1,93 @@
+-- Before the first slot.
+use Rattle.std.proofs.Common.{◌≡◌, ◌≤◌, ◌<◌, ◌+◌, ◌*◌, ◌^◌, ◌∙◌, ℕ, List, [], None, Result, Ok, Err, IfOk, OnErr, sym, ap, subst, arith}
+use Rattle.asc_base.specs.Settings.{IsConfig}
+use Rattle.asc_base.specs.TreeShape.{olat_of}
+use Rattle.asc_base.specs.declared.settings.Config.{Config}
+use Rattle.asc_outside.specs.Memory.{MemoryState, zero_buckets}
+use Rattle.bus_schedule.proofs.ScheduledLaws.{scheduled-config}
+use Rattle.bus_schedule.specs.Scheduled.{log_code}
+use Rattle.bus_schedule.specs.Timetable.{public_of}
+use Rattle.bus_watch.proofs.PreparedLaws.{prepared_ties}
+use Rattle.bus_watch.proofs.TiedLaws.{tied_start}
+use Rattle.bus_watch.specs.declared.bus.BusStop.{BusStop}
+use Rattle.bus_watch.specs.declared.bus.BusStop.TheVariants.{Device, NoMemory}
+use Rattle.bus_watch.specs.Log.{TapState, LogLists}
+use Rattle.bus_watch.specs.Prepared.{IsPrepared}
+use Rattle.bus_watch.specs.Ready.{IsReady}
+use Rattle.bus_watch.specs.Tied.{Tied}
+use Rattle.epoch_learner.proofs.StandLaws.{stands_first, stands_pace}
+use Rattle.epoch_learner.specs.Stands.{KeepsPace}
+use Rattle.oram_frontend.specs.Oram.{oram_of}
+use Rattle.oram_frontend.specs.declared.oram.Oram.{Oram}
+use Rattle.oram_walk.specs.Front.{FrontState, first_front}
+use Rattle.rate_enforcer.specs.State.{Rests}
+use Rattle.rate_enforcer.specs.declared.port.Port.{Port}
+use Rattle.secure_machine.specs.Timed.{Serving}
+
+-- a fact on an Err that holds anyway
+pub on_err_with : {A E X : Type 0} (result : Result A E) → X → OnErr result X
+on_err_with (Ok a) x = tt
+on_err_with (Err e) x = x
+
+-- what holds of either answer
+pub on_both : {A E : Type 0} (P : A → Type 0) (Q X : Type 0) (result : Result A E) → IfOk result P → OnErr result Q
+    → ((a : A) → P a → X) → (Q → X) → X
+on_both P Q X (Ok a) p q one other = one a p
+on_both P Q X (Err e) p q one other = other q
+
+-- a fact on an Err, from another
+pub on_err_so : {A E : Type 0} (Q X : Type 0) (result : Result A E) → OnErr result Q → (Q → X) → OnErr result X
+on_err_so Q X (Ok a) q other = tt
+on_err_so Q X (Err e) q other = other q
+
+-- an empty log keeps the pace up to 0
+pub start_pace : (config : Config) (log : LogLists) → IsConfig config → log.events ≡ [] → log.moves ≡ []
+    → KeepsPace config 0 log
+start_pace config log is events moves =
+    stands_pace 0 (stands_first config log is events moves) (omega arith) (omega arith)
+
+-- a log that keeps the pace tells no more bits than the budget
+pub pace_bits : (config : Config) (end : ℕ) (log : LogLists) → IsConfig config → KeepsPace config end log
+    → log_code (public_of config) log < 2 ^ config.leak
+pace_bits config end log is pace = scheduled-config config end log is pace.scheduled
+
+-- a prepared bus is tied from zero bytes on
+pub zero_tied : (buckets levels accesses : ℕ) (m m' : MemoryState) (t t' : TapState) → t.log.moves ≡ []
+    → t.log.altered ≡ [] → IsPrepared (Ok tt) buckets levels accesses m m' t t' → Tied m (zero_buckets buckets) m' t'
+zero_tied buckets levels accesses m m' t t' moves altered prepared =
+    subst (λ (before : List (List ℕ)). Tied m before m' t') prepared.by_answer.mirror
+    (prepared_ties buckets levels accesses (Ok tt) m t.mirror moves (tied_start m t moves altered) prepared)
+
+-- an encrypted memory of a new port serves, over a bus with room
+pub new_serves : {L E : Type 0} (levels_of : L → ℕ) (config : Config) (port : Port L) (result : Result (Oram L) E)
+    → IfOk result (λ (oram : Oram L). oram.front ≡ first_front config)
+    → IfOk result (λ (oram : Oram L). oram.port ≡ port) → IfOk result (λ (oram : Oram L). oram.stop ≡ None)
+    → port.tree.shape ≡ config.shape
+    → ((notes left : ℕ) (memory : MemoryState) (tap : TapState) → tap.log.events ≡ [] → tap.log.moves ≡ []
+    → config.time ≤ 64 + left * olat_of config.shape.levels
+    → IsReady config.shape.buckets (2 * (config.shape.levels + 1) * left) (6 * left + notes) memory tap
+    → Rests notes port.clock port.tree (levels_of port.leaves) memory tap)
+    → IfOk result (λ (oram : Oram L). (left : ℕ) (memory : MemoryState) (tap : TapState) → tap.log.events ≡ []
+    → tap.log.moves ≡ [] → config.time ≤ 64 + left * olat_of config.shape.levels
+    → IsReady config.shape.buckets (2 * (config.shape.levels + 1) * left) (6 * left) memory tap
+    → Serving (levels_of oram.port.leaves)
+    (oram_of oram.front oram.port.clock oram.port.tree oram.stop memory tap))
+new_serves levels_of config port (Err e) front same stop shape rests = tt
+new_serves {L} levels_of config port (Ok oram) front same stop shape rests = λ left memory tap events moves enough ready.
+    let none : 6 * left ≡ 6 * left + 0 = omega arith in
+    record {
+      going = stop;
+      serves = record {
+        rests = subst (λ (p : Port L). Rests 0 p.clock p.tree (levels_of p.leaves) memory tap) (sym same)
+            (rests 0 left memory tap events moves enough
+            (subst (λ n. IsReady config.shape.buckets (2 * (config.shape.levels + 1) * left) n memory tap) none ready));
+        shape = ap (λ (f : FrontState). f.shape) front
+            ∙ sym (ap (λ (p : Port L). p.tree.shape) same ∙ shape);
+      };
+    }
+
+-- a bus that wasn't prepared has its tap as it was
+pub refused_tap : (stop : BusStop) (buckets levels accesses : ℕ) (m m' : MemoryState) (t t' : TapState)
+    → IsPrepared (Err stop) buckets levels accesses m m' t t' → t' ≡ t
+refused_tap Device buckets levels accesses m m' t t' prepared = prepared.by_answer.kept
+refused_tap NoMemory buckets levels accesses m m' t t' prepared = prepared.by_answer.kept

@@ -1,0 +1,184 @@
+use Rattle.std.proofs.Common.{◌≤◌, ◌<◌, ◌+◌, ◌*◌, ◌^◌, ◌∙◌, sym, ap, subst, inl, inr, arith}
+use Rattle.std.proofs.lemmas.Nat.{mul-le}
+use Rattle.std.proofs.lemmas.Result.{IfOk-weaker}
+use Rattle.std.proofs.Math.Pow.{pow_mono}
+use Rattle.std.specs.List.{count_by}
+use Rattle.asc_base.proofs.ShapeFacts.{shape_layered}
+use Rattle.asc_outside.specs.Memory.{zero_buckets}
+use Rattle.bus_schedule.specs.Scheduled.{log_code}
+use Rattle.bus_schedule.specs.Timetable.{public_of}
+use Rattle.bus_watch.proofs.PreparedLaws.{prepared_ready}
+use Rattle.bus_watch.specs.Log.{LogLists, TapState}
+use Rattle.epoch_learner.specs.Stands.{KeepsPace}
+use Rattle.rate_enforcer.specs.Counts.{is_dummy, is_real}
+use Rattle.secure_machine.specs.Finish.{IsRightEnding}
+use Rattle.secure_machine.specs.Run.{Reported, Wanting, IsUnprepared}
+use Rattle.secure_machine.specs.declared.report.Report.{Report}
+use Rattle.secure_machine.proofs.Starts.{on_err_with, on_err_so, on_both, start_pace, pace_bits, zero_tied, refused_tap}
+use Rattle.secure_machine.proofs.run.Goals as goal
+
+pub returns-in_err-files-clause-pace_err : goal.returns-in_err-files-clause-pace_err
+returns-in_err-files-clause-pace_err g c =
+    on_err_with c.from_residual.result (
+      0,
+      start_pace c.args.config.now (g.W.Watch.state c.args.bus.now.tap.now).log
+          c.requires.config c.requires.no_events c.requires.no_moves,
+    )
+
+pub returns-in_err-files-clause-bits : goal.returns-in_err-files-clause-bits
+returns-in_err-files-clause-bits g c =
+    let log = (g.W.Watch.state c.args.bus.now.tap.now).log in
+    pace_bits c.args.config.now 0 log c.requires.config
+    (start_pace c.args.config.now log c.requires.config c.requires.no_events c.requires.no_moves)
+
+pub returns-in_err-cache-clause-pace_err : goal.returns-in_err-cache-clause-pace_err
+returns-in_err-cache-clause-pace_err g c =
+    on_err_with c.from_residual-in_err-cache.result (
+      0,
+      start_pace c.args.config.now (g.W.Watch.state c.args.bus.now.tap.now).log
+          c.requires.config c.requires.no_events c.requires.no_moves,
+    )
+
+pub returns-in_err-cache-clause-bits : goal.returns-in_err-cache-clause-bits
+returns-in_err-cache-clause-bits g c =
+    let log = (g.W.Watch.state c.args.bus.now.tap.now).log in
+    pace_bits c.args.config.now 0 log c.requires.config
+    (start_pace c.args.config.now log c.requires.config c.requires.no_events c.requires.no_moves)
+
+pub returns-in_err-oram-clause-pace_err : goal.returns-in_err-oram-clause-pace_err
+returns-in_err-oram-clause-pace_err g c =
+    on_err_with c.from_residual-in_err-oram.result (
+      0,
+      start_pace c.args.config.now (g.W.Watch.state c.args.bus.now.tap.now).log
+          c.requires.config c.requires.no_events c.requires.no_moves,
+    )
+
+pub returns-in_err-oram-clause-bits : goal.returns-in_err-oram-clause-bits
+returns-in_err-oram-clause-bits g c =
+    let log = (g.W.Watch.state c.args.bus.now.tap.now).log in
+    pace_bits c.args.config.now 0 log c.requires.config
+    (start_pace c.args.config.now log c.requires.config c.requires.no_events c.requires.no_moves)
+
+pub prepare-requires-clause-some : goal.prepare-requires-clause-some
+prepare-requires-clause-some g c =
+    let shape = c.args.config.now.shape in
+    omega (
+      arith,
+      (shape_layered shape c.requires.config.is_shape).buckets,
+      pow_mono {i = 1} {j = shape.levels + 1} (omega arith),
+    )
+
+pub prepare-requires-clause-levels : goal.prepare-requires-clause-levels
+prepare-requires-clause-levels g c =
+    omega (arith, (shape_layered c.args.config.now.shape c.requires.config.is_shape).levels_to)
+
+pub run_prepared-requires-clause-serving : goal.run_prepared-requires-clause-serving
+run_prepared-requires-clause-serving g c =
+    let p = c.in-Ok.ensures.prepared in
+    let shape = c.args.config.now.shape in
+    let slots = c.most_slots.result in
+    let levels = (shape_layered shape c.requires.config.is_shape).levels_to in
+    let most : slots ≤ 268435457 = omega (arith, c.most_slots.ensures.few) in
+    let few : 2 * (shape.levels + 1) * slots ≤ 36 * 268435457 =
+    mul-le (2 * (shape.levels + 1)) slots 36 268435457 (omega (arith, levels)) most in
+    c.in_ok-oram.ensures.serving slots (g.M.UntrustedMemory.state c.prepare.new.self.memory.now)
+    (g.W.Watch.state c.prepare.new.self.tap.now) (ap (λ (x : LogLists). x.events) p.log ∙ c.requires.no_events)
+    (ap (λ (x : LogLists). x.moves) p.log ∙ c.requires.no_moves) c.most_slots.ensures.enough
+    (prepared_ready shape.buckets shape.levels slots p (omega (arith, few, c.requires.moved)))
+
+pub returns-in-Ok-clause-bits : goal.returns-in-Ok-clause-bits
+returns-in-Ok-clause-bits g c =
+    let config = c.args.config.now in
+    let log = (g.W.Watch.state c.run_prepared.new.bus.tap.now).log in
+    let m = g.M.UntrustedMemory.state c.prepare.new.self.memory.now in
+    let t = g.W.Watch.state c.prepare.new.self.tap.now in
+    let m2 = g.M.UntrustedMemory.state c.run_prepared.new.bus.memory.now in
+    let t2 = g.W.Watch.state c.run_prepared.new.bus.tap.now in
+    on_both (λ (report : Report). Reported config report m m2 t t2) (Wanting config m m2 t t2)
+    (log_code (public_of config) log < 2 ^ config.leak) c.run_prepared.result c.run_prepared.ensures.reported
+    c.run_prepared.ensures.wanting (λ report r. pace_bits config report.last log c.requires.config r.pace)
+    (λ w. pace_bits config w.end log c.requires.config w.pace)
+
+pub returns-in-Ok-clause-tied : goal.returns-in-Ok-clause-tied
+returns-in-Ok-clause-tied g c =
+    let shape = c.args.config.now.shape in
+    let m = g.M.UntrustedMemory.state c.args.bus.now.memory.now in
+    let m2 = g.M.UntrustedMemory.state c.prepare.new.self.memory.now in
+    let t = g.W.Watch.state c.args.bus.now.tap.now in
+    let t2 = g.W.Watch.state c.prepare.new.self.tap.now in
+    IfOk-weaker _ _ _ (λ report r. inl (r.tied m (zero_buckets shape.buckets)
+    (zero_tied shape.buckets shape.levels c.most_slots.result m m2 t t2 c.requires.no_moves c.requires.no_altered
+    c.in-Ok.ensures.prepared))) c.run_prepared.ensures.reported
+
+pub returns-in-Ok-clause-tied_err : goal.returns-in-Ok-clause-tied_err
+returns-in-Ok-clause-tied_err g c =
+    let shape = c.args.config.now.shape in
+    let m = g.M.UntrustedMemory.state c.args.bus.now.memory.now in
+    let m2 = g.M.UntrustedMemory.state c.prepare.new.self.memory.now in
+    let t = g.W.Watch.state c.args.bus.now.tap.now in
+    let t2 = g.W.Watch.state c.prepare.new.self.tap.now in
+    on_err_so _ _ c.run_prepared.result c.run_prepared.ensures.wanting
+    (λ w. inl (w.tied m (zero_buckets shape.buckets)
+    (zero_tied shape.buckets shape.levels c.most_slots.result m m2 t t2 c.requires.no_moves c.requires.no_altered
+    c.in-Ok.ensures.prepared)))
+
+pub returns-in-Err-Device-clause-pace : goal.returns-in-Err-Device-clause-pace
+returns-in-Err-Device-clause-pace g c =
+    let config = c.args.config.now in
+    let old = g.W.Watch.state c.args.bus.now.tap.now in
+    let new = g.W.Watch.state c.prepare.new.self.tap.now in
+    subst (λ (log : LogLists). KeepsPace config c.unprepared.result.last log) (sym c.in-Err-Device.ensures.prepared.log)
+    (subst (λ n. KeepsPace config n old.log) (sym (c.unprepared.ensures old).last)
+    (start_pace config old.log c.requires.config c.requires.no_events c.requires.no_moves))
+
+pub returns-in-Err-Device-clause-bits : goal.returns-in-Err-Device-clause-bits
+returns-in-Err-Device-clause-bits g c =
+    let config = c.args.config.now in
+    let old = (g.W.Watch.state c.args.bus.now.tap.now).log in
+    subst (λ (log : LogLists). log_code (public_of config) log < 2 ^ config.leak)
+    (sym c.in-Err-Device.ensures.prepared.log) (pace_bits config 0 old c.requires.config
+    (start_pace config old c.requires.config c.requires.no_events c.requires.no_moves))
+
+pub returns-in-Err-Device-clause-real : goal.returns-in-Err-Device-clause-real
+returns-in-Err-Device-clause-real g c =
+    (c.unprepared.ensures (g.W.Watch.state c.args.bus.now.tap.now)).real
+    ∙ sym (ap (λ (log : LogLists). count_by is_real log.events) c.in-Err-Device.ensures.prepared.log
+    ∙ ap (count_by is_real) c.requires.no_events)
+
+pub returns-in-Err-Device-clause-dummies : goal.returns-in-Err-Device-clause-dummies
+returns-in-Err-Device-clause-dummies g c =
+    (c.unprepared.ensures (g.W.Watch.state c.args.bus.now.tap.now)).dummies
+    ∙ sym (ap (λ (log : LogLists). count_by is_dummy log.events) c.in-Err-Device.ensures.prepared.log
+    ∙ ap (count_by is_dummy) c.requires.no_events)
+
+pub returns-in-Err-Device-clause-tied : goal.returns-in-Err-Device-clause-tied
+returns-in-Err-Device-clause-tied g c =
+    let old = g.W.Watch.state c.args.bus.now.tap.now in
+    inr (subst (λ (t : TapState). IsUnprepared c.unprepared.result old t)
+    (sym (refused_tap c.in-Err-Device.field-0 c.args.config.now.shape.buckets c.args.config.now.shape.levels
+    c.most_slots.result (g.M.UntrustedMemory.state c.args.bus.now.memory.now)
+    (g.M.UntrustedMemory.state c.prepare.new.self.memory.now) old (g.W.Watch.state c.prepare.new.self.tap.now)
+    c.in-Err-Device.ensures.prepared)) (c.unprepared.ensures old))
+
+pub returns-in-Err-Device-clause-right : goal.returns-in-Err-Device-clause-right
+returns-in-Err-Device-clause-right g c =
+    let old = g.W.Watch.state c.args.bus.now.tap.now in
+    subst (IsRightEnding c.args.config.now.budget c.args.config.now.time c.unprepared.result.instructions)
+    (sym (c.unprepared.ensures old).ending) tt
+
+pub returns-in-Err-NoMemory-clause-pace_err : goal.returns-in-Err-NoMemory-clause-pace_err
+returns-in-Err-NoMemory-clause-pace_err g c =
+    let config = c.args.config.now in
+    let old = (g.W.Watch.state c.args.bus.now.tap.now).log in (
+      0,
+      subst (KeepsPace config 0) (sym c.in-Err-NoMemory.ensures.prepared.log)
+          (start_pace config old c.requires.config c.requires.no_events c.requires.no_moves),
+    )
+
+pub returns-in-Err-NoMemory-clause-bits : goal.returns-in-Err-NoMemory-clause-bits
+returns-in-Err-NoMemory-clause-bits g c =
+    let config = c.args.config.now in
+    let old = (g.W.Watch.state c.args.bus.now.tap.now).log in
+    subst (λ (log : LogLists). log_code (public_of config) log < 2 ^ config.leak)
+    (sym c.in-Err-NoMemory.ensures.prepared.log) (pace_bits config 0 old c.requires.config
+    (start_pace config old c.requires.config c.requires.no_events c.requires.no_moves))

@@ -1,0 +1,46 @@
+-- What requests leave of a port, however many there were: answered ones, and one that is stopped.
+use Rattle.std.specs.Prelude.{◌≡◌, ◌≤◌, ℕ, List}
+use Rattle.asc_base.specs.declared.settings.Config.{Config}
+use Rattle.asc_base.specs.declared.stop.Stop.{Stop}
+use Rattle.asc_base.specs.declared.stop.Stop.TheVariants.{Integrity, StashFull, TimeUp, Device, NoMemory}
+use Rattle.asc_outside.specs.Memory.{MemoryState}
+use Rattle.asc_outside.specs.Rose.{Rose}
+use Rattle.bus_watch.specs.RunEnd.{RunEnd}
+use Rattle.bus_watch.specs.Tied.{Tied, TiedAt}
+use Rattle.epoch_learner.specs.Stands.{KeepsPace}
+use Rattle.rate_enforcer.specs.PortStep.{PortState, KeepsCount}
+use Rattle.rate_enforcer.specs.Stops.{IsEndOf}
+
+-- The configuration is the same, what was counted is counted, what was tied is tied, and faults and slots were only
+-- added to.
+pub record Goes (old new : PortState) : Type 0 where
+  pub config : new.clock.config ≡ old.clock.config
+  pub counts : KeepsCount old new
+  pub tied : (start : MemoryState) (buckets : List (List ℕ)) → Tied start buckets old.memory old.tap
+      → Tied start buckets new.memory new.tap
+  pub later : old.memory.faults ≤ new.memory.faults
+  pub real : old.clock.real ≤ new.clock.real
+
+-- Up to when the log keeps the pace after a stop. Where no slot is left, it does up to each time from the last end to
+-- the start of the slot that wasn't done, which isn't before the time of the settings.
+abbrev pub PaceAt : Config → Stop → PortState → Type 0
+PaceAt config (Integrity evidence) new = KeepsPace config new.clock.last new.tap.log
+PaceAt config (StashFull held) new = KeepsPace config new.clock.last new.tap.log
+PaceAt config (TimeUp at) new = (config.time ≤ at) × (new.clock.last ≤ at)
+    × ((end : ℕ) → new.clock.last ≤ end → end ≤ at → KeepsPace config end new.tap.log)
+PaceAt config Device new = KeepsPace config new.clock.last new.tap.log
+PaceAt config NoMemory new = KeepsPace config new.clock.last new.tap.log
+
+-- how memory and tap are tied after a stop
+abbrev pub TiedAfter : Stop → MemoryState → List (List ℕ) → PortState → Type 0
+TiedAfter stop start buckets new = (end : RunEnd) × IsEndOf stop end × TiedAt end start buckets new.memory new.tap
+
+-- The same where the last of them is stopped.
+pub record Breaks (stop : Stop) (old new : PortState) : Type 0 where
+  pub config : new.clock.config ≡ old.clock.config
+  pub counts : KeepsCount old new
+  pub tied : (start : MemoryState) (buckets : List (List ℕ)) → Tied start buckets old.memory old.tap
+      → TiedAfter stop start buckets new
+  pub later : old.memory.faults ≤ new.memory.faults
+  pub cause : stop ≡ Device → Rose old.memory.faults new.memory.faults
+  pub pace : PaceAt old.clock.config stop new

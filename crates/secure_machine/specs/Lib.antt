@@ -1,0 +1,6 @@
+pub mod Timed
+pub mod Goes
+pub mod Same
+pub mod Finish
+pub mod Runs
+pub mod Run

@@ -1,0 +1,59 @@
+-- What a run leaves of its memory and its tap.
+use Rattle.std.specs.Prelude.{◌≡◌, ◌≤◌, ◌⊎◌, ℕ, List, []}
+use Rattle.std.specs.List.{count_by}
+use Rattle.asc_base.specs.declared.settings.Config.{Config}
+use Rattle.asc_outside.specs.Memory.{MemoryState, zero_buckets}
+use Rattle.asc_outside.specs.Rose.{Rose}
+use Rattle.bus_watch.specs.Log.{TapState}
+use Rattle.bus_watch.specs.RunEnd.{RanOut}
+use Rattle.bus_watch.specs.Tied.{Tied, TiedAt}
+use Rattle.epoch_learner.specs.Stands.{KeepsPace}
+use Rattle.rate_enforcer.specs.Counts.{is_dummy, is_real}
+use Rattle.secure_machine.specs.Finish.{IsRightEnding}
+use Rattle.secure_machine.specs.declared.report.Ending.TheVariants.{Device}
+use Rattle.secure_machine.specs.declared.report.Report.{Report}
+
+-- A report over a prepared bus: the log keeps the pace up to its end, has as many starts as it says, and is tied to what
+-- the memory was asked; a failure has its cause, and the ending is right.
+pub record Reported (config : Config) (report : Report) (memory memory' : MemoryState) (tap tap' : TapState)
+    : Type 0 where
+  pub pace : KeepsPace config report.last tap'.log
+  pub real : report.real ≡ count_by is_real tap'.log.events
+  pub dummies : report.dummies ≡ count_by is_dummy tap'.log.events
+  pub tied : (start : MemoryState) (buckets : List (List ℕ)) → Tied start buckets memory tap
+      → Tied start buckets memory' tap'
+  pub later : memory.faults ≤ memory'.faults
+  pub cause : report.ending ≡ Device → Rose memory.faults memory'.faults
+  pub right : IsRightEnding config.budget config.time report.instructions report.ending
+
+-- Want of memory over a prepared bus: up to some time the log keeps the pace.
+pub record Wanting (config : Config) (memory memory' : MemoryState) (tap tap' : TapState) : Type 0 where
+  pub end : ℕ
+  pub pace : KeepsPace config end tap'.log
+  pub tied : (start : MemoryState) (buckets : List (List ℕ)) → Tied start buckets memory tap
+      → TiedAt RanOut start buckets memory' tap'
+  pub later : memory.faults ≤ memory'.faults
+
+-- The memory failed before the first slot: nothing was noted, and all numbers are 0.
+pub record IsUnprepared (report : Report) (tap tap' : TapState) : Type 0 where
+  pub tap_is : tap' ≡ tap
+  pub ending : report.ending ≡ Device
+  pub instructions : report.instructions ≡ 0
+  pub cycles : report.cycles ≡ 0
+  pub last : report.last ≡ 0
+  pub output : report.output.items ≡ []
+  pub fetches : report.fetches ≡ 0
+  pub real : report.real ≡ 0
+  pub dummies : report.dummies ≡ 0
+  pub choices : report.choices ≡ 0
+  pub code : report.code ≡ 0
+
+-- From buckets of zero bytes on memory and tap are tied, or the bus wasn't prepared.
+abbrev pub IsTiedOr : Config → Type 0 → (memory memory' : MemoryState) (tap' : TapState) → Type 0
+IsTiedOr config Otherwise memory memory' tap' =
+    Tied memory (zero_buckets config.shape.buckets) memory' tap' ⊎ Otherwise
+
+-- the same where memory ran out, maybe in the last move
+abbrev pub IsTiedButLast : Config → (memory memory' : MemoryState) (tap tap' : TapState) → Type 0
+IsTiedButLast config memory memory' tap tap' =
+    TiedAt RanOut memory (zero_buckets config.shape.buckets) memory' tap' ⊎ (tap' ≡ tap)

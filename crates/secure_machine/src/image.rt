@@ -1,0 +1,16 @@
+//! The lines of an image.
+
+ghost use Rattle.std.specs.Prelude.{◌+◌, ◌*◌, ◌≤◌, vec_len};
+
+use asc_base::Line;
+use elf_loader::Image;
+
+/// The bytes of a line of an image.
+pub(crate) fn line_of(image: &Image, line: u32) -> Line
+    requires { 64 * line + 64 ≤ vec_len image.now.bytes }
+{
+    let start = 64 * line as usize;
+    let mut bytes = [0; 64];
+    bytes.copy_from_slice(&image.bytes[start..start + 64]);
+    Line(bytes)
+}

@@ -1,0 +1,231 @@
+//! A run of a program over encrypted memory: a core over a cache over the lines of an encrypted memory, with one clock.
+//!
+//! The clock starts at 0. Image lines are written whole into the cache first, each at the cost of one cycle. Every line
+//! is asked for at the clock, which becomes the end of the last slot that it took, and the cost of an instruction is
+//! added behind its lines. Before each instruction the run ends with `Budget` where so many are finished, and else with
+//! `TimeUp` where the clock is at or after the time of the settings. After an end that is no stop of the memory's the
+//! slots up to it are dummies. Times are in cycles.
+#![tactic(auto)]
+
+mod image;
+mod laws;
+mod lines;
+mod machine;
+mod report;
+mod store;
+
+pub use laws::requests_keep_pace;
+pub use lines::TimedLines;
+pub use report::{Ending, Report};
+
+#[cfg(test)]
+mod tests;
+
+ghost use Rattle.std.specs.Prelude.{◌≡◌, ◌<◌, ◌≤◌, ◌+◌, ◌*◌, ◌^◌, ℕ, [], IfOk, OnErr};
+ghost use Rattle.std.specs.List.{count_by};
+ghost use Rattle.asc_base.specs.Settings.{IsConfig};
+ghost use Rattle.asc_base.specs.TreeShape.{olat_of};
+ghost use Rattle.asc_outside.specs.Memory.{MemoryState};
+ghost use Rattle.asc_outside.specs.Rose.{Rose};
+ghost use Rattle.bus_schedule.specs.Scheduled.{log_code};
+ghost use Rattle.bus_schedule.specs.Timetable.{public_of};
+ghost use Rattle.bus_watch.specs.Log.{TapState, LogLists};
+ghost use Rattle.bus_watch.specs.Ready.{IsReady};
+ghost use Rattle.bus_watch.specs.Same.{IsSameBus};
+ghost use Rattle.data_cache.specs.Contents.{CacheBelow};
+ghost use Rattle.elf_loader.specs.Memory.{IsImage};
+ghost use Rattle.epoch_learner.specs.Stands.{KeepsPace};
+ghost use Rattle.oram_frontend.specs.Oram.{oram_of};
+ghost use Rattle.rate_enforcer.specs.Counts.{IsCounted, is_dummy, is_real};
+ghost use Rattle.secure_machine.specs.Finish.{IsRightEnding};
+ghost use Rattle.secure_machine.specs.Run.{Reported, Wanting, IsUnprepared, IsTiedOr, IsTiedButLast};
+ghost use Rattle.secure_machine.specs.Same.{oram_over};
+ghost use Rattle.secure_machine.specs.Timed.{Serving};
+
+use crate::machine::{Course, drive};
+use asc_base::{Config, NoMemory};
+use asc_outside::UntrustedMemory;
+use bucket_codec::Codec;
+use bus_watch::{Bus, BusStop, Watch};
+use data_cache::Cache;
+use elf_loader::Image;
+use leaf_function::LeafFn;
+use oram_frontend::Oram;
+use pmmac_tags::Tagger;
+use rate_enforcer::Port;
+use rv32_core::{Core, Files, OUTPUT_LIMIT};
+use std::alloc::Global;
+use unified_tree::Tree;
+
+/// How many slots may start before the time of a configuration, at most.
+fn most_slots(config: &Config) -> u64
+    requires { IsConfig config.now }
+    ensures enough { config.now.time ≤ 64 + result * olat_of config.now.shape.levels }
+    ensures few { result ≤ 2 ^ 28 + 1 }
+{
+    config.time / config.shape.olat() + 1
+}
+
+/// An encrypted memory of zeros, before its first slot.
+fn new_oram<L: LeafFn>(
+    alloc: Global,
+    config: &Config,
+    leaf: L,
+    tagger: Tagger,
+    codec: Codec,
+) -> Result<Oram<L>, NoMemory>
+    requires config { IsConfig config.now }
+    requires levels { L.levels leaf ≡ config.now.shape.levels }
+    ensures serving { IfOk result (λ oram. (left : ℕ) (memory : MemoryState) (tap : TapState) → tap.log.events ≡ []
+        → tap.log.moves ≡ [] → config.now.time ≤ 64 + left * olat_of config.now.shape.levels
+        → IsReady config.now.shape.buckets (2 * (config.now.shape.levels + 1) * left) (6 * left) memory tap
+        → Serving (L.levels oram.port.leaves)
+        (oram_of oram.front oram.port.clock oram.port.tree oram.stop memory tap)) }
+    ensures config { IfOk result (λ oram. oram.port.clock.config ≡ config.now) }
+    ensures last { IfOk result (λ oram. oram.port.clock.last ≡ 0) }
+    ensures counts { IfOk result (λ oram. (log : LogLists) → log.events ≡ [] → IsCounted oram.port.clock log) }
+{
+    let tree = Tree::new(alloc, &config.shape, config.stash, codec)?;
+    let port = Port::new(config, leaf, tree);
+    Oram::new(alloc, config, tagger, port)
+}
+
+/// What is reported of a course.
+fn reported<L: LeafFn>(course: Course, files: Files, oram: &Oram<L>) -> Report
+    ensures instructions { result.instructions ≡ course.instructions }
+    ensures ending { result.ending ≡ course.ending }
+    ensures cycles { result.cycles ≡ course.cycles }
+    ensures last { result.last ≡ course.last }
+    ensures output { result.output.items ≡ files.output }
+    ensures fetches { result.fetches ≡ course.fetches }
+    ensures real { result.real ≡ oram.now.port.clock.real }
+    ensures dummies { result.dummies ≡ oram.now.port.clock.dummies }
+    ensures choices { result.choices ≡ oram.now.port.clock.learner.choices }
+    ensures code { result.code ≡ oram.now.port.clock.learner.code }
+{
+    let learner = oram.learner();
+    Report {
+        instructions: course.instructions,
+        ending: course.ending,
+        cycles: course.cycles,
+        last: course.last,
+        output: files.into_output(),
+        fetches: course.fetches,
+        real: oram.real(),
+        dummies: oram.dummies(),
+        choices: learner.choices,
+        code: learner.code,
+    }
+}
+
+/// What is reported where the memory failed before the first slot: no instruction, and no output.
+fn unprepared(files: Files) -> Report
+    requires { files.output ≡ [] }
+    ensures { (tap : TapState) → IsUnprepared result tap tap }
+{
+    Report {
+        instructions: 0,
+        ending: Ending::Device,
+        cycles: 0,
+        last: 0,
+        output: files.into_output(),
+        fetches: 0,
+        real: 0,
+        dummies: 0,
+        choices: 0,
+        code: 0,
+    }
+}
+
+/// A run over a prepared bus and an encrypted memory before its first slot.
+fn run_prepared<M: UntrustedMemory, W: Watch, L: LeafFn>(
+    config: &Config,
+    image: &Image,
+    mut files: Files,
+    mut cache: Cache,
+    mut oram: Oram<L>,
+    bus: &mut Bus<'_, M, W>,
+) -> Result<Report, NoMemory>
+    requires config { IsConfig config.now }
+    requires image { IsImage config.now.base config.now.size image.now }
+    requires serving { Serving (L.levels oram.port.leaves)
+        (oram_over M.state W.state oram bus.old.memory.now bus.old.tap.now) }
+    requires port { oram.port.clock.config ≡ config.now }
+    requires last { oram.port.clock.last ≡ 0 }
+    requires counted { IsCounted oram.port.clock (W.state bus.old.tap.now).log }
+    requires below { CacheBelow config.now.shape.lines cache }
+    ensures same { IsSameBus bus.old bus.new }
+    ensures reported { IfOk result (λ report. Reported config.now report (M.state bus.old.memory.now)
+        (M.state bus.new.memory.now) (W.state bus.old.tap.now) (W.state bus.new.tap.now)) }
+    ensures wanting { OnErr result (Wanting config.now (M.state bus.old.memory.now)
+        (M.state bus.new.memory.now) (W.state bus.old.tap.now) (W.state bus.new.tap.now)) }
+{
+    let mut core = Core::new(image.entry, config.base, config.size, image.heap);
+    match drive(
+        image,
+        config.base,
+        config.budget,
+        &mut core,
+        &mut files,
+        &mut cache,
+        bus,
+        &mut oram,
+    ) {
+        Ok(course) => Ok(reported(course, files, &oram)),
+        Err(NoMemory) => Err(NoMemory),
+    }
+}
+
+/// Runs an image of the configuration's memory with an input, over the memory and the tap of a bus, which it prepares.
+///
+/// `NoMemory` is want of memory. All memory for output, log and stash is taken before the first slot; after it only the
+/// held blocks, a reply that the tap keeps, the mirror and the memory's own write can want any. Where the memory fails
+/// before the first slot the ending is `Device`, and all numbers are 0.
+pub fn run<M: UntrustedMemory, W: Watch, L: LeafFn>(
+    alloc: Global,
+    config: &Config,
+    image: &Image,
+    input: &[u8],
+    leaf: L,
+    tagger: Tagger,
+    codec: Codec,
+    bus: &mut Bus<'_, M, W>,
+) -> Result<Report, NoMemory>
+    requires config { IsConfig config.now }
+    requires image { IsImage config.now.base config.now.size image.now }
+    requires levels { L.levels leaf ≡ config.now.shape.levels }
+    requires fresh { (M.state bus.old.memory.now).count ≡ 0 }
+    requires moved { (M.state bus.old.memory.now).moved < 2 ^ 62 }
+    requires no_events { (W.state bus.old.tap.now).log.events ≡ [] }
+    requires no_moves { (W.state bus.old.tap.now).log.moves ≡ [] }
+    requires no_altered { (W.state bus.old.tap.now).log.altered ≡ [] }
+    ensures same { IsSameBus bus.old bus.new }
+    ensures pace { IfOk result (λ report. KeepsPace config.now report.last (W.state bus.new.tap.now).log) }
+    ensures pace_err { OnErr result ((end : ℕ) × KeepsPace config.now end (W.state bus.new.tap.now).log) }
+    ensures bits { log_code (public_of config.now) (W.state bus.new.tap.now).log < 2 ^ config.now.leak }
+    ensures real { IfOk result (λ report. report.real ≡ count_by is_real (W.state bus.new.tap.now).log.events) }
+    ensures dummies { IfOk result (λ report. report.dummies ≡ count_by is_dummy (W.state bus.new.tap.now).log.events) }
+    ensures tied { IfOk result (λ report. IsTiedOr config.now
+        (IsUnprepared report (W.state bus.old.tap.now) (W.state bus.new.tap.now))
+        (M.state bus.old.memory.now) (M.state bus.new.memory.now) (W.state bus.new.tap.now)) }
+    ensures tied_err { OnErr result (IsTiedButLast config.now (M.state bus.old.memory.now) (M.state bus.new.memory.now)
+        (W.state bus.old.tap.now) (W.state bus.new.tap.now)) }
+    ensures faults { (M.state bus.old.memory.now).faults ≤ (M.state bus.new.memory.now).faults }
+    ensures device { IfOk result (λ report. report.ending ≡ Ending.Device
+        → Rose (M.state bus.old.memory.now).faults (M.state bus.new.memory.now).faults) }
+    ensures right { IfOk result (λ report.
+        IsRightEnding config.now.budget config.now.time report.instructions report.ending) }
+{
+    let files = Files::new(alloc, input, OUTPUT_LIMIT)?;
+    let cache = Cache::new(alloc, config.sets, config.ways)?;
+    let oram = new_oram(alloc, config, leaf, tagger, codec)?;
+    match bus.prepare(
+        config.shape.buckets,
+        config.shape.levels,
+        most_slots(config),
+    ) {
+        Ok(()) => run_prepared(config, image, files, cache, oram, bus),
+        Err(BusStop::Device) => Ok(unprepared(files)),
+        Err(BusStop::NoMemory) => Err(NoMemory),
+    }
+}

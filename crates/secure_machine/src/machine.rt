@@ -1,0 +1,321 @@
+//! The run's parts: image lines, instructions, and the end.
+
+ghost use Rattle.std.specs.Prelude.{◌≡◌, ◌<◌, ◌*◌, ◌%◌, ℕ, OnOk, IfErr, MatchResult, vec_len};
+ghost use Rattle.data_cache.specs.Contents.{CacheBelow};
+ghost use Rattle.elf_loader.specs.Memory.{IsImage};
+ghost use Rattle.rate_enforcer.specs.PortStep.{PortState};
+ghost use Rattle.secure_machine.specs.declared.machine.Cause.TheVariants.{Ends, Stops};
+ghost use Rattle.secure_machine.specs.Finish.{Halts, Settled, Short};
+ghost use Rattle.secure_machine.specs.Goes.{Breaks};
+ghost use Rattle.secure_machine.specs.Runs.{Onwards, BreaksOff, HaltsOver, Ready};
+ghost use Rattle.secure_machine.specs.Same.{IsSameLines, oram_over, timed_of};
+ghost use Rattle.secure_machine.specs.Timed.{Serving};
+ghost use Rattle.bus_watch.specs.Same.{IsSameBus};
+
+use crate::image::line_of;
+use crate::lines::TimedLines;
+use crate::report::Ending;
+use asc_base::{NoMemory, Stop};
+use asc_outside::UntrustedMemory;
+use bus_watch::{Bus, Watch};
+use data_cache::{Cache, step_cached};
+use elf_loader::Image;
+use leaf_function::LeafFn;
+use oram_frontend::Oram;
+use rv32_core::{Core, Done, Ended, Files};
+
+/// Why no more instructions come.
+#[derive(Clone, Copy)]
+pub(crate) enum Cause {
+    /// The run ends so, after the slots that start before a time.
+    Ends {
+        /// How.
+        ending: Ending,
+        /// The time.
+        until: u64,
+    },
+    /// A line was stopped.
+    Stops(Stop),
+}
+
+/// Where a run came to its end: the instructions that are finished, and the clock.
+#[derive(Clone, Copy)]
+pub(crate) struct Halted {
+    /// The instructions that are finished.
+    pub instructions: u64,
+    /// The clock after the last instruction or image line; the clock at its start where one didn't finish.
+    pub cycles: u64,
+    /// Why.
+    pub cause: Cause,
+}
+
+/// A run at its end, by its numbers.
+#[derive(Clone, Copy)]
+pub(crate) struct Course {
+    /// The instructions that are finished.
+    pub instructions: u64,
+    /// The clock.
+    pub cycles: u64,
+    /// The fetches that were answered.
+    pub fetches: u64,
+    /// How it ended.
+    pub ending: Ending,
+    /// The end of the bus's schedule.
+    pub last: u64,
+}
+
+/// Where a line was stopped.
+fn stopped(instructions: u64, cycles: u64, stop: Stop) -> Halted
+    ensures { result ≡ record { instructions = instructions; cycles = cycles; cause = Stops stop } }
+{
+    Halted {
+        instructions,
+        cycles,
+        cause: Cause::Stops(stop),
+    }
+}
+
+/// Where the run ends by itself, after the slots that start before a time.
+fn ended(instructions: u64, cycles: u64, ending: Ending, until: u64) -> Halted
+    ensures { result ≡ record { instructions = instructions; cycles = cycles; cause = Ends ending until } }
+{
+    Halted {
+        instructions,
+        cycles,
+        cause: Cause::Ends { ending, until },
+    }
+}
+
+/// An image line, written whole into the cache.
+fn load_line<M: UntrustedMemory, W: Watch, L: LeafFn>(
+    image: &Image,
+    cache: &mut Cache,
+    lines: &mut TimedLines<'_, '_, M, W, L>,
+    line: u32,
+) -> Result<(), Stop>
+    requires line { line < lines.old.count }
+    requires bytes { vec_len image.now.bytes ≡ 64 * lines.old.count }
+    requires ready { Ready M.state W.state L.levels lines.old }
+    requires below { CacheBelow lines.old.count cache.old }
+    ensures onwards { OnOk result (Onwards M.state W.state L.levels lines.old lines.new) }
+    ensures breaks { IfErr result (λ stop. BreaksOff M.state W.state L.levels stop lines.old lines.new) }
+    ensures below { OnOk result (CacheBelow lines.new.count cache.new) }
+{
+    match cache.write_line(lines, line, &line_of(image, line)) {
+        Ok(()) => {}
+        Err(stop) => return Err(stop),
+    }
+    lines.spend(1);
+    Ok(())
+}
+
+/// The image lines, in rising order.
+fn load<M: UntrustedMemory, W: Watch, L: LeafFn>(
+    image: &Image,
+    cache: &mut Cache,
+    lines: &mut TimedLines<'_, '_, M, W, L>,
+    base: u32,
+    budget: u64,
+) -> Result<(), Halted>
+    requires image { IsImage base (64 * lines.old.count) image.now }
+    requires ready { Ready M.state W.state L.levels lines.old }
+    requires below { CacheBelow lines.old.count cache.old }
+    ensures onwards { OnOk result (Onwards M.state W.state L.levels lines.old lines.new) }
+    ensures halts { IfErr result (λ halted. HaltsOver M.state W.state L.levels budget halted lines.old lines.new) }
+    ensures below { OnOk result (CacheBelow lines.new.count cache.new) }
+{
+    for at in 0..image.marked.len() {
+        let start = lines.clock;
+        match load_line(image, cache, lines, image.marked[at]) {
+            Ok(()) => {}
+            Err(stop) => return Err(stopped(0, start, stop)),
+        }
+    }
+    Ok(())
+}
+
+/// A step of the core, and its cost.
+fn step<M: UntrustedMemory, W: Watch, L: LeafFn>(
+    core: &mut Core,
+    files: &mut Files,
+    cache: &mut Cache,
+    lines: &mut TimedLines<'_, '_, M, W, L>,
+    base: u32,
+) -> Result<Done, Stop>
+    requires base { base ≡ core.old.base }
+    requires aligned { base % 64 ≡ 0 }
+    requires size { core.old.size ≡ 64 * lines.old.count }
+    requires ready { Ready M.state W.state L.levels lines.old }
+    requires below { CacheBelow lines.old.count cache.old }
+    ensures same_base { core.new.base ≡ core.old.base }
+    ensures same_size { core.new.size ≡ core.old.size }
+    ensures onwards { OnOk result (Onwards M.state W.state L.levels lines.old lines.new) }
+    ensures breaks { IfErr result (λ stop. BreaksOff M.state W.state L.levels stop lines.old lines.new) }
+    ensures below { OnOk result (CacheBelow lines.new.count cache.new) }
+{
+    let done = match step_cached(core, files, base, cache, lines) {
+        Ok(done) => done,
+        Err(stop) => return Err(stop),
+    };
+    lines.spend(done.cost);
+    Ok(done)
+}
+
+/// One instruction, where time is left, after so many.
+fn instruction<M: UntrustedMemory, W: Watch, L: LeafFn>(
+    core: &mut Core,
+    files: &mut Files,
+    cache: &mut Cache,
+    lines: &mut TimedLines<'_, '_, M, W, L>,
+    base: u32,
+    budget: u64,
+    before: u64,
+) -> Result<(), Halted>
+    requires base { base ≡ core.old.base }
+    requires aligned { base % 64 ≡ 0 }
+    requires size { core.old.size ≡ 64 * lines.old.count }
+    requires few { before < budget }
+    requires ready { Ready M.state W.state L.levels lines.old }
+    requires below { CacheBelow lines.old.count cache.old }
+    ensures same_base { core.new.base ≡ core.old.base }
+    ensures same_size { core.new.size ≡ core.old.size }
+    ensures onwards { OnOk result (Onwards M.state W.state L.levels lines.old lines.new) }
+    ensures halts { IfErr result (λ halted. HaltsOver M.state W.state L.levels budget halted lines.old lines.new) }
+    ensures below { OnOk result (CacheBelow lines.new.count cache.new) }
+{
+    let time = lines.time();
+    let start = lines.clock;
+    if start >= time {
+        return Err(ended(before, start, Ending::TimeUp { at: start }, time));
+    }
+    let done = match step(core, files, cache, lines, base) {
+        Ok(done) => done,
+        Err(stop) => return Err(stopped(before, start, stop)),
+    };
+    match done.ended {
+        Ended::No => Ok(()),
+        Ended::Exit { status } => {
+            let cycles = lines.clock;
+            Err(ended(
+                before + 1,
+                cycles,
+                Ending::Exit { status },
+                cycles.min(time),
+            ))
+        }
+        Ended::Trap { kind, pc } => Err(ended(before, start, Ending::Trap { kind, pc }, start)),
+    }
+}
+
+/// The image lines, and so many instructions at most.
+fn play<M: UntrustedMemory, W: Watch, L: LeafFn>(
+    image: &Image,
+    base: u32,
+    budget: u64,
+    core: &mut Core,
+    files: &mut Files,
+    cache: &mut Cache,
+    lines: &mut TimedLines<'_, '_, M, W, L>,
+) -> Halted
+    requires base { base ≡ core.old.base }
+    requires aligned { base % 64 ≡ 0 }
+    requires size { core.old.size ≡ 64 * lines.old.count }
+    requires image { IsImage base (64 * lines.old.count) image.now }
+    requires ready { Ready M.state W.state L.levels lines.old }
+    requires below { CacheBelow lines.old.count cache.old }
+    ensures halts { HaltsOver M.state W.state L.levels budget result lines.old lines.new }
+{
+    match load(image, cache, lines, base, budget) {
+        Ok(()) => {}
+        Err(halted) => return halted,
+    }
+    for before in 0..budget {
+        match instruction(core, files, cache, lines, base, budget, before) {
+            Ok(()) => {}
+            Err(halted) => return halted,
+        }
+    }
+    let cycles = lines.clock;
+    ended(budget, cycles, Ending::Budget, cycles.min(lines.time()))
+}
+
+/// How a stop ends the run, and when.
+fn ending_of<M: UntrustedMemory, W: Watch, L: LeafFn>(
+    stop: Stop,
+    lines: &TimedLines<'_, '_, M, W, L>,
+) -> Result<(Ending, u64), NoMemory>
+    ensures { (budget instructions : ℕ) (old : PortState) → Breaks stop old (timed_of M.state W.state lines.now).oram.port
+        → MatchResult result
+        (λ (ending, last). Settled budget instructions ending last old (timed_of M.state W.state lines.now).oram.port)
+        (λ _. Short old (timed_of M.state W.state lines.now).oram.port) }
+{
+    let last = lines.oram.last();
+    match stop {
+        Stop::Integrity(evidence) => Ok((Ending::Integrity(evidence), last)),
+        Stop::StashFull { held } => Ok((Ending::StashFull { held }, last)),
+        Stop::TimeUp { at } => Ok((Ending::TimeUp { at }, last.max(lines.time()))),
+        Stop::Device => Ok((Ending::Device, last)),
+        Stop::NoMemory => Err(NoMemory),
+    }
+}
+
+/// The slots behind the last instruction, a stop of which is the ending; and when the run's schedule ends.
+fn finish<M: UntrustedMemory, W: Watch, L: LeafFn>(
+    halted: Halted,
+    lines: &mut TimedLines<'_, '_, M, W, L>,
+    budget: u64,
+) -> Result<(Ending, u64), NoMemory>
+    requires halts { (first : PortState) × Halts budget (L.levels lines.old.oram.now.port.leaves) halted first (timed_of M.state W.state lines.old).oram }
+    ensures same { IsSameLines lines.old lines.new }
+    ensures settled { (first : PortState) → Halts budget (L.levels lines.old.oram.now.port.leaves) halted first (timed_of M.state W.state lines.old).oram
+        → MatchResult result
+        (λ (ending, last). Settled budget halted.instructions ending last first (timed_of M.state W.state lines.new).oram.port)
+        (λ _. Short first (timed_of M.state W.state lines.new).oram.port) }
+{
+    match halted.cause {
+        Cause::Ends { ending, until } => match lines.idle_until(until) {
+            Ok(last) => Ok((ending, last)),
+            Err(stop) => ending_of(stop, lines),
+        },
+        Cause::Stops(stop) => ending_of(stop, lines),
+    }
+}
+
+/// A whole run over a prepared bus.
+pub(crate) fn drive<M: UntrustedMemory, W: Watch, L: LeafFn>(
+    image: &Image,
+    base: u32,
+    budget: u64,
+    core: &mut Core,
+    files: &mut Files,
+    cache: &mut Cache,
+    bus: &mut Bus<'_, M, W>,
+    oram: &mut Oram<L>,
+) -> Result<Course, NoMemory>
+    requires base { base ≡ core.old.base }
+    requires aligned { base % 64 ≡ 0 }
+    requires size { core.old.size ≡ 64 * oram.old.port.clock.config.shape.lines }
+    requires image { IsImage base core.old.size image.now }
+    requires serving { Serving (L.levels oram.old.port.leaves)
+        (oram_over M.state W.state oram.old bus.old.memory.now bus.old.tap.now) }
+    requires fresh { oram.old.port.clock.last ≡ 0 }
+    requires below { CacheBelow oram.old.port.clock.config.shape.lines cache.old }
+    ensures same { IsSameBus bus.old bus.new }
+    ensures settled { MatchResult result
+        (λ course. Settled budget course.instructions course.ending course.last
+        (oram_over M.state W.state oram.old bus.old.memory.now bus.old.tap.now).port
+        (oram_over M.state W.state oram.new bus.new.memory.now bus.new.tap.now).port)
+        (λ _. Short (oram_over M.state W.state oram.old bus.old.memory.now bus.old.tap.now).port
+        (oram_over M.state W.state oram.new bus.new.memory.now bus.new.tap.now).port) }
+{
+    let mut lines = TimedLines::new(bus.memory, bus.tap, oram);
+    let halted = play(image, base, budget, core, files, cache, &mut lines);
+    let (ending, last) = finish(halted, &mut lines, budget)?;
+    Ok(Course {
+        instructions: halted.instructions,
+        cycles: halted.cycles,
+        fetches: lines.fetches,
+        ending,
+        last,
+    })
+}
