@@ -16,7 +16,8 @@ use Rattle.rate_enforcer.specs.PortStep.{PortState, Idle}
 use Rattle.secure_machine.specs.Goes.{Goes, Breaks}
 use Rattle.secure_machine.specs.Timed.{Serving}
 use Rattle.secure_machine.proofs.PortGoes.{step_goes, plan_goes, idle_breaks}
-use Rattle.secure_machine.proofs.WalkGoes.{Any, Behind, Fits, fits_bind, request_fits, Walked, walked_none, walk_ends, walk_stops, behind_took}
+use Rattle.secure_machine.proofs.WalkGoes.{Any, Behind, Fits, fits_bind, request_fits, Walked, walked_none, walk_ends}
+use Rattle.secure_machine.proofs.WalkGoes.{walk_stops, behind_took}
 
 fetch_fits : (state : FrontState) (asked line : ℕ) → Fits false Any (fetch_plan state asked line)
 fetch_fits state asked line =

@@ -12,7 +12,8 @@ use Rattle.rate_enforcer.specs.Stops.{IsEndOf}
 use Rattle.secure_machine.specs.Goes.{Goes, Breaks}
 use Rattle.secure_machine.specs.Finish.{Settled, Short, IsOwnEnding, IsRightEnding}
 use Rattle.secure_machine.specs.declared.report.Ending.{Ending}
-use Rattle.secure_machine.specs.declared.report.Ending.TheVariants.{Exit, Trap, Budget, TimeUp, StashFull, Integrity, Device}
+use Rattle.secure_machine.specs.declared.report.Ending.TheVariants.{Exit, Trap, Budget, TimeUp, StashFull, Integrity}
+use Rattle.secure_machine.specs.declared.report.Ending.TheVariants.{Device}
 
 -- an ending of the run's own is right, and no failure
 own_right : (budget time instructions : ℕ) (ending : Ending) → IsOwnEnding budget time instructions ending

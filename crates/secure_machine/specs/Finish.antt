@@ -13,7 +13,8 @@ use Rattle.secure_machine.specs.declared.machine.Cause.{Cause}
 use Rattle.secure_machine.specs.declared.machine.Cause.TheVariants.{Ends, Stops}
 use Rattle.secure_machine.specs.declared.machine.Halted.{Halted}
 use Rattle.secure_machine.specs.declared.report.Ending.{Ending}
-use Rattle.secure_machine.specs.declared.report.Ending.TheVariants.{Exit, Trap, Budget, TimeUp, StashFull, Integrity, Device}
+use Rattle.secure_machine.specs.declared.report.Ending.TheVariants.{Exit, Trap, Budget, TimeUp, StashFull, Integrity}
+use Rattle.secure_machine.specs.declared.report.Ending.TheVariants.{Device}
 
 -- An ending that comes by itself, after so many instructions: at the budget all of it is used, and when time is up the
 -- time of the settings is reached.

@@ -244,7 +244,8 @@ fn ending_of<M: UntrustedMemory, W: Watch, L: LeafFn>(
     stop: Stop,
     lines: &TimedLines<'_, '_, M, W, L>,
 ) -> Result<(Ending, u64), NoMemory>
-    ensures { (budget instructions : ℕ) (old : PortState) → Breaks stop old (timed_of M.state W.state lines.now).oram.port
+    ensures { (budget instructions : ℕ) (old : PortState)
+        → Breaks stop old (timed_of M.state W.state lines.now).oram.port
         → MatchResult result
         (λ (ending, last). Settled budget instructions ending last old (timed_of M.state W.state lines.now).oram.port)
         (λ _. Short old (timed_of M.state W.state lines.now).oram.port) }
@@ -265,11 +266,14 @@ fn finish<M: UntrustedMemory, W: Watch, L: LeafFn>(
     lines: &mut TimedLines<'_, '_, M, W, L>,
     budget: u64,
 ) -> Result<(Ending, u64), NoMemory>
-    requires halts { (first : PortState) × Halts budget (L.levels lines.old.oram.now.port.leaves) halted first (timed_of M.state W.state lines.old).oram }
+    requires halts { (first : PortState) × Halts budget (L.levels lines.old.oram.now.port.leaves) halted first
+        (timed_of M.state W.state lines.old).oram }
     ensures same { IsSameLines lines.old lines.new }
-    ensures settled { (first : PortState) → Halts budget (L.levels lines.old.oram.now.port.leaves) halted first (timed_of M.state W.state lines.old).oram
+    ensures settled { (first : PortState) → Halts budget (L.levels lines.old.oram.now.port.leaves) halted first
+        (timed_of M.state W.state lines.old).oram
         → MatchResult result
-        (λ (ending, last). Settled budget halted.instructions ending last first (timed_of M.state W.state lines.new).oram.port)
+        (λ (ending, last). Settled budget halted.instructions ending last first
+        (timed_of M.state W.state lines.new).oram.port)
         (λ _. Short first (timed_of M.state W.state lines.new).oram.port) }
 {
     match halted.cause {
