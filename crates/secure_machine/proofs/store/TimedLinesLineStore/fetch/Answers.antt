@@ -43,7 +43,7 @@ returns-in-Ok g c =
         c.line_of.ensures.line,
         fetched keys levels self.count (timed_of g.M.UntrustedMemory.state g.W.Watch.state self) new c.args.line
             c.in-Ok.end (record { 0 = c.line_of.result.0 }) c.requires.ready
-                (record { shape = refl; pads = refl }) step serves
+            (record { shape = refl; pads = refl }) step serves
             c.in-Ok.ensures.last,
       ),
     )
