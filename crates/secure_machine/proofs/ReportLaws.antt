@@ -24,7 +24,8 @@ config_lines config is =
     ∙ shape_lines (config.size / 64) config.roots in
     omega (arith, lines, is.memory.size_pages)
 
-pub reported_of : (config : Config) (report : Report) (instructions cycles last : ℕ) (ending : Ending) (old new : PortState)
+pub reported_of : (config : Config) (report : Report) (instructions cycles last : ℕ) (ending : Ending)
+    (old new : PortState)
     → old.clock.config ≡ config → IsCounted old.clock old.tap.log
     → Settled config.budget instructions cycles ending last old new
     → report.instructions ≡ instructions → report.cycles ≡ cycles → report.ending ≡ ending → report.last ≡ last

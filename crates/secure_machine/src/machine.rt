@@ -247,7 +247,8 @@ fn ending_of<M: UntrustedMemory, W: Watch, L: LeafFn>(
     ensures { (budget instructions cycles : ℕ) (old : PortState)
         → Breaks stop old (timed_of M.state W.state lines.now).oram.port
         → MatchResult result
-        (λ (ending, last). Settled budget instructions cycles ending last old (timed_of M.state W.state lines.now).oram.port)
+        (λ (ending, last). Settled budget instructions cycles ending last old (timed_of M.state W.state
+        lines.now).oram.port)
         (λ _. Short old (timed_of M.state W.state lines.now).oram.port) }
 {
     let last = lines.oram.last();
