@@ -80,7 +80,8 @@ module _ {M W L : Type 0} (memory_of : M → MemoryState) (tap_of : W → TapSta
       (timed_of memory_of tap_of t) request bytes h.1))
 
   onwards_keep : (first s t : TimedLines M W L) (request : LineRequest) (bytes : List ℕ)
-      → LinesStep s request (Ok bytes) t → Onwards memory_of tap_of levels_of first s → Onwards memory_of tap_of levels_of first t
+      → LinesStep s request (Ok bytes) t → Onwards memory_of tap_of levels_of first s
+      → Onwards memory_of tap_of levels_of first t
   onwards_keep first s t request bytes h on = record {
     same = same_then on.same h.0;
     goes = goes_then on.goes (timed_goes (keys_in leaf_of s) (levels_of s.oram.now.port.leaves) s.count
@@ -89,17 +90,24 @@ module _ {M W L : Type 0} (memory_of : M → MemoryState) (tap_of : W → TapSta
     ready = ready_next s t request bytes h;
   }
 
-  pub onwards_none : (s : TimedLines M W L) → Ready memory_of tap_of levels_of s → Onwards memory_of tap_of levels_of s s
-  onwards_none s ready = record { same = same_lines s; goes = goes_none (port memory_of tap_of levels_of s); ready = ready }
+  pub onwards_none : (s : TimedLines M W L) → Ready memory_of tap_of levels_of s
+      → Onwards memory_of tap_of levels_of s s
+  onwards_none s ready = record {
+    same = same_lines s;
+    goes = goes_none (port memory_of tap_of levels_of s);
+    ready = ready;
+  }
 
   pub chain_goes : {B A : Type 0} (plan : Plan LineRequest (List ℕ) B A) (s t : TimedLines M W L) (outcome : A)
       → Ready memory_of tap_of levels_of s → Ends LinesStep plan s t outcome → Onwards memory_of tap_of levels_of s t
   chain_goes plan s t outcome ready ends =
-      (Ends-narrows LinesStep (Onwards memory_of tap_of levels_of s) (λ u v q x one on. onwards_keep s u v q x one on) plan s t outcome
+      (Ends-narrows LinesStep (Onwards memory_of tap_of levels_of s)
+      (λ u v q x one on. onwards_keep s u v q x one on) plan s t outcome
       (onwards_none s ready) ends).1
 
   halted_last : (first s t : TimedLines M W L) (request : LineRequest) (stop : Stop)
-      → Within (Onwards memory_of tap_of levels_of first) LinesStep s request (Err stop) t → BreaksOff memory_of tap_of levels_of stop first t
+      → Within (Onwards memory_of tap_of levels_of first) LinesStep s request (Err stop) t
+      → BreaksOff memory_of tap_of levels_of stop first t
   halted_last first s t request stop (on, h) = record {
     same = same_then on.same h.0;
     breaks = breaks_then on.goes (timed_breaks (keys_in leaf_of s) (levels_of s.oram.now.port.leaves) s.count
@@ -108,10 +116,14 @@ module _ {M W L : Type 0} (memory_of : M → MemoryState) (tap_of : W → TapSta
   }
 
   pub chain_breaks : {B A : Type 0} (plan : Plan LineRequest (List ℕ) B A) (s t : TimedLines M W L) (stop : Stop)
-      (left : B) → Ready memory_of tap_of levels_of s → Stops LinesStep plan s t stop left → BreaksOff memory_of tap_of levels_of stop s t
+      (left : B) → Ready memory_of tap_of levels_of s → Stops LinesStep plan s t stop left
+      → BreaksOff memory_of tap_of levels_of stop s t
   chain_breaks plan s t stop left ready stops =
-      Stops-last (Within (Onwards memory_of tap_of levels_of s) LinesStep) (λ e u. BreaksOff memory_of tap_of levels_of e s u) (λ u v q e one. halted_last s u v q e one) plan s t stop left
-      (Stops-narrows LinesStep (Onwards memory_of tap_of levels_of s) (λ u v q x one on. onwards_keep s u v q x one on) plan s t stop left
+      Stops-last (Within (Onwards memory_of tap_of levels_of s) LinesStep)
+      (λ e u. BreaksOff memory_of tap_of levels_of e s u)
+      (λ u v q e one. halted_last s u v q e one) plan s t stop left
+      (Stops-narrows LinesStep (Onwards memory_of tap_of levels_of s)
+      (λ u v q x one on. onwards_keep s u v q x one on) plan s t stop left
       (onwards_none s ready) stops)
 
   -- more cycles on the clock
@@ -145,27 +157,28 @@ module _ {M W L : Type 0} (memory_of : M → MemoryState) (tap_of : W → TapSta
     halts = breaks_then on.goes off.breaks;
   }
 
-  halts_by : (budget levels instructions : ℕ) (cause : Cause) (old mid : PortState) (new : OramState)
-      → Goes old mid → HaltsBy budget levels instructions cause mid new → HaltsBy budget levels instructions cause old new
-  halts_by budget levels instructions (EndsBy ending until) old mid new on h = (
+  halts_by : (budget levels instructions cycles : ℕ) (cause : Cause) (old mid : PortState) (new : OramState)
+      → Goes old mid → HaltsBy budget levels instructions cycles cause mid new
+      → HaltsBy budget levels instructions cycles cause old new
+  halts_by budget levels instructions cycles (EndsBy ending until) old mid new on h = (
     goes_then on h.0,
     h.1,
     h.2,
-    subst (λ (config : Config). IsOwnEnding budget config.time instructions ending) on.config h.3,
+    subst (λ (config : Config). IsOwnEnding budget config.time instructions cycles until ending) on.config h.3,
   )
-  halts_by budget levels instructions (StopsBy stop) old mid new on h = breaks_then on h
+  halts_by budget levels instructions cycles (StopsBy stop) old mid new on h = breaks_then on h
 
   pub halts_later : (budget : ℕ) (halted : Halted) (s t u : TimedLines M W L) → Onwards memory_of tap_of levels_of s t
       → HaltsOver memory_of tap_of levels_of budget halted t u → HaltsOver memory_of tap_of levels_of budget halted s u
   halts_later budget halted s t u on h = record {
     same = same_then on.same h.same;
-    halts = halts_by budget _ halted.instructions halted.cause _ _ _ on.goes h.halts;
+    halts = halts_by budget _ halted.instructions halted.cycles halted.cause _ _ _ on.goes h.halts;
   }
 
   -- an end of the run's own
   pub ends_after : (budget instructions cycles until : ℕ) (ending : Ending) (s t : TimedLines M W L)
       → Onwards memory_of tap_of levels_of s t → until ≤ t.oram.now.port.clock.config.time
-      → IsOwnEnding budget s.oram.now.port.clock.config.time instructions ending
+      → IsOwnEnding budget s.oram.now.port.clock.config.time instructions cycles until ending
       → HaltsOver memory_of tap_of levels_of budget
       (record { instructions = instructions; cycles = cycles; cause = EndsBy ending until }) s t
   ends_after budget instructions cycles until ending s t on early own = record {

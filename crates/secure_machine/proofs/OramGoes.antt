@@ -1,5 +1,5 @@
 -- What requests of an encrypted memory leave.
-use Rattle.std.proofs.Common.{◌<◌, ℕ, None, Ok, Err, sym, subst, inl, inr, arith, false}
+use Rattle.std.proofs.Common.{◌<◌, ℕ, None, Ok, Err, sym, subst, inl, inr, arith, false, ◌≤◌}
 use Rattle.request_plan.proofs.Chains.{Ends-unbind}
 use Rattle.asc_base.specs.declared.block.Line.{Line}
 use Rattle.asc_base.specs.declared.stop.Stop.{Stop}
@@ -16,7 +16,8 @@ use Rattle.rate_enforcer.specs.PortStep.{PortState, Idle}
 use Rattle.secure_machine.specs.Goes.{Goes, Breaks}
 use Rattle.secure_machine.specs.Timed.{Serving}
 use Rattle.secure_machine.proofs.PortGoes.{step_goes, plan_goes, idle_breaks}
-use Rattle.secure_machine.proofs.WalkGoes.{Any, Behind, Fits, fits_bind, request_fits, Walked, walked_none, walk_ends, walk_stops, behind_took}
+use Rattle.secure_machine.proofs.WalkGoes.{Any, Behind, Fits, fits_bind, request_fits, Walked, walked_none, walk_ends}
+use Rattle.secure_machine.proofs.WalkGoes.{walk_stops, behind_took}
 
 fetch_fits : (state : FrontState) (asked line : ℕ) → Fits false Any (fetch_plan state asked line)
 fetch_fits state asked line =
@@ -73,6 +74,10 @@ module _ (keys : Keys) (levels : ℕ) (old new : OramState) (fits : FitKeys keys
         let still = plan_goes keys.leaf_of levels (serve_plan keys (Answer line (a.1).line)) mid last _ note in
         subst (λ (t : PortState). old.port.clock.real < t.clock.real) (sym done.1)
         (omega (arith, behind_took keys levels old.port b behind mid walked, still.real))
+
+    -- a wait ends no earlier than was asked
+    pub wait_after : (time : ℕ) (told : Told) → OramStep keys levels old (Wait time) (Ok told) new → time ≤ told.end
+    wait_after time told (serves, is, front, one) = omega (arith, one.1.end_is)
 
     -- the log keeps the pace up to the end of a wait
     pub wait_pace : (time : ℕ) (told : Told) → OramStep keys levels old (Wait time) (Ok told) new

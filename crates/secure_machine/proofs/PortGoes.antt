@@ -14,7 +14,8 @@ use Rattle.bus_watch.specs.Tied.{Tied}
 use Rattle.epoch_learner.proofs.StandLaws.{stands_pace, stands_next}
 use Rattle.epoch_learner.specs.Stands.{KeepsPace}
 use Rattle.rate_enforcer.specs.Counts.{IsCounted}
-use Rattle.rate_enforcer.specs.PortStep.{PortState, PortStep, PortRequest, Open, Take, Note, Put, Close, Abort, Join, Idle, Said, Used, KeepsCount, Resting, HandOnly}
+use Rattle.rate_enforcer.specs.PortStep.{PortState, PortStep, PortRequest, Open, Take, Note, Put, Close, Abort, Join}
+use Rattle.rate_enforcer.specs.PortStep.{Idle, Said, Used, KeepsCount, Resting, HandOnly}
 use Rattle.rate_enforcer.specs.PortStep.{OpenStopped, CloseStopped, IdleStopped, Aborted}
 use Rattle.rate_enforcer.specs.Stops.{IsEndOf}
 use Rattle.rate_enforcer.specs.declared.clock.Clock.{Clock}

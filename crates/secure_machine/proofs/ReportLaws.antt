@@ -24,13 +24,14 @@ config_lines config is =
     ∙ shape_lines (config.size / 64) config.roots in
     omega (arith, lines, is.memory.size_pages)
 
-pub reported_of : (config : Config) (report : Report) (instructions last : ℕ) (ending : Ending) (old new : PortState)
+pub reported_of : (config : Config) (report : Report) (instructions cycles last : ℕ) (ending : Ending)
+    (old new : PortState)
     → old.clock.config ≡ config → IsCounted old.clock old.tap.log
-    → Settled config.budget instructions ending last old new
-    → report.instructions ≡ instructions → report.ending ≡ ending → report.last ≡ last
+    → Settled config.budget instructions cycles ending last old new
+    → report.instructions ≡ instructions → report.cycles ≡ cycles → report.ending ≡ ending → report.last ≡ last
     → report.real ≡ new.clock.real → report.dummies ≡ new.clock.dummies
     → Reported config report old.memory new.memory old.tap new.tap
-reported_of config report instructions last ending old new same counted s is ends up real dummies =
+reported_of config report instructions cycles last ending old new same counted s is ran ends up real dummies =
     let counts = s.counts counted in
     record {
       pace = subst (λ (c : Config). KeepsPace c report.last new.tap.log) same
@@ -40,7 +41,11 @@ reported_of config report instructions last ending old new same counted s is end
       tied = s.tied;
       later = s.later;
       cause = λ failed. s.cause (sym ends ∙ failed);
-      right = subst (λ (c : Config). IsRightEnding config.budget c.time report.instructions report.ending) same
-          (subst (λ n. IsRightEnding config.budget old.clock.config.time n report.ending) (sym is)
-          (subst (IsRightEnding config.budget old.clock.config.time instructions) (sym ends) s.right));
+      right = subst (λ (c : Config). IsRightEnding config.budget c.time report.instructions report.cycles report.last
+          report.ending) same
+          (subst (λ n. IsRightEnding config.budget old.clock.config.time n report.cycles report.last report.ending)
+          (sym is) (subst (λ n. IsRightEnding config.budget old.clock.config.time instructions n report.last
+          report.ending) (sym ran) (subst (λ n. IsRightEnding config.budget old.clock.config.time instructions cycles n
+          report.ending) (sym up) (subst (IsRightEnding config.budget old.clock.config.time instructions cycles last)
+          (sym ends) s.right))));
     }

@@ -1,5 +1,5 @@
 -- How a run is settled.
-use Rattle.std.proofs.Common.{◌≡◌, ◌∙◌, ℕ, List, max, refl, subst, inl, inr, arith}
+use Rattle.std.proofs.Common.{◌≡◌, ◌∙◌, ℕ, List, max, refl, subst, inl, inr, arith, ◌≤◌}
 use Rattle.asc_base.specs.declared.settings.Config.{Config}
 use Rattle.asc_base.specs.declared.stop.Evidence.{Evidence}
 use Rattle.asc_base.specs.declared.stop.Stop.TheVariants as stop
@@ -12,46 +12,49 @@ use Rattle.rate_enforcer.specs.Stops.{IsEndOf}
 use Rattle.secure_machine.specs.Goes.{Goes, Breaks}
 use Rattle.secure_machine.specs.Finish.{Settled, Short, IsOwnEnding, IsRightEnding}
 use Rattle.secure_machine.specs.declared.report.Ending.{Ending}
-use Rattle.secure_machine.specs.declared.report.Ending.TheVariants.{Exit, Trap, Budget, TimeUp, StashFull, Integrity, Device}
+use Rattle.secure_machine.specs.declared.report.Ending.TheVariants.{Exit, Trap, Budget, TimeUp, StashFull, Integrity}
+use Rattle.secure_machine.specs.declared.report.Ending.TheVariants.{Device}
 
 -- an ending of the run's own is right, and no failure
-own_right : (budget time instructions : ℕ) (ending : Ending) → IsOwnEnding budget time instructions ending
-    → IsRightEnding budget time instructions ending
-own_right budget time instructions (Exit status) h = tt
-own_right budget time instructions (Trap kind pc) h = tt
-own_right budget time instructions Budget h = h
-own_right budget time instructions (TimeUp at) h = h
-own_right budget time instructions (StashFull held) h = absurd h
-own_right budget time instructions (Integrity evidence) h = absurd h
-own_right budget time instructions Device h = absurd h
+own_right : (budget time instructions cycles until last : ℕ) (ending : Ending)
+    → IsOwnEnding budget time instructions cycles until ending → until ≤ last
+    → IsRightEnding budget time instructions cycles last ending
+own_right budget time instructions cycles until last (Exit status) h after = omega (arith, h, after)
+own_right budget time instructions cycles until last (Trap kind pc) h after = omega (arith, h, after)
+own_right budget time instructions cycles until last Budget h after = (h.0, omega (arith, h.1, after))
+own_right budget time instructions cycles until last (TimeUp at) h after = (h.0, omega (arith, h.1, after))
+own_right budget time instructions cycles until last (StashFull held) h after = absurd h
+own_right budget time instructions cycles until last (Integrity evidence) h after = absurd h
+own_right budget time instructions cycles until last Device h after = absurd h
 
-own_none : (budget time instructions : ℕ) (ending : Ending) → IsOwnEnding budget time instructions ending
-    → ending ≡ Device → ⊥
-own_none budget time instructions ending h is = subst (IsOwnEnding budget time instructions) is h
+own_none : (budget time instructions cycles until : ℕ) (ending : Ending)
+    → IsOwnEnding budget time instructions cycles until ending → ending ≡ Device → ⊥
+own_none budget time instructions cycles until ending h is =
+    subst (IsOwnEnding budget time instructions cycles until) is h
 
 -- after the slots that were still to be done
-pub idle_settles : (budget instructions last : ℕ) (ending : Ending) (old mid new : PortState)
-    → Goes old mid → Goes mid new → KeepsPace mid.clock.config last new.tap.log
-    → IsOwnEnding budget old.clock.config.time instructions ending
-    → Settled budget instructions ending last old new
-idle_settles budget instructions last ending old mid new one two pace own = record {
+pub idle_settles : (budget instructions cycles until last : ℕ) (ending : Ending) (old mid new : PortState)
+    → Goes old mid → Goes mid new → KeepsPace mid.clock.config last new.tap.log → until ≤ last
+    → IsOwnEnding budget old.clock.config.time instructions cycles until ending
+    → Settled budget instructions cycles ending last old new
+idle_settles budget instructions cycles until last ending old mid new one two pace after own = record {
   config = two.config ∙ one.config;
   counts = λ counted. two.counts (one.counts counted);
   tied = λ start buckets tied. two.tied start buckets (one.tied start buckets tied);
   later = omega (arith, one.later, two.later);
-  cause = λ is. absurd (own_none budget old.clock.config.time instructions ending own is);
+  cause = λ is. absurd (own_none budget old.clock.config.time instructions cycles until ending own is);
   pace = subst (λ (config : Config). KeepsPace config last new.tap.log) one.config pace;
-  right = own_right budget old.clock.config.time instructions ending own;
+  right = own_right budget old.clock.config.time instructions cycles until last ending own after;
 }
 
-module _ (budget instructions : ℕ) (old new : PortState) where
+module _ (budget instructions cycles : ℕ) (old new : PortState) where
   -- where nothing is left open, memory and tap are tied
   whole : (end : RunEnd) → end ≡ Whole → (start : MemoryState) (buckets : List (List ℕ))
       → TiedAt end start buckets new.memory new.tap → Tied start buckets new.memory new.tap
   whole end is start buckets tied = subst (λ e. TiedAt e start buckets new.memory new.tap) is tied
 
   pub integrity_settles : (evidence : Evidence) → Breaks (stop.Integrity evidence) old new
-      → Settled budget instructions (Integrity evidence) new.clock.last old new
+      → Settled budget instructions cycles (Integrity evidence) new.clock.last old new
   integrity_settles evidence h = record {
     config = h.config;
     counts = h.counts;
@@ -64,7 +67,7 @@ module _ (budget instructions : ℕ) (old new : PortState) where
   }
 
   pub full_settles : (held : ℕ) → Breaks (stop.StashFull held) old new
-      → Settled budget instructions (StashFull held) new.clock.last old new
+      → Settled budget instructions cycles (StashFull held) new.clock.last old new
   full_settles held h = record {
     config = h.config;
     counts = h.counts;
@@ -78,7 +81,7 @@ module _ (budget instructions : ℕ) (old new : PortState) where
 
   pub time_settles : (at last : ℕ) → Breaks (stop.TimeUp at) old new
       → last ≡ max new.clock.last old.clock.config.time
-      → Settled budget instructions (TimeUp at) last old new
+      → Settled budget instructions cycles (TimeUp at) last old new
   time_settles at last h is = record {
     config = h.config;
     counts = h.counts;
@@ -87,10 +90,10 @@ module _ (budget instructions : ℕ) (old new : PortState) where
     later = h.later;
     cause = λ is. cc;
     pace = h.pace.2 last (omega (arith, is)) (omega (arith, is, h.pace.0, h.pace.1));
-    right = h.pace.0;
+    right = (h.pace.0, omega (arith, is));
   }
 
-  pub device_settles : Breaks stop.Device old new → Settled budget instructions Device new.clock.last old new
+  pub device_settles : Breaks stop.Device old new → Settled budget instructions cycles Device new.clock.last old new
   device_settles h = record {
     config = h.config;
     counts = h.counts;

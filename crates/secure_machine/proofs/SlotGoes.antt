@@ -1,5 +1,6 @@
 -- What one request of a walk leaves, by the port's calls that it is made of.
-use Rattle.std.proofs.Common.{◌≡◌, ◌+◌, ◌∙◌, ℕ, Option, None, Some, Result, Err, refl, sym, ap, subst, inl, inr, arith, is_some, length, nat_lt, Bool, true, false, if◌then◌else◌}
+use Rattle.std.proofs.Common.{◌≡◌, ◌+◌, ◌∙◌, ℕ, Option, None, Some, Result, Err, refl, sym, ap, subst, inl, inr}
+use Rattle.std.proofs.Common.{arith, is_some, length, nat_lt, Bool, true, false, if◌then◌else◌}
 use Rattle.request_plan.specs.Plan.{Ends, Stops, Refuses}
 use Rattle.request_plan.proofs.Chains.{Ends-unbind, Stops-unbind}
 use Rattle.asc_base.specs.declared.block.Address.{Address}
@@ -19,18 +20,21 @@ use Rattle.bus_watch.specs.Tied.{Tied}
 use Rattle.epoch_learner.specs.Stands.{KeepsPace}
 use Rattle.oram_contents.specs.Entries.{Keys}
 use Rattle.oram_contents.specs.Fold.{tagged_entry}
-use Rattle.oram_frontend.specs.Access.{judged_plan, finish_plan, accept_plan, back_plan, close_plan, put_plan, found_line, SlotStep}
+use Rattle.oram_frontend.specs.Access.{judged_plan, finish_plan, accept_plan, back_plan, close_plan, put_plan}
+use Rattle.oram_frontend.specs.Access.{found_line, SlotStep}
 use Rattle.oram_stash.specs.Entries.{held}
 use Rattle.oram_walk.specs.Request.{Slot, Append, Answer}
 use Rattle.oram_walk.specs.declared.slots.Access.{Access}
 use Rattle.oram_walk.specs.declared.slots.Purpose.{Purpose}
 use Rattle.oram_walk.specs.declared.slots.Purpose.TheVariants.{Refill, Keep, Replace}
-use Rattle.rate_enforcer.specs.PortStep.{PortState, PortStep, PortRequest, Open, Take, Note, Said, Resting, InSlot, Aborted, JoinStopped}
+use Rattle.rate_enforcer.specs.PortStep.{PortState, PortStep, PortRequest, Open, Take, Note, Said, Resting, InSlot}
+use Rattle.rate_enforcer.specs.PortStep.{Aborted, JoinStopped}
 use Rattle.rate_enforcer.specs.Counts.{IsCounted}
 use Rattle.rate_enforcer.specs.Stops.{IsEndOf}
 use Rattle.rate_enforcer.specs.declared.clock.Clock.{Clock}
 use Rattle.secure_machine.specs.Goes.{Breaks, PaceAt}
-use Rattle.secure_machine.proofs.PortGoes.{goes_then, breaks_then, step_goes, plan_goes, open_breaks, close_breaks, resting_pace}
+use Rattle.secure_machine.proofs.PortGoes.{goes_then, breaks_then, step_goes, plan_goes, open_breaks, close_breaks}
+use Rattle.secure_machine.proofs.PortGoes.{resting_pace}
 
 -- a port of which only the clock's stop and end are set
 module _ {stop : Stop} {old new : PortState} (memory : new.memory ≡ old.memory) (tap : new.tap ≡ old.tap)

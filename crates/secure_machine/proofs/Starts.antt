@@ -1,5 +1,6 @@
 -- Before the first slot.
-use Rattle.std.proofs.Common.{◌≡◌, ◌≤◌, ◌<◌, ◌+◌, ◌*◌, ◌^◌, ◌∙◌, ℕ, List, [], None, Result, Ok, Err, IfOk, OnErr, sym, ap, subst, arith}
+use Rattle.std.proofs.Common.{◌≡◌, ◌≤◌, ◌<◌, ◌+◌, ◌*◌, ◌^◌, ◌∙◌, ℕ, List, [], None, Result, Ok, Err, IfOk, OnErr, sym}
+use Rattle.std.proofs.Common.{ap, subst, arith}
 use Rattle.asc_base.specs.Settings.{IsConfig}
 use Rattle.asc_base.specs.TreeShape.{olat_of}
 use Rattle.asc_base.specs.declared.settings.Config.{Config}
@@ -73,7 +74,8 @@ pub new_serves : {L E : Type 0} (levels_of : L → ℕ) (config : Config) (port 
     → Serving (levels_of oram.port.leaves)
     (oram_of oram.front oram.port.clock oram.port.tree oram.stop memory tap))
 new_serves levels_of config port (Err e) front same stop shape rests = tt
-new_serves {L} levels_of config port (Ok oram) front same stop shape rests = λ left memory tap events moves enough ready.
+new_serves {L} levels_of config port (Ok oram) front same stop shape rests = λ left memory tap events
+    moves enough ready.
     let none : 6 * left ≡ 6 * left + 0 = omega arith in
     record {
       going = stop;

@@ -1,5 +1,6 @@
 -- What the walks of a front end leave, however they go.
-use Rattle.std.proofs.Common.{◌≡◌, ◌≤◌, ◌+◌, ◌<◌, ℕ, zero, suc, Option, None, Some, Ok, refl, sym, subst, inl, inr, arith, is_some, Bool, true, false}
+use Rattle.std.proofs.Common.{◌≡◌, ◌≤◌, ◌+◌, ◌<◌, ℕ, zero, suc, Option, None, Some, Ok, refl, sym, subst, inl, inr}
+use Rattle.std.proofs.Common.{arith, is_some, Bool, true, false}
 use Rattle.std.specs.Option.{option_map_or}
 use Rattle.request_plan.specs.Plan.{Plan, Done, Ask, Ends, Stops, bind}
 use Rattle.asc_base.specs.Shape.{parent_in, children_in}
@@ -11,7 +12,9 @@ use Rattle.oram_frontend.specs.Access.{SlotStep}
 use Rattle.oram_frontend.specs.Slots.{FitKeys, Keeps}
 use Rattle.oram_frontend.proofs.SlotLaws.{served_slot, served_append, served_answer}
 use Rattle.oram_walk.specs.Front.{FrontState, full_parent, with_held}
-use Rattle.oram_walk.specs.Plans.{FrontPlan, on, child_by, child_plan, children_plan, family_plan, full_plan, group_plan, visit_plan, append_plan, hold_plan, refill_plan, found_plan, walk_plan, request_plan}
+use Rattle.oram_walk.specs.Plans.{FrontPlan, on, child_by, child_plan, children_plan, family_plan, full_plan}
+use Rattle.oram_walk.specs.Plans.{group_plan, visit_plan, append_plan, hold_plan, refill_plan, found_plan, walk_plan}
+use Rattle.oram_walk.specs.Plans.{request_plan}
 use Rattle.oram_walk.specs.Request.{Request, Slot, Append, Answer, Room, Steps}
 use Rattle.oram_walk.specs.declared.slots.Access.{Access}
 use Rattle.oram_walk.specs.declared.slots.Purpose.{Purpose}

@@ -13,7 +13,8 @@ use Rattle.secure_machine.specs.Finish.{IsRightEnding}
 use Rattle.secure_machine.specs.declared.report.Ending.TheVariants.{Device}
 use Rattle.secure_machine.specs.declared.report.Report.{Report}
 
--- A report over a prepared bus: the log keeps the pace up to its end, has as many starts as it says, and is tied to what
+-- A report over a prepared bus: the log keeps the pace up to its end, has as many starts as it says, and is tied to
+-- what
 -- the memory was asked; a failure has its cause, and the ending is right.
 pub record Reported (config : Config) (report : Report) (memory memory' : MemoryState) (tap tap' : TapState)
     : Type 0 where
@@ -24,7 +25,8 @@ pub record Reported (config : Config) (report : Report) (memory memory' : Memory
       → Tied start buckets memory' tap'
   pub later : memory.faults ≤ memory'.faults
   pub cause : report.ending ≡ Device → Rose memory.faults memory'.faults
-  pub right : IsRightEnding config.budget config.time report.instructions report.ending
+  pub right : IsRightEnding config.budget config.time report.instructions report.cycles report.last
+      report.ending
 
 -- Want of memory over a prepared bus: up to some time the log keeps the pace.
 pub record Wanting (config : Config) (memory memory' : MemoryState) (tap tap' : TapState) : Type 0 where

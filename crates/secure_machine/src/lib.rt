@@ -214,7 +214,7 @@ pub fn run<M: UntrustedMemory, W: Watch, L: LeafFn>(
     ensures device { IfOk result (λ report. report.ending ≡ Ending.Device
         → Rose (M.state bus.old.memory.now).faults (M.state bus.new.memory.now).faults) }
     ensures right { IfOk result (λ report.
-        IsRightEnding config.now.budget config.now.time report.instructions report.ending) }
+        IsRightEnding config.now.budget config.now.time report.instructions report.cycles report.last report.ending) }
 {
     let files = Files::new(alloc, input, OUTPUT_LIMIT)?;
     let cache = Cache::new(alloc, config.sets, config.ways)?;

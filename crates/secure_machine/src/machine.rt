@@ -244,9 +244,11 @@ fn ending_of<M: UntrustedMemory, W: Watch, L: LeafFn>(
     stop: Stop,
     lines: &TimedLines<'_, '_, M, W, L>,
 ) -> Result<(Ending, u64), NoMemory>
-    ensures { (budget instructions : ℕ) (old : PortState) → Breaks stop old (timed_of M.state W.state lines.now).oram.port
+    ensures { (budget instructions cycles : ℕ) (old : PortState)
+        → Breaks stop old (timed_of M.state W.state lines.now).oram.port
         → MatchResult result
-        (λ (ending, last). Settled budget instructions ending last old (timed_of M.state W.state lines.now).oram.port)
+        (λ (ending, last). Settled budget instructions cycles ending last old (timed_of M.state W.state
+        lines.now).oram.port)
         (λ _. Short old (timed_of M.state W.state lines.now).oram.port) }
 {
     let last = lines.oram.last();
@@ -265,11 +267,14 @@ fn finish<M: UntrustedMemory, W: Watch, L: LeafFn>(
     lines: &mut TimedLines<'_, '_, M, W, L>,
     budget: u64,
 ) -> Result<(Ending, u64), NoMemory>
-    requires halts { (first : PortState) × Halts budget (L.levels lines.old.oram.now.port.leaves) halted first (timed_of M.state W.state lines.old).oram }
+    requires halts { (first : PortState) × Halts budget (L.levels lines.old.oram.now.port.leaves) halted first
+        (timed_of M.state W.state lines.old).oram }
     ensures same { IsSameLines lines.old lines.new }
-    ensures settled { (first : PortState) → Halts budget (L.levels lines.old.oram.now.port.leaves) halted first (timed_of M.state W.state lines.old).oram
+    ensures settled { (first : PortState) → Halts budget (L.levels lines.old.oram.now.port.leaves) halted first
+        (timed_of M.state W.state lines.old).oram
         → MatchResult result
-        (λ (ending, last). Settled budget halted.instructions ending last first (timed_of M.state W.state lines.new).oram.port)
+        (λ (ending, last). Settled budget halted.instructions halted.cycles ending last first
+        (timed_of M.state W.state lines.new).oram.port)
         (λ _. Short first (timed_of M.state W.state lines.new).oram.port) }
 {
     match halted.cause {
@@ -302,7 +307,7 @@ pub(crate) fn drive<M: UntrustedMemory, W: Watch, L: LeafFn>(
     requires below { CacheBelow oram.old.port.clock.config.shape.lines cache.old }
     ensures same { IsSameBus bus.old bus.new }
     ensures settled { MatchResult result
-        (λ course. Settled budget course.instructions course.ending course.last
+        (λ course. Settled budget course.instructions course.cycles course.ending course.last
         (oram_over M.state W.state oram.old bus.old.memory.now bus.old.tap.now).port
         (oram_over M.state W.state oram.new bus.new.memory.now bus.new.tap.now).port)
         (λ _. Short (oram_over M.state W.state oram.old bus.old.memory.now bus.old.tap.now).port

@@ -33,7 +33,8 @@ impl<'o, 'b, M: UntrustedMemory, W: Watch, L: LeafFn> TimedLines<'o, 'b, M, W, L
         ensures oram { self.new.oram.now ≡ self.old.oram.now }
         ensures fetches { self.new.fetches ≡ self.old.fetches }
         ensures clock { self.old.clock ≤ self.new.clock }
-        ensures ready { CanAsk (L.levels self.old.oram.now.port.leaves) self.old.count (timed_of M.state W.state self.old)
+        ensures ready { CanAsk (L.levels self.old.oram.now.port.leaves) self.old.count
+            (timed_of M.state W.state self.old)
             → CanAsk (L.levels self.new.oram.now.port.leaves) self.new.count (timed_of M.state W.state self.new) }
     {
         self.clock = self.clock.saturating_add(cost);
@@ -109,7 +110,8 @@ impl<'o, 'b, M: UntrustedMemory, W: Watch, L: LeafFn> LineStore for TimedLines<'
         (timed_of M.state W.state t) request bytes h.1)) };
 
     ghost answers = { λ s t request bytes h. answers_lines (keys_in L.leaf_of s)
-        (L.levels s.oram.now.port.leaves) s.count (timed_of M.state W.state s) (timed_of M.state W.state t) request bytes h.1 };
+        (L.levels s.oram.now.port.leaves) s.count (timed_of M.state W.state s) (timed_of M.state W.state t) request
+        bytes h.1 };
 
     ghost told_lines = { λ s list e. Prim.cc };
 

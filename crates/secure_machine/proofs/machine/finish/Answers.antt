@@ -4,7 +4,7 @@ use Rattle.oram_frontend.specs.Slots.{FitKeys}
 use Rattle.secure_machine.specs.Finish.{HaltsBy}
 use Rattle.secure_machine.specs.Same.{timed_of, keys_in}
 use Rattle.secure_machine.specs.declared.machine.Cause.{Cause}
-use Rattle.secure_machine.proofs.OramGoes.{oram_goes, oram_breaks, wait_pace}
+use Rattle.secure_machine.proofs.OramGoes.{oram_goes, oram_breaks, wait_after, wait_pace}
 use Rattle.secure_machine.proofs.PortGoes.{breaks_then}
 use Rattle.secure_machine.proofs.Settles.{idle_settles}
 use Rattle.secure_machine.proofs.machine.finish.Goals as goal
@@ -16,12 +16,15 @@ returns-in-Ok-clause-settled g c =
     let old = (timed_of g.M.UntrustedMemory.state g.W.Watch.state c.args.lines.now).oram in
     let new = (timed_of g.M.UntrustedMemory.state g.W.Watch.state c.idle_until.new.self).oram in
     λ first h.
-    let by = subst (λ (cause : Cause). HaltsBy c.args.budget levels c.args.halted.instructions cause first old)
+    let by = subst (λ (cause : Cause). HaltsBy c.args.budget levels c.args.halted.instructions
+    c.args.halted.cycles cause first old)
     c.in-Ends.is h in
     let fits : FitKeys keys old.port = record { shape = refl; pads = refl } in
-    idle_settles c.args.budget c.args.halted.instructions c.in-Ok.last c.in-Ends.ending first old.port new.port by.0
+    idle_settles c.args.budget c.args.halted.instructions c.args.halted.cycles c.in-Ends.until c.in-Ok.last
+        c.in-Ends.ending first old.port new.port by.0
     (oram_goes keys levels old new fits by.1 (Wait c.in-Ends.until) _ c.in-Ok.ensures.step)
-    (wait_pace keys levels old new fits by.1 c.in-Ends.until _ c.in-Ok.ensures.step) by.3
+    (wait_pace keys levels old new fits by.1 c.in-Ends.until _ c.in-Ok.ensures.step)
+    (wait_after keys levels old new fits by.1 c.in-Ends.until _ c.in-Ok.ensures.step) by.3
 
 pub returns-in-Err-clause-settled : goal.returns-in-Err-clause-settled
 returns-in-Err-clause-settled g c =
@@ -30,9 +33,10 @@ returns-in-Err-clause-settled g c =
     let old = (timed_of g.M.UntrustedMemory.state g.W.Watch.state c.args.lines.now).oram in
     let new = (timed_of g.M.UntrustedMemory.state g.W.Watch.state c.idle_until.new.self).oram in
     λ first h.
-    let by = subst (λ (cause : Cause). HaltsBy c.args.budget levels c.args.halted.instructions cause first old)
+    let by = subst (λ (cause : Cause). HaltsBy c.args.budget levels c.args.halted.instructions
+    c.args.halted.cycles cause first old)
     c.in-Ends.is h in
     let fits : FitKeys keys old.port = record { shape = refl; pads = refl } in
-    c.ending_of.ensures c.args.budget c.args.halted.instructions first
+    c.ending_of.ensures c.args.budget c.args.halted.instructions c.args.halted.cycles first
     (breaks_then by.0 (oram_breaks keys levels old new fits by.1 (Wait c.in-Ends.until) c.in-Err.stop
     c.in-Err.ensures.step))

@@ -42,7 +42,8 @@ returns-in-Ok g c =
         refl,
         c.line_of.ensures.line,
         fetched keys levels self.count (timed_of g.M.UntrustedMemory.state g.W.Watch.state self) new c.args.line
-            c.in-Ok.end (record { 0 = c.line_of.result.0 }) c.requires.ready (record { shape = refl; pads = refl }) step serves
+            c.in-Ok.end (record { 0 = c.line_of.result.0 }) c.requires.ready
+            (record { shape = refl; pads = refl }) step serves
             c.in-Ok.ensures.last,
       ),
     )

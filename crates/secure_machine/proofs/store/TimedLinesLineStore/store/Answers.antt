@@ -12,7 +12,8 @@ returns-in-Ok g c =
     let new = oram_over g.M.UntrustedMemory.state g.W.Watch.state c.store.new.self c.store.new.bus.memory.now
     c.store.new.bus.tap.now in
     let Steps : g.row.M.Denot → g.row.W.Denot → Type 0 = λ m t. OramStep keys levels
-    (oram_over g.M.UntrustedMemory.state g.W.Watch.state self.oram.now m t) (Store self.clock c.args.line c.args.value.now)
+    (oram_over g.M.UntrustedMemory.state g.W.Watch.state self.oram.now m t)
+    (Store self.clock c.args.line c.args.value.now)
     (Ok (record { line = None; end = c.in-Ok.end })) new in
     let step = subst (λ m. Steps m self.tap.now) c.new-bus.ensures.memory
     (subst (λ t. Steps c.new-bus.result.memory.now t) c.new-bus.ensures.tap c.in-Ok.ensures.step) in
