@@ -13,7 +13,7 @@ returns-in-Integrity g c =
     let new = port g.M.UntrustedMemory.state g.W.Watch.state g.L.LeafFn.levels c.args.lines.now in
     λ budget instructions cycles old h.
     subst (λ n. Settled budget instructions cycles (Integrity c.in-Integrity.evidence) n old new)
-        (sym c.last-last.ensures)
+    (sym c.last-last.ensures)
     (integrity_settles budget instructions cycles old new c.in-Integrity.evidence
     (subst (λ (s : Stop). Breaks s old new) c.in-Integrity.is h))
 

@@ -21,7 +21,7 @@ returns-in-Ok-clause-settled g c =
     c.in-Ends.is h in
     let fits : FitKeys keys old.port = record { shape = refl; pads = refl } in
     idle_settles c.args.budget c.args.halted.instructions c.args.halted.cycles c.in-Ends.until c.in-Ok.last
-        c.in-Ends.ending first old.port new.port by.0
+    c.in-Ends.ending first old.port new.port by.0
     (oram_goes keys levels old new fits by.1 (Wait c.in-Ends.until) _ c.in-Ok.ensures.step)
     (wait_pace keys levels old new fits by.1 c.in-Ends.until _ c.in-Ok.ensures.step)
     (wait_after keys levels old new fits by.1 c.in-Ends.until _ c.in-Ok.ensures.step) by.3
