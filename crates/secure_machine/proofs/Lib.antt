@@ -7,3 +7,4 @@ pub mod LineChains
 pub mod Settles
 pub mod Starts
 pub mod ReportLaws
+pub mod Refining

@@ -52,6 +52,7 @@ same_lines s = record {
   count = refl;
   tagger = refl;
   leaves = refl;
+  tree = record { shape = refl; stash = refl; key = refl };
 }
 
 pub same_then : {M W L : Type 0} {s t u : TimedLines M W L} → IsSameLines s t → IsSameLines t u → IsSameLines s u
@@ -62,6 +63,11 @@ same_then a b = record {
   count = b.count ∙ a.count;
   tagger = b.tagger ∙ a.tagger;
   leaves = b.leaves ∙ a.leaves;
+  tree = record {
+    shape = b.tree.shape ∙ a.tree.shape;
+    stash = b.tree.stash ∙ a.tree.stash;
+    key = b.tree.key ∙ a.tree.key;
+  };
 }
 
 module _ {M W L : Type 0} (memory_of : M → MemoryState) (tap_of : W → TapState) (leaf_of : L → Point → ℕ)

@@ -4,3 +4,4 @@ pub mod Same
 pub mod Finish
 pub mod Runs
 pub mod Run
+pub mod Refines

@@ -7,6 +7,7 @@ use Rattle.oram_contents.specs.Entries.{Keys}
 use Rattle.oram_frontend.specs.Oram.{OramState, oram_of}
 use Rattle.oram_frontend.specs.declared.oram.Oram.{Oram}
 use Rattle.rate_enforcer.specs.Served.{keys_of}
+use Rattle.unified_tree.specs.Tree.{IsSameTree}
 use Rattle.secure_machine.specs.Timed.{TimedState}
 use Rattle.secure_machine.specs.declared.lines.TimedLines.{TimedLines}
 
@@ -28,7 +29,8 @@ abbrev pub keys_in : {M W L : Type 0} → (L → Point → ℕ) → TimedLines M
 keys_in leaf_of lines =
     keys_of lines.oram.now.port.tree lines.oram.now.tagger (leaf_of lines.oram.now.port.leaves)
 
--- the references are the same, and there are as many lines; behind them the tags and the leaf function are
+-- the references are the same, and there are as many lines; behind them the tags, the leaf function and the
+-- tree are
 pub record IsSameLines {M W L : Type 0} (old new : TimedLines M W L) : Type 0 where
   pub memory : new.memory.ghost_name ≡ old.memory.ghost_name
   pub tap : new.tap.ghost_name ≡ old.tap.ghost_name
@@ -36,3 +38,4 @@ pub record IsSameLines {M W L : Type 0} (old new : TimedLines M W L) : Type 0 wh
   pub count : new.count ≡ old.count
   pub tagger : new.oram.now.tagger ≡ old.oram.now.tagger
   pub leaves : new.oram.now.port.leaves ≡ old.oram.now.port.leaves
+  pub tree : IsSameTree old.oram.now.port.tree new.oram.now.port.tree

@@ -1,5 +1,5 @@
 -- The lines of an encrypted memory with a clock, and what is asked of them as steps of one relation.
-use Rattle.std.specs.Prelude.{◌≡◌, ◌+◌, ◌≤◌, ℕ, List, [], None, Some, Result, Ok, Err}
+use Rattle.std.specs.Prelude.{◌≡◌, ◌+◌, ◌<◌, ◌≤◌, ℕ, List, [], None, Some, Result, Ok, Err, length}
 use Rattle.asc_base.specs.declared.stop.Stop.{Stop}
 use Rattle.data_cache.specs.Lines.{LineRequest, Fetch, Store, IsLine, IsLineAnswer}
 use Rattle.oram_contents.specs.Entries.{Keys}
@@ -24,20 +24,22 @@ pub record CanAsk (levels count : ℕ) (s : TimedState) : Type 0 where
   pub lines : s.oram.port.clock.config.shape.lines ≡ count
   pub counted : s.fetches ≤ s.oram.port.clock.real
 
--- A line is asked for at the clock, which becomes the end of the last slot that it took. A stop leaves the clock.
+-- A line that there is is asked for at the clock, which becomes the end of the last slot that it took. A stop leaves
+-- the
+-- clock.
 module _ (keys : Keys) (levels count : ℕ) where
   abbrev pub TimedStep : TimedState → LineRequest → Result (List ℕ) Stop → TimedState → Type 0
   TimedStep old (Fetch line) (Ok bytes) new =
       OramStep keys levels old.oram (OramFetch old.clock line)
       (Ok (record { line = Some (record { 0 = bytes }); end = new.clock })) new.oram
-      × (new.fetches ≡ old.fetches + 1) × IsLine bytes × CanAsk levels count new
+      × (new.fetches ≡ old.fetches + 1) × IsLine bytes × CanAsk levels count new × (line < count)
   TimedStep old (Fetch line) (Err stop) new =
       OramStep keys levels old.oram (OramFetch old.clock line) (Err stop) new.oram
       × (new.fetches ≡ old.fetches) × (new.clock ≡ old.clock)
   TimedStep old (Store line value) (Ok bytes) new =
       OramStep keys levels old.oram (OramStore old.clock line (record { 0 = value }))
       (Ok (record { line = None; end = new.clock })) new.oram
-      × (new.fetches ≡ old.fetches) × (bytes ≡ []) × CanAsk levels count new
+      × (new.fetches ≡ old.fetches) × (bytes ≡ []) × CanAsk levels count new × (line < count) × (length value ≡ 64)
   TimedStep old (Store line value) (Err stop) new =
       OramStep keys levels old.oram (OramStore old.clock line (record { 0 = value })) (Err stop) new.oram
       × (new.fetches ≡ old.fetches) × (new.clock ≡ old.clock)

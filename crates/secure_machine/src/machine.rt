@@ -1,5 +1,13 @@
 //! The run's parts: image lines, instructions, and the end.
 
+ghost use Rattle.std.specs.Prelude.{◌⊎◌, List};
+ghost use Rattle.data_cache.specs.CacheLists.{line_in};
+ghost use Rattle.oram_contents.specs.Entries.{AreKeys};
+ghost use Rattle.rv32_core.specs.Access.{spliced};
+ghost use Rattle.rv32_core.specs.FlatMachine.{flat_step};
+ghost use Rattle.rv32_core.specs.Machine.{IsCore};
+ghost use Rattle.rv32_core.specs.StepPlan.{machine_of};
+ghost use Rattle.secure_machine.specs.Refines.{IsForged, StandFor, Knows};
 ghost use Rattle.std.specs.Prelude.{◌≡◌, ◌<◌, ◌*◌, ◌%◌, ℕ, OnOk, IfErr, MatchResult, vec_len};
 ghost use Rattle.data_cache.specs.Contents.{CacheBelow};
 ghost use Rattle.elf_loader.specs.Memory.{IsImage};
@@ -8,7 +16,7 @@ ghost use Rattle.secure_machine.specs.declared.machine.Cause.TheVariants.{Ends, 
 ghost use Rattle.secure_machine.specs.Finish.{Halts, Settled, Short};
 ghost use Rattle.secure_machine.specs.Goes.{Breaks};
 ghost use Rattle.secure_machine.specs.Runs.{Onwards, BreaksOff, HaltsOver, Ready};
-ghost use Rattle.secure_machine.specs.Same.{IsSameLines, oram_over, timed_of};
+ghost use Rattle.secure_machine.specs.Same.{IsSameLines, keys_in, oram_over, timed_of};
 ghost use Rattle.secure_machine.specs.Timed.{Serving};
 ghost use Rattle.bus_watch.specs.Same.{IsSameBus};
 
@@ -100,6 +108,13 @@ fn load_line<M: UntrustedMemory, W: Watch, L: LeafFn>(
     ensures onwards { OnOk result (Onwards M.state W.state L.levels lines.old lines.new) }
     ensures breaks { IfErr result (λ stop. BreaksOff M.state W.state L.levels stop lines.old lines.new) }
     ensures below { OnOk result (CacheBelow lines.new.count cache.new) }
+    ensures refines { (memory : List ℕ) → AreKeys (keys_in L.leaf_of lines.old)
+        → Knows M.state W.state L.leaf_of L.levels cache.old memory lines.old
+        → MatchResult result
+        (λ _. Knows M.state W.state L.leaf_of L.levels cache.new
+        (spliced memory (64 * line) (line_in image.now.bytes.items line)) lines.new)
+        (λ _. IsForged M.state W.state L.leaf_of L.levels lines.old
+        → IsForged M.state W.state L.leaf_of L.levels lines.new) }
 {
     match cache.write_line(lines, line, &line_of(image, line)) {
         Ok(()) => {}
@@ -152,6 +167,16 @@ fn step<M: UntrustedMemory, W: Watch, L: LeafFn>(
     ensures onwards { OnOk result (Onwards M.state W.state L.levels lines.old lines.new) }
     ensures breaks { IfErr result (λ stop. BreaksOff M.state W.state L.levels stop lines.old lines.new) }
     ensures below { OnOk result (CacheBelow lines.new.count cache.new) }
+    ensures refines { (memory : List ℕ) → AreKeys (keys_in L.leaf_of lines.old) → IsCore core.old
+        → Knows M.state W.state L.leaf_of L.levels cache.old memory lines.old
+        → MatchResult result
+        (λ done. IsForged M.state W.state L.leaf_of L.levels lines.new
+        ⊎ ((now : List ℕ) × (flat_step (machine_of core.old files.old) memory
+        ≡ record { machine = machine_of core.new files.new; memory = now; done = done })
+        × StandFor M.state W.state L.leaf_of L.levels cache.new now lines.new))
+        (λ _. (IsForged M.state W.state L.leaf_of L.levels lines.old
+        → IsForged M.state W.state L.leaf_of L.levels lines.new)
+        × (machine_of core.new files.new ≡ machine_of core.old files.old)) }
 {
     let done = match step_cached(core, files, base, cache, lines) {
         Ok(done) => done,

@@ -24,6 +24,12 @@ fn line_of(bytes: &[u8]) -> Line
     Line(line)
 }
 
+/// A line's bytes are 64, which their type says. The call does nothing.
+fn are_whole(bytes: &[u8])
+    requires { length bytes.now ≡ 64 }
+    ensures { length bytes.now ≡ 64 }
+{}
+
 impl<'o, 'b, M: UntrustedMemory, W: Watch, L: LeafFn> TimedLines<'o, 'b, M, W, L> {
     /// The clock goes on by so many cycles, or to the end of its type.
     pub fn spend(&mut self, cost: u64)
@@ -91,6 +97,7 @@ impl<'o, 'b, M: UntrustedMemory, W: Watch, L: LeafFn> LineStore for TimedLines<'
     }
 
     fn store(&mut self, line: u32, value: &Line) -> Result<(), Stop> {
+        are_whole(&value.0);
         let mut bus = Bus::new(self.memory, self.tap);
         match self.oram.store(&mut bus, self.clock, line, value) {
             Ok(end) => {

@@ -1,4 +1,7 @@
-use Rattle.std.proofs.Common.{sym}
+use Rattle.std.proofs.Common.{◌⊎◌, ◌*◌, ℕ, List, sym, subst, arith}
+use Rattle.rv32_core.specs.Access.{spliced}
+use Rattle.secure_machine.specs.Refines.{Knows}
+use Rattle.secure_machine.proofs.Refining.{stop_forged, line_known, lines_in, spent_is, ForgedBy, StandBy}
 use Rattle.data_cache.specs.Contents.{write_line_plan}
 use Rattle.secure_machine.proofs.LineChains.{chain_goes, chain_breaks, spent_on}
 use Rattle.secure_machine.proofs.machine.load_line.Goals as goal
@@ -18,3 +21,24 @@ returns-clause-onwards g c =
     c.write_line.new.self c.requires.ready c.in-Ok.ensures.ok)
     c.spend.ensures.same (sym c.spend.ensures.memory) (sym c.spend.ensures.tap) (sym c.spend.ensures.oram)
     c.spend.ensures.ready
+
+pub returns-in-Err-clause-refines : goal.returns-in-Err-clause-refines
+returns-in-Err-clause-refines g c memory lawful known =
+    stop_forged g.M.UntrustedMemory.state g.W.Watch.state g.L.LeafFn.leaf_of g.L.LeafFn.levels
+    (write_line_plan c.args.cache.now c.args.line c.line_of.result) c.args.lines.now c.write_line.new.store
+    c.in-Err.stop c.write_line.new.self lawful c.in-Err.ensures.err
+
+pub returns-clause-refines : goal.returns-clause-refines
+returns-clause-refines g c memory lawful known =
+    let below = lines_in g.M.UntrustedMemory.state g.W.Watch.state g.L.LeafFn.leaf_of g.L.LeafFn.levels c.args.lines.now
+    c.requires.ready in
+    let after = line_known g.M.UntrustedMemory.state g.W.Watch.state g.L.LeafFn.leaf_of g.L.LeafFn.levels
+    c.args.lines.now c.write_line.new.store c.args.cache.now c.write_line.new.self memory c.args.line c.line_of.result
+    lawful (omega (arith, below, c.requires.line)) c.line_of.ensures.whole known c.in-Ok.ensures.ok in
+    subst (λ (bytes : List ℕ). Knows g.M.UntrustedMemory.state g.W.Watch.state g.L.LeafFn.leaf_of g.L.LeafFn.levels
+    c.write_line.new.self (spliced memory (64 * c.args.line) bytes) c.spend.new.self) c.line_of.ensures.bytes
+    (spent_is g.M.UntrustedMemory.state g.W.Watch.state g.L.LeafFn.leaf_of g.L.LeafFn.levels
+    (λ o m w. ForgedBy g.M.UntrustedMemory.state g.W.Watch.state g.L.LeafFn.leaf_of g.L.LeafFn.levels o m w
+    ⊎ StandBy g.M.UntrustedMemory.state g.W.Watch.state g.L.LeafFn.leaf_of g.L.LeafFn.levels c.write_line.new.self
+    (spliced memory (64 * c.args.line) c.line_of.result.0) o m w) c.write_line.new.store c.spend.new.self
+    c.spend.ensures.memory c.spend.ensures.tap c.spend.ensures.oram after)

@@ -1,8 +1,12 @@
-use Rattle.std.proofs.Common.{sym}
+use Rattle.std.proofs.Common.{◌*◌, ◌∙◌, ap, sym}
+use Rattle.fed_run.proofs.Left.{step_left}
+use Rattle.secure_machine.proofs.Refining.{stop_forged, instruction_known, lines_in, spent_is, SteppedBy}
 use Rattle.request_plan.specs.Plan.{through}
+use Rattle.rv32_core.specs.Machine.{Machine}
+use Rattle.rv32_core.specs.declared.outcome.Done.{Done}
 use Rattle.rv32_core.specs.StepPlan.{machine_of, step_plan}
 use Rattle.data_cache.specs.Cached.{cache_access}
-use Rattle.secure_machine.proofs.LineChains.{chain_goes, chain_breaks, spent_on}
+use Rattle.secure_machine.proofs.LineChains.{LinesStep, chain_goes, chain_breaks, spent_on}
 use Rattle.secure_machine.proofs.machine.step.Goals as goal
 
 pub returns-in-Err-clause-breaks : goal.returns-in-Err-clause-breaks
@@ -24,3 +28,28 @@ returns-clause-onwards g c =
     c.requires.ready c.in-Ok.ensures.ok)
     c.spend.ensures.same (sym c.spend.ensures.memory) (sym c.spend.ensures.tap) (sym c.spend.ensures.oram)
     c.spend.ensures.ready
+
+pub returns-in-Err-clause-refines : goal.returns-in-Err-clause-refines
+returns-in-Err-clause-refines g c memory lawful core known = (
+  stop_forged g.M.UntrustedMemory.state g.W.Watch.state g.L.LeafFn.leaf_of g.L.LeafFn.levels
+      (through (cache_access c.args.core.now.base) (step_plan (machine_of c.args.core.now c.args.files.now))
+      c.args.cache.now) c.args.lines.now c.step_cached.new.store c.in-Err.stop
+      (c.step_cached.new.cache, machine_of c.step_cached.new.core c.step_cached.new.files) lawful c.in-Err.ensures.err,
+  step_left (LinesStep g.M.UntrustedMemory.state g.W.Watch.state g.L.LeafFn.leaf_of g.L.LeafFn.levels)
+      c.args.core.now.base (machine_of c.args.core.now c.args.files.now) c.args.cache.now c.args.lines.now
+      c.step_cached.new.store c.in-Err.stop
+      (c.step_cached.new.cache, machine_of c.step_cached.new.core c.step_cached.new.files) c.in-Err.ensures.err,
+)
+
+pub returns-clause-refines : goal.returns-clause-refines
+returns-clause-refines g c memory lawful core known =
+    let count = lines_in g.M.UntrustedMemory.state g.W.Watch.state g.L.LeafFn.leaf_of g.L.LeafFn.levels c.args.lines.now
+    c.requires.ready in
+    let end : Machine × Done = (machine_of c.step_cached.new.core c.step_cached.new.files, c.in-Ok.done) in
+    spent_is g.M.UntrustedMemory.state g.W.Watch.state g.L.LeafFn.leaf_of g.L.LeafFn.levels
+    (SteppedBy g.M.UntrustedMemory.state g.W.Watch.state g.L.LeafFn.leaf_of g.L.LeafFn.levels memory
+    (machine_of c.args.core.now c.args.files.now) end c.step_cached.new.cache) c.step_cached.new.store
+    c.spend.new.self c.spend.ensures.memory c.spend.ensures.tap c.spend.ensures.oram
+    (instruction_known g.M.UntrustedMemory.state g.W.Watch.state g.L.LeafFn.leaf_of g.L.LeafFn.levels c.args.lines.now
+    c.step_cached.new.store (machine_of c.args.core.now c.args.files.now) c.args.cache.now c.step_cached.new.cache
+    memory end lawful core (c.requires.size ∙ ap (λ n. 64 * n) (sym count)) known c.in-Ok.ensures.ok)

@@ -36,6 +36,7 @@ returns-in-Ok g c =
         count = refl;
         tagger = c.fetch.ensures.tagger;
         leaves = c.fetch.ensures.leaves;
+        tree = c.fetch.ensures.kept;
       },
       (
         step,
@@ -45,5 +46,6 @@ returns-in-Ok g c =
             c.in-Ok.end (record { 0 = c.line_of.result.0 }) c.requires.ready
             (record { shape = refl; pads = refl }) step serves
             c.in-Ok.ensures.last,
+        c.requires.line,
       ),
     )

@@ -27,6 +27,7 @@ returns-in-Ok g c =
         count = refl;
         tagger = c.store.ensures.tagger;
         leaves = c.store.ensures.leaves;
+        tree = c.store.ensures.kept;
       },
       (
         step,
@@ -35,5 +36,7 @@ returns-in-Ok g c =
         stored keys levels self.count (timed_of g.M.UntrustedMemory.state g.W.Watch.state self) new c.args.line
             c.in-Ok.end c.args.value.now c.requires.ready (record { shape = refl; pads = refl }) step serves
             c.in-Ok.ensures.last,
+        c.requires.line,
+        c.are_whole.ensures,
       ),
     )

@@ -1,0 +1,25 @@
+-- What cache and lines with a clock stand for, unless the log shows a forgery.
+use Rattle.std.specs.Prelude.{◌⊎◌, ℕ, List}
+use Rattle.asc_base.specs.declared.block.Point.{Point}
+use Rattle.asc_outside.specs.Memory.{MemoryState}
+use Rattle.bus_watch.specs.Log.{TapState}
+use Rattle.data_cache.specs.Contents.{Contents}
+use Rattle.encrypted_run.specs.Refined.{Computes}
+use Rattle.oram_contents.specs.Forgery.{Forgery}
+use Rattle.secure_machine.specs.Same.{timed_of, keys_in}
+use Rattle.secure_machine.specs.declared.lines.TimedLines.{TimedLines}
+
+module _ {M W L : Type 0} (memory_of : M → MemoryState) (tap_of : W → TapState) (leaf_of : L → Point → ℕ)
+    (levels_of : L → ℕ) where
+  -- the log shows a forgery
+  abbrev pub IsForged : TimedLines M W L → Type 0
+  IsForged s = Forgery (keys_in leaf_of s) (timed_of memory_of tap_of s).oram.port.tap.log
+
+  -- cache and lines stand for these bytes
+  abbrev pub StandFor : Contents → List ℕ → TimedLines M W L → Type 0
+  StandFor cache memory s = Computes (keys_in leaf_of s) (levels_of s.oram.now.port.leaves) cache memory
+      (timed_of memory_of tap_of s).oram
+
+  -- the one or the other
+  abbrev pub Knows : Contents → List ℕ → TimedLines M W L → Type 0
+  Knows cache memory s = IsForged s ⊎ StandFor cache memory s
