@@ -1,5 +1,5 @@
 -- Chains of requests for lines with a clock are chains of an encrypted memory's calls, and so refine a list of bytes.
-use Rattle.std.proofs.Common.{◌≡◌, ◌<◌, ◌*◌, ◌⊎◌, ◌∙◌, inl, inr, ℕ, List, Result, Ok, Err, length, refl, sym, ap, subst, arith}
+use Rattle.std.proofs.Common.{zero, suc, ◌+◌, [], ◌∷◌, take, get_or, ◌≡◌, ◌<◌, ◌*◌, ◌⊎◌, ◌∙◌, inl, inr, ℕ, List, Result, Ok, Err, length, refl, sym, ap, subst, arith}
 use Rattle.request_plan.specs.Plan.{Plan, Done, Ask, Ends, Stops, through}
 use Rattle.asc_base.specs.declared.block.Line.{Line}
 use Rattle.asc_base.specs.declared.block.Point.{Point}
@@ -10,7 +10,8 @@ use Rattle.bus_watch.specs.Log.{TapState}
 use Rattle.data_cache.specs.Cached.{cache_access}
 use Rattle.data_cache.specs.Contents.{Contents, write_line_plan}
 use Rattle.data_cache.specs.Lines.{LineRequest, Fetch, Store}
-use Rattle.encrypted_run.specs.Refined.{OramLine, Computes}
+use Rattle.encrypted_run.specs.Refined.{OramLine, Computes, loaded}
+use Rattle.data_cache.specs.CacheLists.{line_in}
 use Rattle.encrypted_run.proofs.RefinedLaws.{forgery_plan, instruction_refines, line_refines}
 use Rattle.encrypted_run.proofs.StopLaws.{plan_stop}
 use Rattle.oram_contents.specs.Entries.{Keys, AreKeys}
@@ -28,6 +29,19 @@ use Rattle.oram_frontend.specs.declared.oram.Oram.{Oram}
 use Rattle.rate_enforcer.specs.Served.{keys_of}
 use Rattle.secure_machine.specs.declared.lines.TimedLines.{TimedLines}
 use Rattle.secure_machine.proofs.LineChains.{LinesStep, same_lines, same_then}
+
+-- one line more is written
+pub loaded_more : (image marked : List ℕ) (at line : ℕ) (memory : List ℕ) → at < length marked
+    → line ≡ get_or marked at line
+    → loaded image (take (at + 1) marked) memory
+    ≡ spliced (loaded image (take at marked) memory) (64 * line) (line_in image line)
+loaded_more image [] at line memory below is = absurd (omega (arith, below))
+loaded_more image (first ∷ marked) zero line memory below is =
+    ap (λ n. spliced memory (64 * n) (line_in image n)) (sym is)
+loaded_more image (first ∷ marked) (suc at) line memory below is =
+    let e : suc at + 1 ≡ suc (at + 1) = omega arith in
+    ap (λ n. loaded image (take n (first ∷ marked)) memory) e
+    ∙ loaded_more image marked at line (spliced memory (64 * first) (line_in image first)) (omega (arith, below)) is
 
 module _ {M W L : Type 0} (memory_of : M → MemoryState) (tap_of : W → TapState) (leaf_of : L → Point → ℕ)
     (levels_of : L → ℕ) where

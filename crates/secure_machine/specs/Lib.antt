@@ -5,3 +5,4 @@ pub mod Finish
 pub mod Runs
 pub mod Run
 pub mod Refines
+pub mod FlatEnds

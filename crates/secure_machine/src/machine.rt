@@ -2,11 +2,15 @@
 
 ghost use Rattle.std.specs.Prelude.{◌⊎◌, List};
 ghost use Rattle.data_cache.specs.CacheLists.{line_in};
+ghost use Rattle.encrypted_run.specs.Refined.{loaded};
 ghost use Rattle.oram_contents.specs.Entries.{AreKeys};
 ghost use Rattle.rv32_core.specs.Access.{spliced};
 ghost use Rattle.rv32_core.specs.FlatMachine.{flat_step};
 ghost use Rattle.rv32_core.specs.Machine.{IsCore};
 ghost use Rattle.rv32_core.specs.StepPlan.{machine_of};
+ghost use Rattle.rv32_core.specs.declared.outcome.Done.{Done as DoneValue};
+ghost use Rattle.rv32_core.specs.declared.outcome.Ended.TheVariants.{No};
+ghost use Rattle.secure_machine.specs.FlatEnds.{HaltsFlat};
 ghost use Rattle.secure_machine.specs.Refines.{IsForged, StandFor, Knows};
 ghost use Rattle.std.specs.Prelude.{◌≡◌, ◌<◌, ◌*◌, ◌%◌, ℕ, OnOk, IfErr, MatchResult, vec_len};
 ghost use Rattle.data_cache.specs.Contents.{CacheBelow};
@@ -138,6 +142,10 @@ fn load<M: UntrustedMemory, W: Watch, L: LeafFn>(
     ensures onwards { OnOk result (Onwards M.state W.state L.levels lines.old lines.new) }
     ensures halts { IfErr result (λ halted. HaltsOver M.state W.state L.levels budget halted lines.old lines.new) }
     ensures below { OnOk result (CacheBelow lines.new.count cache.new) }
+    ensures refines { (memory : List ℕ) → AreKeys (keys_in L.leaf_of lines.old)
+        → Knows M.state W.state L.leaf_of L.levels cache.old memory lines.old
+        → OnOk result (Knows M.state W.state L.leaf_of L.levels cache.new
+        (loaded image.now.bytes.items image.now.marked.items memory) lines.new) }
 {
     for at in 0..image.marked.len() {
         let start = lines.clock;
@@ -207,6 +215,16 @@ fn instruction<M: UntrustedMemory, W: Watch, L: LeafFn>(
     ensures onwards { OnOk result (Onwards M.state W.state L.levels lines.old lines.new) }
     ensures halts { IfErr result (λ halted. HaltsOver M.state W.state L.levels budget halted lines.old lines.new) }
     ensures below { OnOk result (CacheBelow lines.new.count cache.new) }
+    ensures refines { (memory : List ℕ) → AreKeys (keys_in L.leaf_of lines.old) → IsCore core.old
+        → Knows M.state W.state L.leaf_of L.levels cache.old memory lines.old
+        → MatchResult result
+        (λ _. IsForged M.state W.state L.leaf_of L.levels lines.new
+        ⊎ ((now : List ℕ) × (done : DoneValue) × (done.ended ≡ No)
+        × (flat_step (machine_of core.old files.old) memory
+        ≡ record { machine = machine_of core.new files.new; memory = now; done = done })
+        × StandFor M.state W.state L.leaf_of L.levels cache.new now lines.new))
+        (λ halted. IsForged M.state W.state L.leaf_of L.levels lines.new
+        ⊎ HaltsFlat before (machine_of core.old files.old) memory halted (machine_of core.new files.new)) }
 {
     let time = lines.time();
     let start = lines.clock;

@@ -1,4 +1,8 @@
-use Rattle.std.proofs.Common.{sym, subst}
+use Rattle.std.proofs.Common.{sym, subst, arith, take}
+use Rattle.encrypted_run.specs.Refined.{loaded}
+use Rattle.oram_contents.specs.Entries.{AreKeys}
+use Rattle.secure_machine.specs.Refines.{Knows}
+use Rattle.secure_machine.proofs.Refining.{keys_same, loaded_more}
 use Rattle.secure_machine.specs.Runs.{HaltsOver}
 use Rattle.secure_machine.specs.declared.machine.Halted.{Halted}
 use Rattle.secure_machine.proofs.LineChains.{onwards_then, breaks_later}
@@ -17,4 +21,15 @@ loop-at-preserved g c = record {
   onwards = onwards_then g.M.UntrustedMemory.state g.W.Watch.state g.L.LeafFn.leaf_of g.L.LeafFn.levels c.args.lines.now
       c.loop-at.lines c.load_line.new.lines c.loop-at.invariant.onwards c.in-Ok.ensures.onwards;
   below = c.in-Ok.ensures.below;
+  refines = λ memory lawful known.
+      let image = c.args.image.now.bytes.items in
+      let marked = c.args.image.now.marked.items in
+      subst (λ m. Knows g.M.UntrustedMemory.state g.W.Watch.state g.L.LeafFn.leaf_of g.L.LeafFn.levels
+      c.load_line.new.cache m c.load_line.new.lines)
+      (sym (loaded_more image marked c.loop-at.at c.index.result.now memory
+      (omega (arith, c.loop-at-test.true, c.len-at-end.ensures)) c.index.ensures))
+      (c.in-Ok.ensures.refines (loaded image (take c.loop-at.at marked) memory)
+      (subst AreKeys (sym (keys_same g.M.UntrustedMemory.state g.W.Watch.state g.L.LeafFn.leaf_of g.L.LeafFn.levels
+      c.args.lines.now c.loop-at.lines c.loop-at.invariant.onwards.same)) lawful)
+      (c.loop-at.invariant.refines memory lawful known));
 }

@@ -1,3 +1,8 @@
+use Rattle.std.proofs.Common.{ℕ, List, take}
+use Rattle.encrypted_run.specs.Refined.{loaded}
+use Rattle.oram_contents.specs.Entries.{AreKeys}
+use Rattle.secure_machine.specs.Refines.{Knows}
+use Rattle.secure_machine.specs.Same.{keys_in}
 use Rattle.data_cache.specs.Contents.{CacheBelow}
 use Rattle.secure_machine.specs.Runs.{Onwards}
 use Rattle.secure_machine.proofs.machine.load.Given as goal
@@ -7,4 +12,9 @@ abbrev pub invariant-loop-at : goal.invariant-loop-at
 invariant-loop-at g l = record {
   onwards : Onwards g.M.UntrustedMemory.state g.W.Watch.state g.L.LeafFn.levels l.fn.lines l.lines;
   below : CacheBelow l.lines.count l.cache;
+  refines : (memory : List ℕ) → AreKeys (keys_in g.L.LeafFn.leaf_of l.fn.lines)
+      → Knows g.M.UntrustedMemory.state g.W.Watch.state g.L.LeafFn.leaf_of g.L.LeafFn.levels l.fn.cache
+      memory l.fn.lines
+      → Knows g.M.UntrustedMemory.state g.W.Watch.state g.L.LeafFn.leaf_of g.L.LeafFn.levels l.cache
+      (loaded l.fn.image.bytes.items (take l.at l.fn.image.marked.items) memory) l.lines;
 }

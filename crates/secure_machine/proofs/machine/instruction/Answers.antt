@@ -1,0 +1,33 @@
+use Rattle.std.proofs.Common.{◌∙◌, inl, inr, refl, sym, ap, subst}
+use Rattle.rv32_core.specs.FlatMachine.{FlatStep}
+use Rattle.rv32_core.specs.StepPlan.{machine_of}
+use Rattle.secure_machine.specs.FlatEnds.{HaltsFlat}
+use Rattle.secure_machine.specs.declared.machine.Halted.{Halted}
+use Rattle.secure_machine.proofs.machine.instruction.Goals as goal
+
+pub returns-in-No-clause-refines : goal.returns-in-No-clause-refines
+returns-in-No-clause-refines g c memory lawful core known =
+    elim (c.in-Ok.ensures.refines memory lawful core known) [
+      | inl forged ↦ inl forged
+      | inr (now, step, stands) ↦ inr (now, c.in-Ok.done, c.in-No.is, step, stands)
+    ]
+
+pub returns-in-Exit-clause-refines : goal.returns-in-Exit-clause-refines
+returns-in-Exit-clause-refines g c memory lawful core known =
+    elim (c.in-Ok.ensures.refines memory lawful core known) [
+      | inl forged ↦ inl forged
+      | inr (now, step, stands) ↦ inr (subst (λ (h : Halted). HaltsFlat c.args.before
+          (machine_of c.args.core.now c.args.files.now) memory h (machine_of c.step.new.core c.step.new.files))
+          (sym c.ended-in-Exit.ensures)
+          (refl, (ap (λ (s : FlatStep). s.done.ended) step ∙ c.in-Exit.is, ap (λ (s : FlatStep). s.machine) step)))
+    ]
+
+pub returns-in-Trap-clause-refines : goal.returns-in-Trap-clause-refines
+returns-in-Trap-clause-refines g c memory lawful core known =
+    elim (c.in-Ok.ensures.refines memory lawful core known) [
+      | inl forged ↦ inl forged
+      | inr (now, step, stands) ↦ inr (subst (λ (h : Halted). HaltsFlat c.args.before
+          (machine_of c.args.core.now c.args.files.now) memory h (machine_of c.step.new.core c.step.new.files))
+          (sym c.ended-in-Trap.ensures)
+          (refl, (ap (λ (s : FlatStep). s.done.ended) step ∙ c.in-Trap.is, ap (λ (s : FlatStep). s.machine) step)))
+    ]
