@@ -6,5 +6,7 @@ pub mod Asked
 pub mod LineChains
 pub mod Settles
 pub mod Starts
+pub mod ImageZeros
 pub mod ReportLaws
 pub mod Refining
+pub mod FlatLaws

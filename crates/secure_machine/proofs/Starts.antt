@@ -1,14 +1,18 @@
 -- Before the first slot.
-use Rattle.std.proofs.Common.{◌≡◌, ◌≤◌, ◌<◌, ◌+◌, ◌*◌, ◌^◌, ◌∙◌, ℕ, List, [], None, Result, Ok, Err, IfOk, OnErr, sym}
+use Rattle.std.proofs.Common.{◌≡◌, ◌≤◌, ◌<◌, ◌+◌, ◌*◌, ◌^◌, ◌∙◌, ℕ, List, [], None, Result, Ok, Err, IfOk, OnErr, refl, sym}
 use Rattle.std.proofs.Common.{ap, subst, arith}
+use Rattle.std.proofs.lemmas.Nat.{mul-le}
+use Rattle.asc_base.proofs.ShapeFacts.{shape_layered}
 use Rattle.asc_base.specs.Settings.{IsConfig}
 use Rattle.asc_base.specs.TreeShape.{olat_of}
+use Rattle.asc_base.specs.declared.block.Point.{Point}
 use Rattle.asc_base.specs.declared.settings.Config.{Config}
+use Rattle.asc_base.specs.declared.shape.Shape.{Shape}
 use Rattle.asc_outside.specs.Memory.{MemoryState, zero_buckets}
 use Rattle.bus_schedule.proofs.ScheduledLaws.{scheduled-config}
 use Rattle.bus_schedule.specs.Scheduled.{log_code}
 use Rattle.bus_schedule.specs.Timetable.{public_of}
-use Rattle.bus_watch.proofs.PreparedLaws.{prepared_ties}
+use Rattle.bus_watch.proofs.PreparedLaws.{prepared_ties, prepared_ready}
 use Rattle.bus_watch.proofs.TiedLaws.{tied_start}
 use Rattle.bus_watch.specs.declared.bus.BusStop.{BusStop}
 use Rattle.bus_watch.specs.declared.bus.BusStop.TheVariants.{Device, NoMemory}
@@ -18,7 +22,14 @@ use Rattle.bus_watch.specs.Ready.{IsReady}
 use Rattle.bus_watch.specs.Tied.{Tied}
 use Rattle.epoch_learner.proofs.StandLaws.{stands_first, stands_pace}
 use Rattle.epoch_learner.specs.Stands.{KeepsPace}
+use Rattle.leaf_function.specs.Leaf.{AreLeaves}
+use Rattle.oram_contents.specs.Entries.{AreKeys}
+use Rattle.oram_contents.specs.Starts.{empty_log}
 use Rattle.oram_frontend.specs.Oram.{oram_of}
+use Rattle.oram_lines.specs.Lines.{IsNew}
+use Rattle.rate_enforcer.specs.PortStep.{Resting, port_of}
+use Rattle.rate_enforcer.specs.Served.{keys_of}
+use Rattle.secure_machine.specs.Run.{chip_keys}
 use Rattle.oram_frontend.specs.declared.oram.Oram.{Oram}
 use Rattle.oram_walk.specs.Front.{FrontState, first_front}
 use Rattle.rate_enforcer.specs.State.{Rests}
@@ -93,3 +104,82 @@ pub refused_tap : (stop : BusStop) (buckets levels accesses : ℕ) (m m' : Memor
     → IsPrepared (Err stop) buckets levels accesses m m' t t' → t' ≡ t
 refused_tap Device buckets levels accesses m m' t t' prepared = prepared.by_answer.kept
 refused_tap NoMemory buckets levels accesses m m' t t' prepared = prepared.by_answer.kept
+
+module _ {L E : Type 0} (leaf_of : L → Point → ℕ) (levels_of : L → ℕ) (config : Config) (codec tags : List ℕ)
+    (leaves : L) (port : Port L) (result : Result (Oram L) E)
+    (tagger : IfOk result (λ (oram : Oram L). oram.tagger ≡ tags))
+    (same : IfOk result (λ (oram : Oram L). oram.port ≡ port)) (shape : port.tree.shape ≡ config.shape) where
+  -- the keys of an encrypted memory of a new port
+  pub new_keys : port.tree.key ≡ codec → port.leaves ≡ leaves → IfOk result (λ (oram : Oram L).
+      keys_of oram.port.tree oram.tagger (leaf_of oram.port.leaves) ≡ chip_keys config codec tags (leaf_of leaves))
+  new_keys key is = keys_by result tagger same
+    where
+      keys_by : (result : Result (Oram L) E) → IfOk result (λ (oram : Oram L). oram.tagger ≡ tags)
+          → IfOk result (λ (oram : Oram L). oram.port ≡ port) → IfOk result (λ (oram : Oram L).
+          keys_of oram.port.tree oram.tagger (leaf_of oram.port.leaves) ≡ chip_keys config codec tags (leaf_of leaves))
+      keys_by (Err e) tagger same = tt
+      keys_by (Ok oram) tagger same =
+          let shape_is = ap (λ (p : Port L). p.tree.shape) same ∙ shape in
+          let key_is = ap (λ (p : Port L). p.tree.key) same ∙ key in
+          let leaves_are = ap (λ (p : Port L). leaf_of p.leaves) same ∙ ap leaf_of is in
+          λ i. record { shape = shape_is i; pads = key_is i; tags = tagger i; leaf_of = leaves_are i }
+
+  -- over a tap of zeros with an empty log it is new
+  pub new_is : IfOk result (λ (oram : Oram L). oram.front ≡ first_front config) → port.tree.hand ≡ []
+      → port.tree.seed ≡ 1 → port.clock.dummies ≡ 0 → port.clock.real ≡ 0
+      → IfOk result (λ (oram : Oram L). (memory : MemoryState) (tap : TapState) → tap.log ≡ empty_log
+      → tap.mirror ≡ zero_buckets config.shape.buckets
+      → Resting 0 (levels_of oram.port.leaves) (port_of oram.port.clock oram.port.tree memory tap)
+      → IsNew (keys_of oram.port.tree oram.tagger (leaf_of oram.port.leaves)) config (levels_of oram.port.leaves)
+      (oram_of oram.front oram.port.clock oram.port.tree oram.stop memory tap))
+  new_is front hand seed dummies real = is_by result same front
+    where
+      is_by : (result : Result (Oram L) E) → IfOk result (λ (oram : Oram L). oram.port ≡ port)
+          → IfOk result (λ (oram : Oram L). oram.front ≡ first_front config)
+          → IfOk result (λ (oram : Oram L). (memory : MemoryState) (tap : TapState) → tap.log ≡ empty_log
+          → tap.mirror ≡ zero_buckets config.shape.buckets
+          → Resting 0 (levels_of oram.port.leaves) (port_of oram.port.clock oram.port.tree memory tap)
+          → IsNew (keys_of oram.port.tree oram.tagger (leaf_of oram.port.leaves)) config (levels_of oram.port.leaves)
+          (oram_of oram.front oram.port.clock oram.port.tree oram.stop memory tap))
+      is_by (Err e) same front = tt
+      is_by (Ok oram) same front = λ memory tap log mirror rests.
+          let shape_is = ap (λ (p : Port L). p.tree.shape) same ∙ shape in
+          let hand_is = ap (λ (p : Port L). p.tree.hand) same ∙ hand in
+          let seed_is = ap (λ (p : Port L). p.tree.seed) same ∙ seed in
+          let mirror_is = mirror ∙ ap (λ (s : Shape). zero_buckets s.buckets) (sym shape_is) in
+          record {
+            shape = sym shape_is;
+            front = front;
+            fits = record { shape = refl; pads = refl };
+            log = log;
+            contents_are = λ i. record { hand = hand_is i; mirror = mirror_is i; seed = seed_is i };
+            dummies = ap (λ (p : Port L). p.clock.dummies) same ∙ dummies;
+            real = ap (λ (p : Port L). p.clock.real) same ∙ real;
+            rests = rests;
+          }
+
+-- the keys of a chip are lawful
+pub chip_lawful : {L : Type 0} (leaf_of : L → Point → ℕ) (levels_of : L → ℕ) (config : Config)
+    (pads tags : List ℕ) (leaves : L) → IsConfig config → levels_of leaves ≡ config.shape.levels
+    → AreLeaves (levels_of leaves) (leaf_of leaves) → AreKeys (chip_keys config pads tags (leaf_of leaves))
+chip_lawful leaf_of levels_of config pads tags leaves is levels below = record {
+  shape = is.is_shape;
+  leaves = subst (λ n. AreLeaves n (leaf_of leaves)) levels below;
+}
+
+-- A prepared bus has room for so many slots.
+pub prepared_room : (config : Config) (slots : ℕ) (m m' : MemoryState) (t t' : TapState) → IsConfig config
+    → slots ≤ 2 ^ 28 + 1 → m.moved < 2 ^ 62
+    → IsPrepared (Ok tt) config.shape.buckets config.shape.levels slots m m' t t'
+    → IsReady config.shape.buckets (2 * (config.shape.levels + 1) * slots) (6 * slots) m' t'
+prepared_room config slots m m' t t' is few moved prepared =
+    let shape = config.shape in
+    let levels = (shape_layered shape is.is_shape).levels_to in
+    let most : slots ≤ 268435457 = omega (arith, few) in
+    let moves : 2 * (shape.levels + 1) * slots ≤ 36 * 268435457 =
+    mul-le (2 * (shape.levels + 1)) slots 36 268435457 (omega (arith, levels)) most in
+    prepared_ready shape.buckets shape.levels slots prepared (omega (arith, moves, moved))
+
+-- a log is empty where its lists are
+pub log_empty : (log : LogLists) → log.events ≡ [] → log.moves ≡ [] → log.altered ≡ [] → log ≡ empty_log
+log_empty log events moves altered = λ i. record { moves = moves i; events = events i; altered = altered i }

@@ -9,7 +9,13 @@ use Rattle.bus_watch.specs.RunEnd.{RanOut}
 use Rattle.bus_watch.specs.Tied.{Tied, TiedAt}
 use Rattle.epoch_learner.specs.Stands.{KeepsPace}
 use Rattle.rate_enforcer.specs.Counts.{is_dummy, is_real}
+use Rattle.asc_base.specs.declared.block.Point.{Point}
+use Rattle.elf_loader.specs.declared.image.Image.{Image}
+use Rattle.oram_contents.specs.Entries.{Keys}
+use Rattle.rv32_core.specs.FlatRun.{flat_run, machine_at_start, output_limit}
+use Rattle.rv32_core.specs.Machine.{Machine}
 use Rattle.secure_machine.specs.Finish.{IsRightEnding}
+use Rattle.secure_machine.specs.FlatEnds.{FlatEnds}
 use Rattle.secure_machine.specs.declared.report.Ending.TheVariants.{Device}
 use Rattle.secure_machine.specs.declared.report.Report.{Report}
 
@@ -59,3 +65,22 @@ IsTiedOr config Otherwise memory memory' tap' =
 abbrev pub IsTiedButLast : Config → (memory memory' : MemoryState) (tap tap' : TapState) → Type 0
 IsTiedButLast config memory memory' tap tap' =
     TiedAt RanOut memory (zero_buckets config.shape.buckets) memory' tap' ⊎ (tap' ≡ tap)
+
+-- the keys of a chip: the tree's shape, the derived keys of pads and tags, and the leaf function
+abbrev pub chip_keys : Config → (pads tags : List ℕ) → (Point → ℕ) → Keys
+chip_keys config pads tags leaf_of = record { shape = config.shape; pads = pads; tags = tags; leaf_of = leaf_of }
+
+-- the flat machine before its first instruction, for an image, a memory and an input
+abbrev pub start_of : Config → Image → List ℕ → Machine
+start_of config image input =
+    machine_at_start image.entry config.base config.size image.heap input output_limit
+
+-- A report is that of flat RV32IM: the flat run of the image with the input finishes as many instructions as were
+-- reported, writes the output, and ends so. Where the ending is a stop, or budget or time were used up, this is a
+-- prefix of every longer run.
+pub record IsFlatReport (config : Config) (image : Image) (input : List ℕ) (report : Report) : Type 0 where
+  pub finished : (flat_run report.instructions (start_of config image input) image.bytes.items).instructions
+      ≡ report.instructions
+  pub output : report.output.items
+      ≡ (flat_run report.instructions (start_of config image input) image.bytes.items).machine.files.output
+  pub ends : FlatEnds report.instructions (start_of config image input) image.bytes.items report.ending

@@ -21,11 +21,11 @@ pub use report::{Ending, Report};
 #[cfg(test)]
 mod tests;
 
-ghost use Rattle.std.specs.Prelude.{◌≡◌, ◌<◌, ◌≤◌, ◌+◌, ◌*◌, ◌^◌, ℕ, [], IfOk, OnErr};
+ghost use Rattle.std.specs.Prelude.{◌≡◌, ◌⊎◌, ◌<◌, ◌≤◌, ◌+◌, ◌*◌, ◌^◌, ℕ, [], IfOk, OnErr};
 ghost use Rattle.std.specs.List.{count_by};
 ghost use Rattle.asc_base.specs.Settings.{IsConfig};
 ghost use Rattle.asc_base.specs.TreeShape.{olat_of};
-ghost use Rattle.asc_outside.specs.Memory.{MemoryState};
+ghost use Rattle.asc_outside.specs.Memory.{MemoryState, zero_buckets};
 ghost use Rattle.asc_outside.specs.Rose.{Rose};
 ghost use Rattle.bus_schedule.specs.Scheduled.{log_code};
 ghost use Rattle.bus_schedule.specs.Timetable.{public_of};
@@ -35,13 +35,22 @@ ghost use Rattle.bus_watch.specs.Same.{IsSameBus};
 ghost use Rattle.data_cache.specs.Contents.{CacheBelow};
 ghost use Rattle.elf_loader.specs.Memory.{IsImage};
 ghost use Rattle.epoch_learner.specs.Stands.{KeepsPace};
+ghost use Rattle.encrypted_run.specs.Refined.{empty_cache};
+ghost use Rattle.oram_contents.specs.Entries.{AreKeys};
+ghost use Rattle.oram_contents.specs.Forgery.{Forgery};
+ghost use Rattle.oram_contents.specs.Starts.{empty_log};
 ghost use Rattle.oram_frontend.specs.Oram.{oram_of};
+ghost use Rattle.oram_lines.specs.Lines.{IsNew};
+ghost use Rattle.rate_enforcer.specs.PortStep.{Resting, port_of};
+ghost use Rattle.rate_enforcer.specs.Served.{keys_of};
 ghost use Rattle.rate_enforcer.specs.Counts.{IsCounted, is_dummy, is_real};
 ghost use Rattle.secure_machine.specs.Finish.{IsRightEnding};
-ghost use Rattle.secure_machine.specs.Run.{Reported, Wanting, IsUnprepared, IsTiedOr, IsTiedButLast};
+ghost use Rattle.secure_machine.specs.Run.{Reported, Wanting, IsFlatReport, IsUnprepared, IsTiedOr, IsTiedButLast};
+ghost use Rattle.secure_machine.specs.Run.{chip_keys, start_of};
 ghost use Rattle.secure_machine.specs.Same.{oram_over};
 ghost use Rattle.secure_machine.specs.Timed.{Serving};
 
+use crate::image::are_counted;
 use crate::machine::{Course, drive};
 use asc_base::{Config, NoMemory};
 use asc_outside::UntrustedMemory;
@@ -84,6 +93,14 @@ fn new_oram<L: LeafFn>(
     ensures config { IfOk result (λ oram. oram.port.clock.config ≡ config.now) }
     ensures last { IfOk result (λ oram. oram.port.clock.last ≡ 0) }
     ensures counts { IfOk result (λ oram. (log : LogLists) → log.events ≡ [] → IsCounted oram.port.clock log) }
+    ensures keys { IfOk result (λ oram. keys_of oram.port.tree oram.tagger (L.leaf_of oram.port.leaves)
+        ≡ chip_keys config.now codec tagger (L.leaf_of leaf)) }
+    ensures new { IfOk result (λ oram. (memory : MemoryState) (tap : TapState) → tap.log ≡ empty_log
+        → tap.mirror ≡ zero_buckets config.now.shape.buckets
+        → Resting 0 (L.levels oram.port.leaves) (port_of oram.port.clock oram.port.tree memory tap)
+        → IsNew (keys_of oram.port.tree oram.tagger (L.leaf_of oram.port.leaves)) config.now
+        (L.levels oram.port.leaves)
+        (oram_of oram.front oram.port.clock oram.port.tree oram.stop memory tap)) }
 {
     let tree = Tree::new(alloc, &config.shape, config.stash, codec)?;
     let port = Port::new(config, leaf, tree);
@@ -154,12 +171,20 @@ fn run_prepared<M: UntrustedMemory, W: Watch, L: LeafFn>(
     requires last { oram.port.clock.last ≡ 0 }
     requires counted { IsCounted oram.port.clock (W.state bus.old.tap.now).log }
     requires below { CacheBelow config.now.shape.lines cache }
+    requires empty { cache ≡ empty_cache config.now.sets config.now.ways }
+    requires unread { files ≡ (start_of config.now image.now files.input).files }
+    requires new { IsNew (keys_of oram.port.tree oram.tagger (L.leaf_of oram.port.leaves)) config.now
+        (L.levels oram.port.leaves) (oram_over M.state W.state oram bus.old.memory.now bus.old.tap.now) }
     ensures same { IsSameBus bus.old bus.new }
+    ensures refines { AreKeys (keys_of oram.port.tree oram.tagger (L.leaf_of oram.port.leaves)) → IfOk result (λ report.
+        Forgery (keys_of oram.port.tree oram.tagger (L.leaf_of oram.port.leaves)) (W.state bus.new.tap.now).log
+        ⊎ IsFlatReport config.now image.now files.input report) }
     ensures reported { IfOk result (λ report. Reported config.now report (M.state bus.old.memory.now)
         (M.state bus.new.memory.now) (W.state bus.old.tap.now) (W.state bus.new.tap.now)) }
     ensures wanting { OnErr result (Wanting config.now (M.state bus.old.memory.now)
         (M.state bus.new.memory.now) (W.state bus.old.tap.now) (W.state bus.new.tap.now)) }
 {
+    are_counted(image);
     let mut core = Core::new(image.entry, config.base, config.size, image.heap);
     match drive(
         image,
@@ -215,7 +240,11 @@ pub fn run<M: UntrustedMemory, W: Watch, L: LeafFn>(
         → Rose (M.state bus.old.memory.now).faults (M.state bus.new.memory.now).faults) }
     ensures right { IfOk result (λ report.
         IsRightEnding config.now.budget config.now.time report.instructions report.cycles report.last report.ending) }
+    ensures refines { IfOk result (λ report.
+        Forgery (chip_keys config.now codec tagger (L.leaf_of leaf)) (W.state bus.new.tap.now).log
+        ⊎ IsFlatReport config.now image.now input.now report) }
 {
+    leaf.gives_leaves();
     let files = Files::new(alloc, input, OUTPUT_LIMIT)?;
     let cache = Cache::new(alloc, config.sets, config.ways)?;
     let oram = new_oram(alloc, config, leaf, tagger, codec)?;

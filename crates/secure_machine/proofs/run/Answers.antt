@@ -1,5 +1,4 @@
-use Rattle.std.proofs.Common.{◌≤◌, ◌<◌, ◌+◌, ◌*◌, ◌^◌, ◌∙◌, sym, ap, subst, inl, inr, arith}
-use Rattle.std.proofs.lemmas.Nat.{mul-le}
+use Rattle.std.proofs.Common.{◌≡◌, ◌≤◌, ◌<◌, ◌+◌, ◌*◌, ◌^◌, ◌∙◌, ℕ, List, [], sym, ap, subst, inl, inr, arith}
 use Rattle.std.proofs.lemmas.Result.{IfOk-weaker}
 use Rattle.std.proofs.Math.Pow.{pow_mono}
 use Rattle.std.specs.List.{count_by}
@@ -7,14 +6,19 @@ use Rattle.asc_base.proofs.ShapeFacts.{shape_layered}
 use Rattle.asc_outside.specs.Memory.{zero_buckets}
 use Rattle.bus_schedule.specs.Scheduled.{log_code}
 use Rattle.bus_schedule.specs.Timetable.{public_of}
-use Rattle.bus_watch.proofs.PreparedLaws.{prepared_ready}
 use Rattle.bus_watch.specs.Log.{LogLists, TapState}
 use Rattle.epoch_learner.specs.Stands.{KeepsPace}
 use Rattle.rate_enforcer.specs.Counts.{is_dummy, is_real}
 use Rattle.secure_machine.specs.Finish.{IsRightEnding}
-use Rattle.secure_machine.specs.Run.{Reported, Wanting, IsUnprepared}
+use Rattle.oram_contents.specs.Entries.{Keys, AreKeys}
+use Rattle.oram_contents.specs.Forgery.{Forgery}
+use Rattle.rv32_core.specs.FlatRun.{output_limit}
+use Rattle.rv32_core.specs.Machine.{FilesState}
+use Rattle.secure_machine.specs.Run.{Reported, Wanting, IsFlatReport, IsUnprepared, chip_keys}
 use Rattle.secure_machine.specs.declared.report.Report.{Report}
 use Rattle.secure_machine.proofs.Starts.{on_err_with, on_err_so, on_both, start_pace, pace_bits, zero_tied, refused_tap}
+use Rattle.secure_machine.proofs.Starts.{prepared_room, log_empty, chip_lawful}
+use Rattle.secure_machine.proofs.ReportLaws.{unprepared_flat}
 use Rattle.secure_machine.proofs.run.Goals as goal
 
 pub returns-in_err-files-clause-pace_err : goal.returns-in_err-files-clause-pace_err
@@ -75,16 +79,56 @@ prepare-requires-clause-levels g c =
 pub run_prepared-requires-clause-serving : goal.run_prepared-requires-clause-serving
 run_prepared-requires-clause-serving g c =
     let p = c.in-Ok.ensures.prepared in
-    let shape = c.args.config.now.shape in
-    let slots = c.most_slots.result in
-    let levels = (shape_layered shape c.requires.config.is_shape).levels_to in
-    let most : slots ≤ 268435457 = omega (arith, c.most_slots.ensures.few) in
-    let few : 2 * (shape.levels + 1) * slots ≤ 36 * 268435457 =
-    mul-le (2 * (shape.levels + 1)) slots 36 268435457 (omega (arith, levels)) most in
-    c.in_ok-oram.ensures.serving slots (g.M.UntrustedMemory.state c.prepare.new.self.memory.now)
-    (g.W.Watch.state c.prepare.new.self.tap.now) (ap (λ (x : LogLists). x.events) p.log ∙ c.requires.no_events)
+    let m = g.M.UntrustedMemory.state c.prepare.new.self.memory.now in
+    let t = g.W.Watch.state c.prepare.new.self.tap.now in
+    c.in_ok-oram.ensures.serving c.most_slots.result m t (ap (λ (x : LogLists). x.events) p.log ∙ c.requires.no_events)
     (ap (λ (x : LogLists). x.moves) p.log ∙ c.requires.no_moves) c.most_slots.ensures.enough
-    (prepared_ready shape.buckets shape.levels slots p (omega (arith, few, c.requires.moved)))
+    (prepared_room c.args.config.now c.most_slots.result (g.M.UntrustedMemory.state c.args.bus.now.memory.now) m
+    (g.W.Watch.state c.args.bus.now.tap.now) t c.requires.config c.most_slots.ensures.few c.requires.moved p)
+
+pub run_prepared-requires-clause-unread : goal.run_prepared-requires-clause-unread
+run_prepared-requires-clause-unread g c =
+    let is = c.in_ok-files.ensures in
+    is ∙ ap (λ (input : List ℕ). let f : FilesState = record {
+      input = input;
+      position = 0;
+      output = [];
+      limit = output_limit;
+    } in f) (sym (ap (λ (f : FilesState). f.input) is))
+
+pub run_prepared-requires-clause-new : goal.run_prepared-requires-clause-new
+run_prepared-requires-clause-new g c =
+    let p = c.in-Ok.ensures.prepared in
+    let m = g.M.UntrustedMemory.state c.prepare.new.self.memory.now in
+    let t = g.W.Watch.state c.prepare.new.self.tap.now in
+    let events = ap (λ (x : LogLists). x.events) p.log ∙ c.requires.no_events in
+    let moves = ap (λ (x : LogLists). x.moves) p.log ∙ c.requires.no_moves in
+    let serving = c.in_ok-oram.ensures.serving c.most_slots.result m t events moves c.most_slots.ensures.enough
+    (prepared_room c.args.config.now c.most_slots.result (g.M.UntrustedMemory.state c.args.bus.now.memory.now) m
+    (g.W.Watch.state c.args.bus.now.tap.now) t c.requires.config c.most_slots.ensures.few c.requires.moved p) in
+    c.in_ok-oram.ensures.new m t
+    (log_empty t.log events moves (ap (λ (x : LogLists). x.altered) p.log ∙ c.requires.no_altered))
+    p.by_answer.mirror serving.serves.rests
+
+pub returns-in-Ok-clause-refines : goal.returns-in-Ok-clause-refines
+returns-in-Ok-clause-refines g c =
+    let config = c.args.config.now in
+    let keys = chip_keys config c.args.codec c.args.tagger (g.L.LeafFn.leaf_of c.args.leaf) in
+    let log = (g.W.Watch.state c.run_prepared.new.bus.tap.now).log in
+    let lawful : AreKeys keys = chip_lawful g.L.LeafFn.leaf_of g.L.LeafFn.levels config c.args.codec c.args.tagger
+    c.args.leaf c.requires.config c.requires.levels c.gives_leaves.ensures in
+    let same = c.in_ok-oram.ensures.keys in
+    let input : c.in_ok-files.files.input ≡ c.args.input.now = ap (λ (f : FilesState). f.input) c.in_ok-files.ensures in
+    IfOk-weaker c.run_prepared.result _ _ (λ report known. elim known [
+      | inl forged ↦ inl (subst (λ (z : Keys). Forgery z log) same forged)
+      | inr flat ↦ inr (subst (λ (l : List ℕ). IsFlatReport config c.args.image.now l report) input flat)
+    ]) (c.run_prepared.ensures.refines (subst AreKeys (sym same) lawful))
+
+pub returns-in-Err-Device-clause-refines : goal.returns-in-Err-Device-clause-refines
+returns-in-Err-Device-clause-refines g c =
+    let tap = g.W.Watch.state c.args.bus.now.tap.now in
+    inr (unprepared_flat c.args.config.now c.args.image.now c.args.input.now c.unprepared.result tap tap
+    (c.unprepared.ensures tap))
 
 pub returns-in-Ok-clause-bits : goal.returns-in-Ok-clause-bits
 returns-in-Ok-clause-bits g c =
