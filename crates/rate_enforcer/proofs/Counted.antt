@@ -113,10 +113,10 @@ pub counted_ended : (clock clock' : Clock) (old new : LogLists) → IsEnd old ne
     → clock'.real ≡ clock.real → IsCounted clock old → IsCounted clock' new
 counted_ended clock clock' old new ended code dummies real c = elim ended.events [
   | inl same ↦ record {
-      dummies = dummies ∙ c.dummies ∙ ap (count_by is_dummy) (sym same);
-      real = real ∙ c.real ∙ ap (count_by is_real) (sym same);
-      code = code;
-    }
+    dummies = dummies ∙ c.dummies ∙ ap (count_by is_dummy) (sym same);
+    real = real ∙ c.real ∙ ap (count_by is_real) (sym same);
+    code = code;
+  }
   | inr more ↦ counted_other clock clock' old new (Chosen more.0) more.1 (omega arith) (omega arith) code dummies real c
 ]
 

@@ -12,16 +12,18 @@ ghost use Rattle.rv32_core.specs.declared.outcome.Done.{Done as DoneValue};
 ghost use Rattle.rv32_core.specs.declared.outcome.Ended.TheVariants.{No};
 ghost use Rattle.secure_machine.specs.FlatEnds.{HaltsFlat};
 ghost use Rattle.secure_machine.specs.Refines.{IsForged, StandFor, Knows};
-ghost use Rattle.std.specs.Prelude.{◌≡◌, ◌<◌, ◌*◌, ◌%◌, ℕ, OnOk, IfErr, MatchResult, vec_len};
+ghost use Rattle.std.specs.Prelude.{◌≡◌, ◌<◌, ◌*◌, ◌%◌, ℕ, OnOk, IfOk, IfErr, MatchResult, vec_len};
+ghost use Rattle.std.specs.List.{count_by};
 ghost use Rattle.data_cache.specs.Contents.{CacheBelow};
 ghost use Rattle.elf_loader.specs.Memory.{IsImage};
+ghost use Rattle.rate_enforcer.specs.Counts.{is_answered};
 ghost use Rattle.rate_enforcer.specs.PortStep.{PortState};
 ghost use Rattle.secure_machine.specs.declared.machine.Cause.TheVariants.{Ends, Stops};
 ghost use Rattle.secure_machine.specs.Finish.{Halts, Settled, Short};
 ghost use Rattle.secure_machine.specs.Goes.{Breaks};
 ghost use Rattle.secure_machine.specs.Runs.{Onwards, BreaksOff, HaltsOver, Ready};
 ghost use Rattle.secure_machine.specs.Same.{IsSameLines, keys_in, oram_over, timed_of};
-ghost use Rattle.secure_machine.specs.Timed.{Serving};
+ghost use Rattle.secure_machine.specs.Timed.{Serving, KeepsNoted};
 ghost use Rattle.bus_watch.specs.Same.{IsSameBus};
 
 use crate::image::line_of;
@@ -319,6 +321,7 @@ fn finish<M: UntrustedMemory, W: Watch, L: LeafFn>(
         (λ (ending, last). Settled budget halted.instructions halted.cycles ending last first
         (timed_of M.state W.state lines.new).oram.port)
         (λ _. Short first (timed_of M.state W.state lines.new).oram.port) }
+    ensures fetches { KeepsNoted (timed_of M.state W.state lines.old) (timed_of M.state W.state lines.new) }
 {
     match halted.cause {
         Cause::Ends { ending, until } => match lines.idle_until(until) {
@@ -355,6 +358,8 @@ pub(crate) fn drive<M: UntrustedMemory, W: Watch, L: LeafFn>(
         (oram_over M.state W.state oram.new bus.new.memory.now bus.new.tap.now).port)
         (λ _. Short (oram_over M.state W.state oram.old bus.old.memory.now bus.old.tap.now).port
         (oram_over M.state W.state oram.new bus.new.memory.now bus.new.tap.now).port) }
+    ensures fetches { count_by is_answered (W.state bus.old.tap.now).log.events ≡ 0
+        → IfOk result (λ course. course.fetches ≡ count_by is_answered (W.state bus.new.tap.now).log.events) }
 {
     let mut lines = TimedLines::new(bus.memory, bus.tap, oram);
     let halted = play(image, base, budget, core, files, cache, &mut lines);

@@ -1,10 +1,11 @@
-use Rattle.std.proofs.Common.{refl, subst}
+use Rattle.std.proofs.Common.{◌∙◌, refl, sym, subst}
 use Rattle.oram_frontend.specs.Oram.{Wait}
 use Rattle.oram_frontend.specs.Slots.{FitKeys}
 use Rattle.secure_machine.specs.Finish.{HaltsBy}
 use Rattle.secure_machine.specs.Same.{timed_of, keys_in}
 use Rattle.secure_machine.specs.declared.machine.Cause.{Cause}
 use Rattle.secure_machine.proofs.OramGoes.{oram_goes, oram_breaks, wait_after, wait_pace}
+use Rattle.secure_machine.proofs.NotedLines.{wait_quiet, request_stop}
 use Rattle.secure_machine.proofs.PortGoes.{breaks_then}
 use Rattle.secure_machine.proofs.Settles.{idle_settles}
 use Rattle.secure_machine.proofs.machine.finish.Goals as goal
@@ -40,3 +41,21 @@ returns-in-Err-clause-settled g c =
     c.ending_of.ensures c.args.budget c.args.halted.instructions c.args.halted.cycles first
     (breaks_then by.0 (oram_breaks keys levels old new fits by.1 (Wait c.in-Ends.until) c.in-Err.stop
     c.in-Err.ensures.step))
+
+pub returns-in-Ok-clause-fetches : goal.returns-in-Ok-clause-fetches
+returns-in-Ok-clause-fetches g c known =
+    c.idle_until.ensures.fetches ∙ known
+    ∙ sym (wait_quiet (keys_in g.L.LeafFn.leaf_of c.args.lines.now)
+    (g.L.LeafFn.levels c.args.lines.now.oram.now.port.leaves)
+    (timed_of g.M.UntrustedMemory.state g.W.Watch.state c.args.lines.now).oram
+    (timed_of g.M.UntrustedMemory.state g.W.Watch.state c.idle_until.new.self).oram c.in-Ends.until _
+    c.in-Ok.ensures.step)
+
+pub returns-in-Err-clause-fetches : goal.returns-in-Err-clause-fetches
+returns-in-Err-clause-fetches g c known =
+    c.idle_until.ensures.fetches ∙ known
+    ∙ sym (request_stop (keys_in g.L.LeafFn.leaf_of c.args.lines.now)
+    (g.L.LeafFn.levels c.args.lines.now.oram.now.port.leaves)
+    (timed_of g.M.UntrustedMemory.state g.W.Watch.state c.args.lines.now).oram
+    (timed_of g.M.UntrustedMemory.state g.W.Watch.state c.idle_until.new.self).oram (Wait c.in-Ends.until)
+    c.in-Err.stop c.in-Err.ensures.step)
