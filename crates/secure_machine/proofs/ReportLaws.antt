@@ -1,6 +1,7 @@
 -- What is reported of a settled run.
 use Rattle.std.proofs.Common.{◌≡◌, ◌<◌, ◌*◌, ◌/◌, ◌∙◌, ℕ, List, length, replicate, refl, sym, ap, subst, arith}
 use Rattle.std.proofs.Math.Pow.{pow_mono}
+use Rattle.std.specs.List.{count_by}
 use Rattle.asc_base.specs.Settings.{IsConfig}
 use Rattle.asc_base.specs.Shape.{shape_of, layered}
 use Rattle.asc_base.specs.declared.settings.Config.{Config}
@@ -17,7 +18,9 @@ use Rattle.oram_lines.specs.Lines.{IsNew}
 use Rattle.rv32_core.specs.FlatRun.{FlatRun, flat_run}
 use Rattle.rv32_core.specs.Machine.{Machine}
 use Rattle.rv32_core.proofs.FlatRunLaws.{flat_run-zero}
-use Rattle.rate_enforcer.specs.Counts.{IsCounted}
+use Rattle.rate_enforcer.specs.Counts.{IsCounted, is_answered}
+use Rattle.bus_schedule.specs.Scheduled.{log_code}
+use Rattle.bus_schedule.specs.Timetable.{public_of}
 use Rattle.rate_enforcer.specs.PortStep.{PortState}
 use Rattle.secure_machine.specs.Finish.{Settled, IsRightEnding}
 use Rattle.secure_machine.specs.FlatEnds.{FlatEnds, IsFlat}
@@ -45,14 +48,21 @@ pub reported_of : (config : Config) (report : Report) (instructions cycles last 
     → Settled config.budget instructions cycles ending last old new
     → report.instructions ≡ instructions → report.cycles ≡ cycles → report.ending ≡ ending → report.last ≡ last
     → report.real ≡ new.clock.real → report.dummies ≡ new.clock.dummies
+    → report.choices ≡ new.clock.learner.choices → report.code ≡ new.clock.learner.code
+    → report.fetches ≡ count_by is_answered new.tap.log.events
     → Reported config report old.memory new.memory old.tap new.tap
-reported_of config report instructions cycles last ending old new same counted s is ran ends up real dummies =
+reported_of config report instructions cycles last ending old new same counted s is ran ends up real dummies choices
+    code fetches =
     let counts = s.counts counted in
     record {
       pace = subst (λ (c : Config). KeepsPace c report.last new.tap.log) same
           (subst (λ n. KeepsPace old.clock.config n new.tap.log) (sym up) s.pace);
       real = real ∙ counts.real;
       dummies = dummies ∙ counts.dummies;
+      choices = choices ∙ sym counts.code.choices;
+      code = code ∙ counts.code.code
+          ∙ ap (λ (c : Config). log_code (public_of c) new.tap.log) (s.config ∙ same);
+      fetches = fetches;
       tied = s.tied;
       later = s.later;
       cause = λ failed. s.cause (sym ends ∙ failed);

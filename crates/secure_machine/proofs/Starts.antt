@@ -3,16 +3,18 @@ use Rattle.std.proofs.Common.{◌≡◌, ◌≤◌, ◌<◌, ◌+◌, ◌*◌, �
 use Rattle.std.proofs.Common.{ap, subst, arith}
 use Rattle.std.proofs.lemmas.Nat.{mul-le}
 use Rattle.asc_base.proofs.ShapeFacts.{shape_layered}
-use Rattle.asc_base.specs.Settings.{IsConfig}
+use Rattle.asc_base.specs.Settings.{IsConfig, IsPowerTo}
 use Rattle.asc_base.specs.TreeShape.{olat_of}
 use Rattle.asc_base.specs.declared.block.Point.{Point}
 use Rattle.asc_base.specs.declared.settings.Config.{Config}
 use Rattle.asc_base.specs.declared.shape.Shape.{Shape}
 use Rattle.asc_outside.specs.Memory.{MemoryState, zero_buckets}
-use Rattle.bus_schedule.proofs.ScheduledLaws.{scheduled-config}
+use Rattle.bus_schedule.proofs.PublicParts.{count-power}
+use Rattle.bus_schedule.proofs.ScheduledLaws.{scheduled-config, scheduled-below, scheduled-codes}
 use Rattle.bus_schedule.specs.Scheduled.{log_code}
-use Rattle.bus_schedule.specs.Timetable.{public_of}
+use Rattle.bus_schedule.specs.Timetable.{public_of, Public, count_of}
 use Rattle.bus_watch.proofs.PreparedLaws.{prepared_ties, prepared_ready}
+use Rattle.bus_schedule.specs.Shown.{indices_of, code_of}
 use Rattle.bus_watch.proofs.TiedLaws.{tied_start}
 use Rattle.bus_watch.specs.declared.bus.BusStop.{BusStop}
 use Rattle.bus_watch.specs.declared.bus.BusStop.TheVariants.{Device, NoMemory}
@@ -32,9 +34,13 @@ use Rattle.rate_enforcer.specs.Served.{keys_of}
 use Rattle.secure_machine.specs.Run.{chip_keys}
 use Rattle.oram_frontend.specs.declared.oram.Oram.{Oram}
 use Rattle.oram_walk.specs.Front.{FrontState, first_front}
+use Rattle.rate_enforcer.specs.Counts.{IsCounted}
 use Rattle.rate_enforcer.specs.State.{Rests}
 use Rattle.rate_enforcer.specs.declared.port.Port.{Port}
+use Rattle.secure_machine.specs.LastMove.{EndsWithMove}
+use Rattle.secure_machine.specs.Run.{IsInBudget}
 use Rattle.secure_machine.specs.Timed.{Serving}
+use Rattle.secure_machine.proofs.LastMoves.{ends_with_move}
 
 -- a fact on an Err that holds anyway
 pub on_err_with : {A E X : Type 0} (result : Result A E) → X → OnErr result X
@@ -62,6 +68,30 @@ start_pace config log is events moves =
 pub pace_bits : (config : Config) (end : ℕ) (log : LogLists) → IsConfig config → KeepsPace config end log
     → log_code (public_of config) log < 2 ^ config.leak
 pace_bits config end log is pace = scheduled-config config end log is pace.scheduled
+
+pub pace_budget : (config : Config) (end : ℕ) (log : LogLists) → IsConfig config → KeepsPace config end log
+    → IsInBudget config log
+pace_budget config end log is pace =
+    let power : IsPowerTo 4 (count_of (public_of config)) = count-power config is in
+    record {
+      code = scheduled-below (public_of config) end log pace.scheduled;
+      few = scheduled-codes (public_of config) power.0 end log power.2 pace.scheduled;
+    }
+
+-- so does an empty one, which ends with no move
+pub start_budget : (config : Config) (log : LogLists) → IsConfig config → log.events ≡ [] → log.moves ≡ []
+    → IsInBudget config log
+start_budget config log is events moves = pace_budget config 0 log is (start_pace config log is events moves)
+
+pub start_ends : (config : Config) (log : LogLists) → IsConfig config → log.events ≡ [] → log.moves ≡ []
+    → EndsWithMove config log
+start_ends config log is events moves =
+    ends_with_move config 0 log (start_pace config log is events moves).scheduled
+
+-- no choice has the code 0
+pub empty_code : (p : Public) (log : LogLists) → log.events ≡ [] → log_code p log ≡ 0
+unfolding code_of
+empty_code p log none = ap (λ events. code_of (count_of p) (indices_of events)) none
 
 -- a prepared bus is tied from zero bytes on
 pub zero_tied : (buckets levels accesses : ℕ) (m m' : MemoryState) (t t' : TapState) → t.log.moves ≡ []
@@ -98,6 +128,15 @@ new_serves {L} levels_of config port (Ok oram) front same stop shape rests = λ 
             ∙ sym (ap (λ (p : Port L). p.tree.shape) same ∙ shape);
       };
     }
+
+-- and its clock counts what an empty log notes
+pub new_counts : {L E : Type 0} (port : Port L) (result : Result (Oram L) E)
+    → IfOk result (λ (oram : Oram L). oram.port ≡ port)
+    → ((log : LogLists) → log.events ≡ [] → IsCounted port.clock log)
+    → IfOk result (λ (oram : Oram L). (log : LogLists) → log.events ≡ [] → IsCounted oram.port.clock log)
+new_counts port (Err e) same counts = tt
+new_counts {L} port (Ok oram) same counts =
+    λ log none. subst (λ (p : Port L). IsCounted p.clock log) (sym same) (counts log none)
 
 -- a bus that wasn't prepared has its tap as it was
 pub refused_tap : (stop : BusStop) (buckets levels accesses : ℕ) (m m' : MemoryState) (t t' : TapState)

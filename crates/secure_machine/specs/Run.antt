@@ -1,14 +1,17 @@
 -- What a run leaves of its memory and its tap.
-use Rattle.std.specs.Prelude.{◌≡◌, ◌≤◌, ◌⊎◌, ℕ, List, []}
+use Rattle.std.specs.Prelude.{◌≡◌, ◌<◌, ◌≤◌, ◌^◌, ◌⊎◌, ℕ, List, [], length}
 use Rattle.std.specs.List.{count_by}
 use Rattle.asc_base.specs.declared.settings.Config.{Config}
 use Rattle.asc_outside.specs.Memory.{MemoryState, zero_buckets}
 use Rattle.asc_outside.specs.Rose.{Rose}
-use Rattle.bus_watch.specs.Log.{TapState}
+use Rattle.bus_schedule.specs.Scheduled.{log_code}
+use Rattle.bus_schedule.specs.Shown.{indices_of}
+use Rattle.bus_schedule.specs.Timetable.{public_of, count_of}
+use Rattle.bus_watch.specs.Log.{TapState, LogLists}
 use Rattle.bus_watch.specs.RunEnd.{RanOut}
 use Rattle.bus_watch.specs.Tied.{Tied, TiedAt}
 use Rattle.epoch_learner.specs.Stands.{KeepsPace}
-use Rattle.rate_enforcer.specs.Counts.{is_dummy, is_real}
+use Rattle.rate_enforcer.specs.Counts.{is_dummy, is_real, is_answered}
 use Rattle.asc_base.specs.declared.block.Point.{Point}
 use Rattle.elf_loader.specs.declared.image.Image.{Image}
 use Rattle.oram_contents.specs.Entries.{Keys}
@@ -19,14 +22,22 @@ use Rattle.secure_machine.specs.FlatEnds.{FlatEnds}
 use Rattle.secure_machine.specs.declared.report.Ending.TheVariants.{Device}
 use Rattle.secure_machine.specs.declared.report.Report.{Report}
 
--- A report over a prepared bus: the log keeps the pace up to its end, has as many starts as it says, and is tied to
--- what
--- the memory was asked; a failure has its cause, and the ending is right.
+-- The code of a log is that of some indices, as many as it has choices, and there are no more such codes than the
+-- budget of bits allows.
+pub record IsInBudget (config : Config) (log : LogLists) : Type 0 where
+  pub code : log_code (public_of config) log < count_of (public_of config) ^ length (indices_of log.events)
+  pub few : count_of (public_of config) ^ length (indices_of log.events) ≤ 2 ^ config.leak
+
+-- A report over a prepared bus: the log keeps the pace up to its end, has as many starts, choices and answered lines as
+-- it says, and their code, and is tied to what the memory was asked; a failure has its cause, and the ending is right.
 pub record Reported (config : Config) (report : Report) (memory memory' : MemoryState) (tap tap' : TapState)
     : Type 0 where
   pub pace : KeepsPace config report.last tap'.log
   pub real : report.real ≡ count_by is_real tap'.log.events
   pub dummies : report.dummies ≡ count_by is_dummy tap'.log.events
+  pub choices : report.choices ≡ length (indices_of tap'.log.events)
+  pub code : report.code ≡ log_code (public_of config) tap'.log
+  pub fetches : report.fetches ≡ count_by is_answered tap'.log.events
   pub tied : (start : MemoryState) (buckets : List (List ℕ)) → Tied start buckets memory tap
       → Tied start buckets memory' tap'
   pub later : memory.faults ≤ memory'.faults

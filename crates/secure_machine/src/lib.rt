@@ -21,13 +21,14 @@ pub use report::{Ending, Report};
 #[cfg(test)]
 mod tests;
 
-ghost use Rattle.std.specs.Prelude.{◌≡◌, ◌⊎◌, ◌<◌, ◌≤◌, ◌+◌, ◌*◌, ◌^◌, ℕ, [], IfOk, OnErr};
+ghost use Rattle.std.specs.Prelude.{◌≡◌, ◌⊎◌, ◌<◌, ◌≤◌, ◌+◌, ◌*◌, ◌^◌, ℕ, [], IfOk, OnErr, length};
 ghost use Rattle.std.specs.List.{count_by};
 ghost use Rattle.asc_base.specs.Settings.{IsConfig};
 ghost use Rattle.asc_base.specs.TreeShape.{olat_of};
 ghost use Rattle.asc_outside.specs.Memory.{MemoryState, zero_buckets};
 ghost use Rattle.asc_outside.specs.Rose.{Rose};
 ghost use Rattle.bus_schedule.specs.Scheduled.{log_code};
+ghost use Rattle.bus_schedule.specs.Shown.{indices_of};
 ghost use Rattle.bus_schedule.specs.Timetable.{public_of};
 ghost use Rattle.bus_watch.specs.Log.{TapState, LogLists};
 ghost use Rattle.bus_watch.specs.Ready.{IsReady};
@@ -43,10 +44,10 @@ ghost use Rattle.oram_frontend.specs.Oram.{oram_of};
 ghost use Rattle.oram_lines.specs.Lines.{IsNew};
 ghost use Rattle.rate_enforcer.specs.PortStep.{Resting, port_of};
 ghost use Rattle.rate_enforcer.specs.Served.{keys_of};
-ghost use Rattle.rate_enforcer.specs.Counts.{IsCounted, is_dummy, is_real};
+ghost use Rattle.rate_enforcer.specs.Counts.{IsCounted, is_dummy, is_real, is_answered};
 ghost use Rattle.secure_machine.specs.Finish.{IsRightEnding};
-ghost use Rattle.secure_machine.specs.Run.{Reported, Wanting, IsFlatReport, IsUnprepared, IsTiedOr, IsTiedButLast};
-ghost use Rattle.secure_machine.specs.Run.{chip_keys, start_of};
+ghost use Rattle.secure_machine.specs.Run.{Reported, Wanting, IsFlatReport, IsUnprepared, IsTiedOr, IsTiedButLast, chip_keys, start_of, IsInBudget};
+ghost use Rattle.secure_machine.specs.LastMove.{EndsWithMove};
 ghost use Rattle.secure_machine.specs.Same.{oram_over};
 ghost use Rattle.secure_machine.specs.Timed.{Serving};
 
@@ -170,6 +171,7 @@ fn run_prepared<M: UntrustedMemory, W: Watch, L: LeafFn>(
     requires port { oram.port.clock.config ≡ config.now }
     requires last { oram.port.clock.last ≡ 0 }
     requires counted { IsCounted oram.port.clock (W.state bus.old.tap.now).log }
+    requires unanswered { count_by is_answered (W.state bus.old.tap.now).log.events ≡ 0 }
     requires below { CacheBelow config.now.shape.lines cache }
     requires empty { cache ≡ empty_cache config.now.sets config.now.ways }
     requires unread { files ≡ (start_of config.now image.now files.input).files }
@@ -227,9 +229,16 @@ pub fn run<M: UntrustedMemory, W: Watch, L: LeafFn>(
     ensures same { IsSameBus bus.old bus.new }
     ensures pace { IfOk result (λ report. KeepsPace config.now report.last (W.state bus.new.tap.now).log) }
     ensures pace_err { OnErr result ((end : ℕ) × KeepsPace config.now end (W.state bus.new.tap.now).log) }
+    ensures end_err { OnErr result (EndsWithMove config.now (W.state bus.new.tap.now).log) }
     ensures bits { log_code (public_of config.now) (W.state bus.new.tap.now).log < 2 ^ config.now.leak }
     ensures real { IfOk result (λ report. report.real ≡ count_by is_real (W.state bus.new.tap.now).log.events) }
     ensures dummies { IfOk result (λ report. report.dummies ≡ count_by is_dummy (W.state bus.new.tap.now).log.events) }
+    ensures choices { IfOk result (λ report. report.choices
+        ≡ length (indices_of (W.state bus.new.tap.now).log.events)) }
+    ensures code { IfOk result (λ report. report.code ≡ log_code (public_of config.now) (W.state bus.new.tap.now).log) }
+    ensures fetches { IfOk result (λ report. report.fetches
+        ≡ count_by is_answered (W.state bus.new.tap.now).log.events) }
+    ensures budget { IsInBudget config.now (W.state bus.new.tap.now).log }
     ensures tied { IfOk result (λ report. IsTiedOr config.now
         (IsUnprepared report (W.state bus.old.tap.now) (W.state bus.new.tap.now))
         (M.state bus.old.memory.now) (M.state bus.new.memory.now) (W.state bus.new.tap.now)) }

@@ -15,15 +15,17 @@ ghost use Rattle.rv32_core.specs.declared.outcome.Ended.TheVariants.{No};
 ghost use Rattle.secure_machine.specs.FlatEnds.{HaltsFlat, HaltsRun, IsFlat, ending_by};
 ghost use Rattle.secure_machine.specs.Refines.{IsForged, StandFor, Knows};
 ghost use Rattle.std.specs.Prelude.{◌≡◌, ◌<◌, ◌*◌, ◌%◌, ℕ, Some, OnOk, IfOk, IfErr, MatchResult, vec_len};
+ghost use Rattle.std.specs.List.{count_by};
 ghost use Rattle.data_cache.specs.Contents.{CacheBelow};
 ghost use Rattle.elf_loader.specs.Memory.{IsImage};
+ghost use Rattle.rate_enforcer.specs.Counts.{is_answered};
 ghost use Rattle.rate_enforcer.specs.PortStep.{PortState};
 ghost use Rattle.secure_machine.specs.declared.machine.Cause.TheVariants.{Ends, Stops};
 ghost use Rattle.secure_machine.specs.Finish.{Halts, Settled, Short};
 ghost use Rattle.secure_machine.specs.Goes.{Breaks};
 ghost use Rattle.secure_machine.specs.Runs.{Onwards, BreaksOff, HaltsOver, Ready};
 ghost use Rattle.secure_machine.specs.Same.{IsSameLines, keys_in, oram_over, timed_of};
-ghost use Rattle.secure_machine.specs.Timed.{Serving};
+ghost use Rattle.secure_machine.specs.Timed.{Serving, KeepsNoted};
 ghost use Rattle.bus_watch.specs.Same.{IsSameBus};
 
 use crate::image::line_of;
@@ -339,6 +341,7 @@ fn finish<M: UntrustedMemory, W: Watch, L: LeafFn>(
         → IsForged M.state W.state L.leaf_of L.levels lines.old ⊎ HaltsRun machine memory halted last
         → IfOk result (λ (ending, end). IsForged M.state W.state L.leaf_of L.levels lines.new
         ⊎ IsFlat halted.instructions machine memory ending last) }
+    ensures fetches { KeepsNoted (timed_of M.state W.state lines.old) (timed_of M.state W.state lines.new) }
 {
     match halted.cause {
         Cause::Ends { ending, until } => match lines.idle_until(until) {
@@ -384,6 +387,8 @@ pub(crate) fn drive<M: UntrustedMemory, W: Watch, L: LeafFn>(
         (keys_of oram.old.port.tree oram.old.tagger (L.leaf_of oram.old.port.leaves)) (W.state bus.new.tap.now).log
         ⊎ IsFlat course.instructions (machine_of core.old files.old)
         (loaded image.now.bytes.items image.now.marked.items memory) course.ending (machine_of core.new files.new)) }
+    ensures fetches { count_by is_answered (W.state bus.old.tap.now).log.events ≡ 0
+        → IfOk result (λ course. course.fetches ≡ count_by is_answered (W.state bus.new.tap.now).log.events) }
 {
     let mut lines = TimedLines::new(bus.memory, bus.tap, oram);
     let halted = play(image, base, budget, core, files, cache, &mut lines);

@@ -1,6 +1,6 @@
 use Rattle.std.proofs.Common.{◌∙◌, ap}
 use Rattle.unified_tree.specs.Tree.{TreeState}
-use Rattle.secure_machine.proofs.Starts.{new_serves, new_keys, new_is}
+use Rattle.secure_machine.proofs.Starts.{new_serves, new_keys, new_is, new_counts}
 use Rattle.secure_machine.proofs.new_oram.Goals as goal
 
 pub returns-clause-serving : goal.returns-clause-serving
@@ -27,3 +27,7 @@ returns-clause-new g c =
     (ap (λ (tree : TreeState). tree.hand) c.new-port.ensures.tree ∙ c.in_ok-tree.ensures.hand)
     (ap (λ (tree : TreeState). tree.seed) c.new-port.ensures.tree ∙ c.in_ok-tree.ensures.seed)
     c.new-port.ensures.dummies c.new-port.ensures.real
+
+pub returns-clause-counts : goal.returns-clause-counts
+returns-clause-counts g c =
+    new_counts c.new-port.result c.new-2.result c.new-2.ensures.port c.new-port.ensures.counts

@@ -1,4 +1,4 @@
-use Rattle.std.proofs.Common.{ℕ, ◌≡◌, Err, inl, inr, refl, sym, subst}
+use Rattle.std.proofs.Common.{ℕ, ◌≡◌, Err, inl, inr, refl, sym, subst, ◌∙◌}
 use Rattle.std.proofs.lemmas.Result.{IfOk-weaker}
 use Rattle.asc_base.specs.declared.stop.Stop.{Stop}
 use Rattle.asc_base.specs.declared.stop.Stop.TheVariants.{TimeUp}
@@ -12,6 +12,7 @@ use Rattle.secure_machine.specs.Finish.{HaltsBy}
 use Rattle.secure_machine.specs.Same.{timed_of, keys_in}
 use Rattle.secure_machine.specs.declared.machine.Cause.{Cause}
 use Rattle.secure_machine.proofs.OramGoes.{oram_goes, oram_breaks, wait_after, wait_in_time, wait_pace}
+use Rattle.secure_machine.proofs.NotedLines.{wait_quiet, request_stop}
 use Rattle.secure_machine.proofs.PortGoes.{breaks_then}
 use Rattle.secure_machine.proofs.Settles.{idle_settles}
 use Rattle.secure_machine.proofs.machine.finish.Goals as goal
@@ -90,3 +91,21 @@ returns-in-Stops-clause-refines g c machine last memory lawful known =
       | inr runs ↦ inr (prefix_ends c.args.halted.instructions machine last memory c.in-Stops.stop ending named
           (subst (λ (cause : Cause). CauseRuns c.args.halted.instructions machine memory cause last) c.in-Stops.is runs))
     ]) c.ending_of-in-Stops.ensures.named
+
+pub returns-in-Ok-clause-fetches : goal.returns-in-Ok-clause-fetches
+returns-in-Ok-clause-fetches g c known =
+    c.idle_until.ensures.fetches ∙ known
+    ∙ sym (wait_quiet (keys_in g.L.LeafFn.leaf_of c.args.lines.now)
+    (g.L.LeafFn.levels c.args.lines.now.oram.now.port.leaves)
+    (timed_of g.M.UntrustedMemory.state g.W.Watch.state c.args.lines.now).oram
+    (timed_of g.M.UntrustedMemory.state g.W.Watch.state c.idle_until.new.self).oram c.in-Ends.until _
+    c.in-Ok.ensures.step)
+
+pub returns-in-Err-clause-fetches : goal.returns-in-Err-clause-fetches
+returns-in-Err-clause-fetches g c known =
+    c.idle_until.ensures.fetches ∙ known
+    ∙ sym (request_stop (keys_in g.L.LeafFn.leaf_of c.args.lines.now)
+    (g.L.LeafFn.levels c.args.lines.now.oram.now.port.leaves)
+    (timed_of g.M.UntrustedMemory.state g.W.Watch.state c.args.lines.now).oram
+    (timed_of g.M.UntrustedMemory.state g.W.Watch.state c.idle_until.new.self).oram (Wait c.in-Ends.until)
+    c.in-Err.stop c.in-Err.ensures.step)

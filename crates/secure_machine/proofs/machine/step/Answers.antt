@@ -27,7 +27,7 @@ returns-clause-onwards g c =
     (c.step_cached.new.cache, (machine_of c.step_cached.new.core c.step_cached.new.files, c.in-Ok.done))
     c.requires.ready c.in-Ok.ensures.ok)
     c.spend.ensures.same (sym c.spend.ensures.memory) (sym c.spend.ensures.tap) (sym c.spend.ensures.oram)
-    c.spend.ensures.ready
+    (sym c.spend.ensures.fetches) c.spend.ensures.ready
 
 pub returns-in-Err-clause-refines : goal.returns-in-Err-clause-refines
 returns-in-Err-clause-refines g c memory lawful core known = (
