@@ -22,8 +22,8 @@ use Rattle.secure_machine.specs.FlatEnds.{FlatEnds}
 use Rattle.secure_machine.specs.declared.report.Ending.TheVariants.{Device}
 use Rattle.secure_machine.specs.declared.report.Report.{Report}
 
--- The code of a log is that of some indices, as many as it has choices, and there are no more such codes than the
--- budget of bits allows.
+-- A log's code is below the number of codes with so many digits as it has choices, and these are no more than the budget
+-- of bits allows.
 pub record IsInBudget (config : Config) (log : LogLists) : Type 0 where
   pub code : log_code (public_of config) log < count_of (public_of config) ^ length (indices_of log.events)
   pub few : count_of (public_of config) ^ length (indices_of log.events) ≤ 2 ^ config.leak
