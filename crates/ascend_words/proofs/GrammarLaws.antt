@@ -20,7 +20,8 @@ use Rattle.ascend_words.specs.declared.table.Command.{Command}
 use Rattle.ascend_words.specs.declared.table.Command.TheVariants.{Run, Flat, Asm, Disasm, Check}
 use Rattle.ascend_words.specs.declared.table.Name.{Name}
 use Rattle.ascend_words.specs.declared.table.Name.TheVariants.{Elf, Key, Output, Input, Text, Trace, At, Size, Base}
-use Rattle.ascend_words.specs.declared.table.Name.TheVariants.{Budget}
+use Rattle.ascend_words.specs.declared.table.Name.TheVariants.{Sets, Ways, Plb, Roots, Ic, Stash, Budget, Time, Leak}
+use Rattle.ascend_words.specs.declared.table.Name.TheVariants.{Rates, First, Epoch}
 use Rattle.ascend_words.proofs.NumberLaws.{both_true}
 
 -- The laws of the tables, each with one case for each row.
@@ -42,7 +43,18 @@ named-text Trace = refl
 named-text At = refl
 named-text Size = refl
 named-text Base = refl
+named-text Sets = refl
+named-text Ways = refl
+named-text Plb = refl
+named-text Roots = refl
+named-text Ic = refl
+named-text Stash = refl
 named-text Budget = refl
+named-text Time = refl
+named-text Leak = refl
+named-text Rates = refl
+named-text First = refl
+named-text Epoch = refl
 
 -- a text has no `=`
 abbrev lacks : List ℕ → Bool
@@ -58,7 +70,18 @@ name_lacks Trace = refl
 name_lacks At = refl
 name_lacks Size = refl
 name_lacks Base = refl
+name_lacks Sets = refl
+name_lacks Ways = refl
+name_lacks Plb = refl
+name_lacks Roots = refl
+name_lacks Ic = refl
+name_lacks Stash = refl
 name_lacks Budget = refl
+name_lacks Time = refl
+name_lacks Leak = refl
+name_lacks Rates = refl
+name_lacks First = refl
+name_lacks Epoch = refl
 
 -- What follows for any tables.
 

@@ -1,3 +1,4 @@
 pub mod GrammarLaws
 pub mod NumberLaws
+pub mod RatesLaws
 pub mod ReadLaws

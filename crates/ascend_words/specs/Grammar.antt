@@ -4,11 +4,11 @@
 use Rattle.std.specs.Prelude.{◌≡◌, ◌≢◌, ℕ, ◌+◌, List, [], ◌∷◌, ◌++◌, length, map, codes, String, string_bytes}
 use Rattle.std.specs.Prelude.{Option, None, option_map, is_some, IsSome, Bool, IsTrue}
 use Rattle.std.specs.List.{find, list_all}
-use Rattle.ascend_words.specs.Numbers.{number_of}
+use Rattle.ascend_words.specs.Numbers.{number_of, rates_of}
 use Rattle.ascend_words.specs.Tables.{command_text, name_text, required, kind_of, is_name_of, is_same}
 use Rattle.ascend_words.specs.declared.table.Command.{Command}
 use Rattle.ascend_words.specs.declared.table.Kind.{Kind}
-use Rattle.ascend_words.specs.declared.table.Kind.TheVariants.{File, Number}
+use Rattle.ascend_words.specs.declared.table.Kind.TheVariants.{File, Number, Rates}
 use Rattle.ascend_words.specs.declared.table.Name.{Name}
 
 -- the bytes of each text
@@ -33,6 +33,7 @@ word_of pair = name_text pair.name ++ (codes "=" ++ pair.value)
 abbrev pub HasForm : Kind → List ℕ → Type 0
 HasForm File value = value ≢ []
 HasForm Number value = IsSome (number_of value)
+HasForm Rates value = IsSome (rates_of value)
 
 -- the value that these pairs give a name, if they give one
 abbrev pub value_in : List Pair → Name → Option (List ℕ)

@@ -6,10 +6,11 @@ use Rattle.std.specs.Str.{bytes_eq}
 use Rattle.ascend_words.specs.declared.table.Command.{Command}
 use Rattle.ascend_words.specs.declared.table.Command.TheVariants.{Run, Flat, Asm, Disasm, Check}
 use Rattle.ascend_words.specs.declared.table.Kind.{Kind}
-use Rattle.ascend_words.specs.declared.table.Kind.TheVariants.{File, Number}
+use Rattle.ascend_words.specs.declared.table.Kind.TheVariants.{File, Number, Rates as Numbers}
 use Rattle.ascend_words.specs.declared.table.Name.{Name}
 use Rattle.ascend_words.specs.declared.table.Name.TheVariants.{Elf, Key, Output, Input, Text, Trace, At, Size, Base}
-use Rattle.ascend_words.specs.declared.table.Name.TheVariants.{Budget}
+use Rattle.ascend_words.specs.declared.table.Name.TheVariants.{Sets, Ways, Plb, Roots, Ic, Stash, Budget, Time, Leak}
+use Rattle.ascend_words.specs.declared.table.Name.TheVariants.{Rates, First, Epoch}
 
 -- the commands
 abbrev pub commands : List Command
@@ -30,7 +31,9 @@ required Disasm = Elf ∷ []
 required Check = Trace ∷ []
 
 abbrev pub optional : Command → List Name
-optional Run = Input ∷ Size ∷ Base ∷ Budget ∷ []
+optional Run =
+    Input ∷ Trace ∷ Size ∷ Base ∷ Sets ∷ Ways ∷ Plb ∷ Roots ∷ Ic ∷ Stash ∷ Budget ∷ Time ∷ Leak ∷ Rates ∷ First
+    ∷ Epoch ∷ []
 optional Flat = Input ∷ Size ∷ Base ∷ Budget ∷ []
 optional Asm = At ∷ []
 optional Disasm = Size ∷ Base ∷ []
@@ -38,7 +41,9 @@ optional Check = []
 
 -- the names
 abbrev pub names : List Name
-names = Elf ∷ Key ∷ Output ∷ Input ∷ Text ∷ Trace ∷ At ∷ Size ∷ Base ∷ Budget ∷ []
+names =
+    Elf ∷ Key ∷ Output ∷ Input ∷ Text ∷ Trace ∷ At ∷ Size ∷ Base ∷ Sets ∷ Ways ∷ Plb ∷ Roots ∷ Ic ∷ Stash ∷ Budget
+    ∷ Time ∷ Leak ∷ Rates ∷ First ∷ Epoch ∷ []
 
 abbrev pub name_text : Name → List ℕ
 name_text Elf = codes "elf"
@@ -50,7 +55,18 @@ name_text Trace = codes "trace"
 name_text At = codes "at"
 name_text Size = codes "size"
 name_text Base = codes "base"
+name_text Sets = codes "sets"
+name_text Ways = codes "ways"
+name_text Plb = codes "plb"
+name_text Roots = codes "roots"
+name_text Ic = codes "ic"
+name_text Stash = codes "stash"
 name_text Budget = codes "budget"
+name_text Time = codes "time"
+name_text Leak = codes "leak"
+name_text Rates = codes "rates"
+name_text First = codes "first"
+name_text Epoch = codes "epoch"
 
 abbrev pub kind_of : Name → Kind
 kind_of Elf = File
@@ -62,7 +78,18 @@ kind_of Trace = File
 kind_of At = Number
 kind_of Size = Number
 kind_of Base = Number
+kind_of Sets = Number
+kind_of Ways = Number
+kind_of Plb = Number
+kind_of Roots = Number
+kind_of Ic = Number
+kind_of Stash = Number
 kind_of Budget = Number
+kind_of Time = Number
+kind_of Leak = Number
+kind_of Rates = Numbers
+kind_of First = Number
+kind_of Epoch = Number
 
 -- What follows from the tables.
 

@@ -7,6 +7,7 @@ ghost use Rattle.ascend_words.specs.Tables.{is_same};
 
 use crate::fault::WordFault;
 use crate::number::number;
+use crate::rates::rates;
 use crate::table::{Command, Kind, Name};
 use std::alloc::Global;
 
@@ -51,6 +52,7 @@ fn has_form(kind: Kind, value: &str) -> bool
     match kind {
         Kind::File => !value.is_empty(),
         Kind::Number => number(value).is_some(),
+        Kind::Rates => rates(value).is_some(),
     }
 }
 

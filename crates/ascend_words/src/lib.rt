@@ -7,6 +7,7 @@
 mod fault;
 mod given;
 mod number;
+mod rates;
 mod settings;
 mod table;
 mod words;

@@ -1,9 +1,10 @@
 ghost use Rattle.std.specs.Prelude.{◌≡◌};
 ghost use Rattle.ascend_words.specs.Reading.{pairs};
-ghost use Rattle.ascend_words.specs.Settings.{default_settings, number_in, settings_of};
+ghost use Rattle.ascend_words.specs.Settings.{default_settings, number_in, rates_in, settings_of};
 
 use crate::given::{Given, value_of};
 use crate::number::number;
+use crate::rates::rates;
 use crate::table::{Kind, Name};
 use asc_base::{Settings, WideRates};
 
@@ -40,11 +41,21 @@ pub(crate) fn number_in(given: &[Given], name: Name) -> Option<u64>
     ensures { result ≡ number_in (pairs given.now) name }
 {
     match name.kind() {
-        Kind::File => None,
+        Kind::File | Kind::Rates => None,
         Kind::Number => match value_of(given, name) {
             Some(value) => number(value),
             None => None,
         },
+    }
+}
+
+/// The rates that these give.
+fn rates_in(given: &[Given]) -> Option<WideRates>
+    ensures { result ≡ rates_in (pairs given.now) }
+{
+    match value_of(given, Name::Rates) {
+        Some(value) => rates(value),
+        None => None,
     }
 }
 
@@ -57,7 +68,17 @@ pub(crate) fn settings_of(given: &[Given]) -> Settings
     Settings {
         size: number_in(given, Name::Size).unwrap_or(defaults.size),
         base: number_in(given, Name::Base).unwrap_or(defaults.base),
+        sets: number_in(given, Name::Sets).unwrap_or(defaults.sets),
+        ways: number_in(given, Name::Ways).unwrap_or(defaults.ways),
+        plb: number_in(given, Name::Plb).unwrap_or(defaults.plb),
+        roots: number_in(given, Name::Roots).unwrap_or(defaults.roots),
+        ic: number_in(given, Name::Ic).unwrap_or(defaults.ic),
+        stash: number_in(given, Name::Stash).unwrap_or(defaults.stash),
         budget: number_in(given, Name::Budget).unwrap_or(defaults.budget),
-        ..defaults
+        time: number_in(given, Name::Time).unwrap_or(defaults.time),
+        leak: number_in(given, Name::Leak).unwrap_or(defaults.leak),
+        rates: rates_in(given).unwrap_or(defaults.rates),
+        first: number_in(given, Name::First).unwrap_or(defaults.first),
+        epoch: number_in(given, Name::Epoch).unwrap_or(defaults.epoch),
     }
 }

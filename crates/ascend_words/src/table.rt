@@ -40,8 +40,30 @@ pub enum Name {
     Size,
     /// The first address of memory.
     Base,
+    /// The sets of the cache.
+    Sets,
+    /// The ways of the cache.
+    Ways,
+    /// The blocks in the lookaside buffer.
+    Plb,
+    /// The most blocks of the top layer.
+    Roots,
+    /// The bits of an individual counter.
+    Ic,
+    /// The most entries that stay in the stash after a slot.
+    Stash,
     /// The most instructions.
     Budget,
+    /// The cycles of the run.
+    Time,
+    /// The bits that the choices of rates may tell.
+    Leak,
+    /// The rates.
+    Rates,
+    /// The place of the first rate in the list.
+    First,
+    /// The cycles of the first epoch.
+    Epoch,
 }
 
 /// What the value of a name is.
@@ -51,6 +73,8 @@ pub(crate) enum Kind {
     File,
     /// A number.
     Number,
+    /// Numbers with a comma between each two.
+    Rates,
 }
 
 /// Every command.
@@ -63,7 +87,7 @@ const COMMANDS: [Command; 5] = [
 ];
 
 /// Every name.
-const NAMES: [Name; 10] = [
+const NAMES: [Name; 21] = [
     Name::Elf,
     Name::Key,
     Name::Output,
@@ -73,7 +97,18 @@ const NAMES: [Name; 10] = [
     Name::At,
     Name::Size,
     Name::Base,
+    Name::Sets,
+    Name::Ways,
+    Name::Plb,
+    Name::Roots,
+    Name::Ic,
+    Name::Stash,
     Name::Budget,
+    Name::Time,
+    Name::Leak,
+    Name::Rates,
+    Name::First,
+    Name::Epoch,
 ];
 
 impl Command {
@@ -114,7 +149,24 @@ impl Command {
         ensures { result.now ≡ optional self }
     {
         match self {
-            Command::Run => &[Name::Input, Name::Size, Name::Base, Name::Budget],
+            Command::Run => &[
+                Name::Input,
+                Name::Trace,
+                Name::Size,
+                Name::Base,
+                Name::Sets,
+                Name::Ways,
+                Name::Plb,
+                Name::Roots,
+                Name::Ic,
+                Name::Stash,
+                Name::Budget,
+                Name::Time,
+                Name::Leak,
+                Name::Rates,
+                Name::First,
+                Name::Epoch,
+            ],
             Command::Flat => &[Name::Input, Name::Size, Name::Base, Name::Budget],
             Command::Asm => &[Name::At],
             Command::Disasm => &[Name::Size, Name::Base],
@@ -152,7 +204,18 @@ impl Name {
             Name::At => "at",
             Name::Size => "size",
             Name::Base => "base",
+            Name::Sets => "sets",
+            Name::Ways => "ways",
+            Name::Plb => "plb",
+            Name::Roots => "roots",
+            Name::Ic => "ic",
+            Name::Stash => "stash",
             Name::Budget => "budget",
+            Name::Time => "time",
+            Name::Leak => "leak",
+            Name::Rates => "rates",
+            Name::First => "first",
+            Name::Epoch => "epoch",
         }
     }
 
@@ -170,7 +233,21 @@ impl Name {
             Name::Elf | Name::Key | Name::Output | Name::Input | Name::Text | Name::Trace => {
                 Kind::File
             }
-            Name::At | Name::Size | Name::Base | Name::Budget => Kind::Number,
+            Name::Rates => Kind::Rates,
+            Name::At
+            | Name::Size
+            | Name::Base
+            | Name::Sets
+            | Name::Ways
+            | Name::Plb
+            | Name::Roots
+            | Name::Ic
+            | Name::Stash
+            | Name::Budget
+            | Name::Time
+            | Name::Leak
+            | Name::First
+            | Name::Epoch => Kind::Number,
         }
     }
 

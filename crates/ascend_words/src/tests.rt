@@ -3,7 +3,7 @@ use std::alloc::{AllocError, Global};
 use std::test::Fail;
 
 /// Words that are right: the line, and the text of `output`.
-const READ: [(&str, Command, &str); 9] = [
+const READ: [(&str, Command, &str); 11] = [
     ("run elf=a key=k output=o", Command::Run, "o"),
     ("run output=o key=k elf=a", Command::Run, "o"),
     ("run key=k output=o elf=a", Command::Run, "o"),
@@ -17,10 +17,20 @@ const READ: [(&str, Command, &str); 9] = [
         Command::Run,
         "o",
     ),
+    (
+        "run elf=a key=k output=o trace=t sets=1 ways=2 plb=3 roots=4 ic=5 stash=6 time=7 leak=8 first=9 epoch=0",
+        Command::Run,
+        "o",
+    ),
+    (
+        "run rates=1,2,3,4,5,6,7,8,9,10,11,12,13,14,15,9999999999 elf=a key=k output=o",
+        Command::Run,
+        "o",
+    ),
 ];
 
 /// Words that are wrong: the line, and the number of the first word that breaks a rule.
-const REFUSED: [(&str, u64); 37] = [
+const REFUSED: [(&str, u64); 44] = [
     ("", 1),
     ("run", 2),
     ("flat", 2),
@@ -30,8 +40,14 @@ const REFUSED: [(&str, u64); 37] = [
     ("elf=a key=k output=o", 1),
     ("run elf=a elf=b", 3),
     ("run elf=a elf=a key=k output=o", 3),
-    ("run elf=a key=k output=o plb=1", 5),
-    ("run elf=a key=k output=o trace=t", 5),
+    ("run elf=a key=k output=o plb=01", 5),
+    ("run elf=a key=k output=o trace=", 5),
+    ("run elf=a key=k output=o plb=1 plb=1", 6),
+    ("run elf=a key=k output=o rates=", 5),
+    ("run elf=a key=k output=o rates=1,", 5),
+    ("run elf=a key=k output=o rates=,1", 5),
+    ("run elf=a key=k output=o rates=1,02", 5),
+    ("flat elf=a output=o trace=t", 4),
     ("flat elf=a key=k output=o", 3),
     ("run elf= key=k output=o", 2),
     ("run elf=a key=k input= output=o", 4),
@@ -45,6 +61,10 @@ const REFUSED: [(&str, u64); 37] = [
     ("run key=k elf= key=l output=o", 3),
     ("run elf=a run key=k", 3),
     ("run elf=a key=k output=o budget=01", 5),
+    (
+        "run elf=a key=k output=o rates=1,2,3,4,5,6,7,8,9,10,11,12,13,14,15,16,17",
+        5,
+    ),
     ("run elf=a key=k output=o budget=", 5),
     ("run elf=a key=k output=o budget=00", 5),
     ("run elf=a key=k output=o budget=+1", 5),
@@ -110,6 +130,15 @@ fn settings_are_the_given_ones_and_else_the_defaults(rt: HostRuntime) -> Result<
     assert!(rt; words.text(Name::Size).is_none());
     assert!(rt; words.text(Name::Input).is_none());
     assert!(rt; words.text(Name::Elf) == Some("a"));
+    let line = "run elf=a key=k output=o rates=70,80 first=1 epoch=900 plb=0 leak=5 time=6 trace=t";
+    let words = read_line(rt.alloc(), line)?;
+    let settings = words.settings();
+    assert!(rt; settings.rates.count == 2);
+    assert!(rt; settings.rates.list == [70, 80, 0, 0, 0, 0, 0, 0, 0, 0, 0, 0, 0, 0, 0, 0]);
+    assert!(rt; settings.first == 1 && settings.epoch == 900 && settings.plb == 0);
+    assert!(rt; settings.leak == 5 && settings.time == 6 && settings.sets == 64);
+    assert!(rt; words.text(Name::Trace) == Some("t") && words.text(Name::Rates).is_none());
+    assert!(rt; words.number(Name::Rates).is_none() && words.number(Name::Time) == Some(6));
     let words = read_line(rt.alloc(), "asm at=4 elf=a text=t")?;
     assert!(rt; words.command() == Command::Asm && words.number(Name::At) == Some(4));
     assert!(rt; words.text(Name::Text) == Some("t") && words.text(Name::At).is_none());

@@ -45,7 +45,7 @@ impl Words {
     {
         match name.kind() {
             Kind::File => value_of(self.given.as_slice(), name),
-            Kind::Number => None,
+            Kind::Number | Kind::Rates => None,
         }
     }
 
