@@ -60,7 +60,8 @@ module _ (base size : ℕ) (bytes : List ℕ) (small : length bytes < 2 ^ 32) (s
       | inr cut ↦ let above : length file < 84 = cut in absurd (omega (arith, long, above))
     ]
     accepted Interp (index, less, kind) =
-        let other : 1 ≡ 3 = sym (ap (λ (h : ProgramHeader). h.kind) (at_header index less)) ∙ kind in absurd (omega (arith, other))
+        let other : 1 ≡ 3 = sym (ap (λ (h : ProgramHeader). h.kind) (at_header index less)) ∙ kind in
+        absurd (omega (arith, other))
     accepted (Segment index) (less, bad) =
         let P : ProgramHeader → Type 0 = λ h. IsBadSegment file h in
         elim ((subst P (at_header index less) bad).1) [

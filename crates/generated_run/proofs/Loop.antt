@@ -27,7 +27,8 @@ pub record Turned (around : Surroundings) (all taken left : List ℕ) (count : �
   pub turning : IsTurning around all taken left next after
 
 -- the branch at a turn's end
-branches : (around : Surroundings) (rest left : List ℕ) (t0 t1 s0 hash : ℕ) (room : HasRoom around (length (code ++ rest)))
+branches : (around : Surroundings) (rest left : List ℕ) (t0 t1 s0 hash : ℕ)
+    (room : HasRoom around (length (code ++ rest)))
     → Leads 1 (machine_before around 13 (regs t0 t1 s0 (length left) hash 0 0 0) []) (bytes around rest room)
     (machine_before around (turn_at left) (regs t0 t1 s0 (length left) hash 0 0 0) []) (bytes around rest room)
 branches around rest [] t0 t1 s0 hash room = goes_on around rest room t0 t1 s0 hash
@@ -41,7 +42,8 @@ eight : (around : Surroundings) (count : ℕ) (places : List ℕ) (word : ℕ) (
     (machine_before around 6 (regs t0 t1 (address_of_word (length places)) (suc (length left)) hash 0 0 0) [])
     (laid around.front (code ++ (count ∷ (places ++ (word ∷ left)))) around.back)
     (machine_before around (turn_at left)
-    (regs word (hash * 32 % 2 ^ 32) (address_of_word (length places + 1)) (length left) (hash_after hash word) 0 0 0) [])
+    (regs word (hash * 32 % 2 ^ 32) (address_of_word (length places + 1)) (length left) (hash_after hash word) 0 0 0)
+    [])
     (laid around.front (code ++ (count ∷ (places ++ (hash_after hash word ∷ left)))) around.back)
 eight around count places word left t0 t1 hash few short room =
     leads_to_branch around count places word left t0 t1 hash few short room

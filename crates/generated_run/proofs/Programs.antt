@@ -54,7 +54,8 @@ module _ (seed count : ℕ) (most : count ≤ 65_536) where
   pub program_accepted : (base size : ℕ) → base ≤ start → start + 4 * (30 + count) ≤ base + size
       → IsFaultless base size (generated_file seed count)
   program_accepted base size low high =
-      faultless base size (words (generated_words seed count)) small some_bytes low (omega (arith, program_length, high))
+      faultless base size (words (generated_words seed count)) small some_bytes low
+      (omega (arith, program_length, high))
 
   module _ (base size : ℕ) (accepted : IsFaultless base size (generated_file seed count)) where
     pub program_low : base ≤ start
@@ -64,7 +65,8 @@ module _ (seed count : ℕ) (most : count ≤ 65_536) where
     program_high =
         omega (arith, program_length, high_of base size (words (generated_words seed count)) small some_bytes accepted)
 
-    module _ (memory : IsMemory base size) (input : List ℕ) (some : 1 ≤ count) (n : ℕ) (enough : 8 * count + 21 ≤ n) where
+    module _ (memory : IsMemory base size) (input : List ℕ) (some : 1 ≤ count) (n : ℕ)
+        (enough : 8 * count + 21 ≤ n) where
       around : Surroundings
       around = record {
         base = base;

@@ -88,7 +88,8 @@ module _ (around : Surroundings) (cells : List ℕ) (room : HasRoom around (leng
 
     pub leads_to : (effect : Effect) (next : Machine) (after : List ℕ) → effect_of machine instr ≡ effect
         → effected machine memory cost effect ≡ stepped next after cost → Leads 1 machine memory next after
-    leads_to effect next after is makes = leads_one machine next memory after cost (fetched ∙ ap (effected machine memory cost) is ∙ makes)
+    leads_to effect next after is makes =
+        leads_one machine next memory after cost (fetched ∙ ap (effected machine memory cost) is ∙ makes)
 
     -- a register is set, and the next instruction follows
     pub leads_sets : (index value : ℕ) (next : Machine) → effect_of machine instr ≡ Sets index value
@@ -135,7 +136,8 @@ module _ (around : Surroundings) (cells : List ℕ) (room : HasRoom around (leng
       ∙ if_true (nat_le around.base (start + 4 * j) && nat_le (start + 4 * j + 4) (around.base + around.size))
       (inside j there) _ _
       ∙ ap (Stores Sw (start + 4 * j)) is)
-      (ap (λ n. stepped (record m { core = at_pc m.core (next_pc m.core) }) (spliced memory n (to_le_bytes w32 value)) c)
+      (ap
+      (λ n. stepped (record m { core = at_pc m.core (next_pc m.core) }) (spliced memory n (to_le_bytes w32 value)) c)
       (offset j)
       ∙ ap (λ l. stepped (record m { core = at_pc m.core (next_pc m.core) }) l c)
       (cell_replaced around.front cells around.back j value there)

@@ -77,10 +77,10 @@ abbrev pub turn_at : List ℕ → ℕ
 turn_at [] = 14
 turn_at (word ∷ left) = 6
 
--- The loop's invariant, before each turn and behind the last. Some of the words are taken, and the others are left. In
--- the memory stand the instructions, the count, a number in the place of each word that is taken, and the words that are
--- left. s0 is the address behind the words that are taken, s1 is the number of those that are left, and a0 is the hash of
--- those that are taken; t0 and t1 are what the last turn left. Nothing is written yet.
+-- The loop's invariant, before each turn and behind the last. Some of the words are taken, and the others are left.
+-- In the memory stand the instructions, the count, a number in the place of each word that is taken, and the words that
+-- are left. s0 is the address behind the words that are taken, s1 is the number of those that are left, and a0 is the
+-- hash of those that are taken; t0 and t1 are what the last turn left. Nothing is written yet.
 pub record IsTurning (around : Surroundings) (all taken left : List ℕ) (machine : Machine) (memory : List ℕ)
     : Type 0 where
   pub t0 : ℕ

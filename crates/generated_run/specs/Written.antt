@@ -5,8 +5,8 @@ use Rattle.rv32_core.specs.FlatRun.{FlatRun, Exited, flat_run, machine_at_start,
 use Rattle.elf_loader.specs.Elf.{entry_of}
 use Rattle.elf_loader.specs.Layout.{first_break, image_bytes}
 
--- The flat run of at most so many instructions of the program of a file, as the loader lays it out in a memory of `size`
--- bytes from `base` on, with this input.
+-- The flat run of at most so many instructions of the program of a file, as the loader lays it out in a memory of
+-- `size` bytes from `base` on, with this input.
 abbrev pub run_of_file : ℕ → ℕ → List ℕ → List ℕ → ℕ → FlatRun
 run_of_file base size file input count =
     flat_run count (machine_at_start (entry_of file) base size (first_break base size file) input output_limit)

@@ -23,9 +23,9 @@ pub fn pieces_lead_on()
         → Leads (count + more) machine memory last end }
 {}
 
-/// The loop of a program whose words stand in a memory that has room for them: six instructions lead to it, with no word
-/// taken; a turn is eight instructions, takes the first of the words that are left, and keeps the invariant; and once no
-/// word is left, fifteen instructions more write the hash and exit.
+/// The loop of a program whose words stand in a memory that has room for them: six instructions lead to it, with no
+/// word taken; a turn is eight instructions, takes the first of the words that are left, and keeps the invariant; and
+/// once no word is left, fifteen instructions more write the hash and exit.
 pub fn loop_keeps_its_invariant()
     ensures first { (around : Surroundings) (all : List ℕ) → HasRoom around (30 + length all) → 1 ≤ length all
         → (next : Machine) × (after : List ℕ)
@@ -42,8 +42,8 @@ pub fn loop_keeps_its_invariant()
         → IsWritten 15 (fold hash_after 0 all) (flat_run n machine memory) }
 {}
 
-/// The loader accepts a generated file exactly for a memory that has room from 65,536 on for the program's 29 words, the
-/// count and the data words.
+/// The loader accepts a generated file exactly for a memory that has room from 65,536 on for the program's 29 words,
+/// the count and the data words.
 pub fn generated_programs_fit()
     ensures accepted { (seed words base size : ℕ) (file : List ℕ) → words ≤ 65_536
         → assembled start (generated_text seed words) ≡ Ok file
@@ -58,8 +58,8 @@ pub fn generated_programs_fit()
 }
 
 /// A generated program, in any memory for which the loader accepts its file, with any input: the flat run of
-/// `8 * words + 21` instructions or more ends after exactly so many with the exit 0, and its output is the four bytes of
-/// the hash of the data words, the least first.
+/// `8 * words + 21` instructions or more ends after exactly so many with the exit 0, and its output is the four bytes
+/// of the hash of the data words, the least first.
 pub fn generated_programs_hash()
     ensures { (seed words base size n : ℕ) (file input : List ℕ) → IsMemory base size → 1 ≤ words → words ≤ 65_536
         → assembled start (generated_text seed words) ≡ Ok file → IsFaultless base size file → 8 * words + 21 ≤ n

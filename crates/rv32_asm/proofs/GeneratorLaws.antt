@@ -1,8 +1,8 @@
--- The generator's text assembles: its lines, the passes over the program's lines, which are computed, and those over the
--- lines of numbers, by induction.
-use Rattle.std.proofs.Common.{◌≡◌, ◌∙◌, ℕ, zero, suc, ◌+◌, ◌*◌, ◌/◌, ◌%◌, ◌^◌, ◌<◌, ◌≤◌, List, [], ◌∷◌, ◌++◌, length, map, ap, sym, refl, arith, append_assoc, length-append, Bool, true, false}
-use Rattle.std.specs.Prelude.{◌==◌, nat_lt, nat_le, ◌&&◌, if◌then◌else◌, pos, Some, None, Ok, slice_index, codes}
-use Rattle.std.specs.List.{flat_map, list_all}
+-- The generator's text assembles: its lines, the passes over the program's lines, which are computed, and those over
+-- the lines of numbers, by induction.
+use Rattle.std.proofs.Common.{◌≡◌, ◌∙◌, ℕ, zero, suc, ◌+◌, ◌*◌, ◌%◌, ◌^◌, ◌<◌, ◌≤◌, List, [], ◌∷◌, ◌++◌, length, map, ap, sym, refl, arith, append_assoc, length-append, Bool, true, false}
+use Rattle.std.specs.Prelude.{◌==◌, nat_lt, nat_le, ◌&&◌, pos, Some, None, Ok, slice_index, codes}
+use Rattle.std.specs.List.{list_all}
 use Rattle.std.specs.Int.{to_le_bytes, w32}
 use Rattle.std.specs.Fmt.{decimal}
 use Rattle.std.proofs.lemmas.Bool.{lt-ltb, ltb-true, le-leb, eqb-true}
@@ -15,14 +15,14 @@ use Rattle.rv32_asm.specs.Scanning.{numbered, named}
 use Rattle.rv32_asm.specs.Lines.{Parts, lines_of, with_first, is_text_byte, parts_of, without_comment}
 use Rattle.rv32_asm.specs.Values.{multiples}
 use Rattle.rv32_asm.specs.Operands.{Number, Bytes4}
-use Rattle.rv32_asm.specs.Passes.{◌>>>◌, in_line, Labels, Measure, statement_of, size_of, grown, measured, first_pass, bytes_of_found, valued, second_pass, program_of}
+use Rattle.rv32_asm.specs.Passes.{◌>>>◌, in_line, Labels, statement_of, grown, measured, first_pass, bytes_of_found, valued, second_pass, program_of}
 use Rattle.rv32_asm.specs.PassViews.{measure_of}
 use Rattle.rv32_asm.specs.Disassembly.{number_text}
 use Rattle.rv32_asm.specs.File.{words, file_of, assembled}
-use Rattle.rv32_asm.specs.Generator.{number_at, data_word, data_words, program_lines, number_line, ended, text_of_lines, program_data, generated_text, start, program, generated_words, generated_file}
+use Rattle.rv32_asm.specs.Generator.{data_word, data_words, program_lines, number_line, ended, text_of_lines, program_data, generated_text, start, program, generated_words, generated_file}
 use Rattle.rv32_asm.proofs.TestLaws.{and_first, and_second, and_both, all_both, if_true, if_false}
 use Rattle.rv32_asm.proofs.QuietLaws.{is_quiet, of_text, parts_behind}
-use Rattle.rv32_asm.proofs.PassLaws.{measured_size, first_more}
+use Rattle.rv32_asm.proofs.PassLaws.{measured_size}
 use Rattle.rv32_asm.proofs.SaidLaws.{digits_quiet, number_statement, number_bytes}
 
 -- a word of 32 bits
@@ -48,8 +48,8 @@ length_data seed (suc count) =
     more n = omega arith
 
 -- a line, and what follows its line feed
-not_text : (stop byte : ℕ) → is_text_byte stop ≡ false → is_text_byte byte ≡ true → (same : Bool) → (byte == stop) ≡ same
-    → same ≡ false
+not_text : (stop byte : ℕ) → is_text_byte stop ≡ false → is_text_byte byte ≡ true → (same : Bool)
+    → (byte == stop) ≡ same → same ≡ false
 not_text stop byte none is true equal =
     let same : byte ≡ stop = eqb-true byte stop equal in
     let impossible : false ≡ true = sym none ∙ ap is_text_byte (sym same) ∙ is in absurd (cc)
@@ -117,7 +117,8 @@ module _ (at : ℕ) (labels : Labels) where
   empty_measured count few within =
       ap (λ n. grown at n labels) none
       ∙ if_true (nat_le count 16_000_000 && nat_le (at + count) 4_294_901_760)
-      (and_both (nat_le count 16_000_000) _ (le-leb count 16_000_000 few) (le-leb (at + count) 4_294_901_760 within)) _ _
+      (and_both (nat_le count 16_000_000) _ (le-leb count 16_000_000 few) (le-leb (at + count) 4_294_901_760 within))
+      _ _
     where
       none : count + 0 ≡ count
       none = omega arith
@@ -259,7 +260,8 @@ pub text_more : (lines : List (List ℕ)) (numbers : List ℕ) (number : ℕ)
     → text_of_lines (lines ++ map number_line numbers) ++ ended (number_line number)
     ≡ text_of_lines (lines ++ map number_line (numbers ++ number ∷ []))
 text_more lines numbers number =
-    ap (λ more. text_of_lines (lines ++ map number_line numbers) ++ more) (sym (append-nil (ended (number_line number))))
+    ap (λ more. text_of_lines (lines ++ map number_line numbers) ++ more)
+    (sym (append-nil (ended (number_line number))))
     ∙ sym (flat_map-append ended (lines ++ map number_line numbers) (number_line number ∷ []))
     ∙ ap text_of_lines (append_assoc lines (map number_line numbers) (number_line number ∷ []))
     ∙ ap (λ ls. text_of_lines (lines ++ ls)) (sym (map-append number_line numbers (number ∷ [])))

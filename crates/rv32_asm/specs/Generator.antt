@@ -1,5 +1,5 @@
 -- The generator: the text of a program that hashes a list of words, and the words, which are made from a seed.
-use Rattle.std.specs.Prelude.{ℕ, zero, suc, ◌+◌, ◌*◌, ◌/◌, ◌%◌, ◌^◌, ℤ, pos, neg_ℤ, List, [], ◌∷◌, ◌++◌, map, codes}
+use Rattle.std.specs.Prelude.{ℕ, zero, suc, ◌+◌, ◌*◌, ◌/◌, ◌%◌, ◌^◌, pos, neg_ℤ, List, [], ◌∷◌, ◌++◌, map, codes}
 use Rattle.std.specs.List.{flat_map}
 use Rattle.std.specs.Fmt.{decimal}
 use Rattle.rv32_table.specs.Encoded.{encoded}
@@ -30,8 +30,8 @@ abbrev pub data_words : ℕ → ℕ → List ℕ
 data_words seed zero = []
 data_words seed (suc count) = data_words seed count ++ data_word seed count ∷ []
 
--- The lines of the program up to its data. It reads the count, takes each word in turn into the hash, puts the hash into
--- the word's place, writes the last hash as the output's four bytes, and exits with 0.
+-- The lines of the program up to its data. It reads the count, takes each word in turn into the hash, puts the hash
+-- into the word's place, writes the last hash as the output's four bytes, and exits with 0.
 unfoldable pub program_lines : List (List ℕ)
 program_lines =
     codes " la s0, count"

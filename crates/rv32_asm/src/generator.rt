@@ -18,8 +18,8 @@ const FACTOR: u64 = 6_364_136_223_846_793_005;
 /// What is added to the product.
 const SUMMAND: u64 = 1_442_695_040_888_963_407;
 
-/// The program up to its data: it takes each word into a hash, which it puts into the word's place, writes the last hash
-/// as four bytes, the least first, and exits with 0.
+/// The program up to its data: it takes each word into a hash, which it puts into the word's place, writes the last
+/// hash as four bytes, the least first, and exits with 0.
 const PROGRAM: &str = " la s0, count
  lw s1, 0(s0)
  addi s0, s0, 4

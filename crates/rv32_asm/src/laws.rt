@@ -17,8 +17,8 @@ pub fn statements_are_their_words()
     decoded_is_encoded();
 }
 
-/// Whatever the seed, the text that is made from it and a count of at most 65,536 words is short enough to assemble, and
-/// assembles at 65,536 to the program with its data.
+/// Whatever the seed, the text that is made from it and a count of at most 65,536 words is short enough to assemble,
+/// and assembles at 65,536 to the program with its data.
 pub fn generated_texts_assemble()
     ensures short { (seed count : ℕ) → count ≤ 65_536 → length (generated_text seed count) ≤ 4_194_304 }
     ensures file { (seed count : ℕ) → count ≤ 65_536

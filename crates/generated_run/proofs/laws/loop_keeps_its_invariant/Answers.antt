@@ -14,4 +14,5 @@ returns-clause-turn c = λ around all taken left word machine memory room words 
     (next.next, next.after, next.leads, next.turning)
 
 pub returns-clause-last : goal.returns-clause-last
-returns-clause-last c = λ around all machine memory n room turning. last_written around all room machine memory turning n
+returns-clause-last c = λ around all machine memory n room turning.
+    last_written around all room machine memory turning n
