@@ -1,0 +1,162 @@
+-- How slots keep the timetable, one after another.
+use Rattle.std.proofs.Common.{◌≡◌, ◌<◌, ◌≤◌, ℕ, zero, suc, ◌+◌, Bool, true, false, cond, List, [], ◌∷◌, ◌++◌, length, Option, Some, None, refl, sym, ap, ◌∙◌, subst, arith, append-nil, append_assoc, length-append}
+use Rattle.std.specs.Prelude.{map, option_to_list, unwrap_or}
+use Rattle.std.specs.List.{flat_map, All}
+use Rattle.std.specs.Option.{option_map_or}
+use Rattle.std.proofs.lemmas.List.{map-append, get_or_append_left, get_or_push}
+use Rattle.std.proofs.lemmas.List.Concat.{flat_map-append}
+use Rattle.std.proofs.lemmas.List.Elements.{All-nil, All-push}
+use Rattle.asc_base.specs.TreeShape.{olat_of}
+use Rattle.bus_schedule.specs.declared.beat.Beat.{Beat}
+use Rattle.bus_schedule.specs.Shown.{code_of}
+use Rattle.bus_schedule.specs.Timetable.{Public, AgreeTo, count_of, rate_at, digit_of, falls_next, first_beat, beat_with, beat_after, beat_at, start_at, end_at, starts_from, starts}
+use Rattle.bus_schedule.proofs.CodeLaws.{digit-of-code}
+use Rattle.bus_schedule.proofs.ScheduledLaws.{beat-without, beat-chosen}
+use Rattle.bus_schedule.proofs.TimetableLaws.{starts-next, beat-agrees, starts-agree}
+use Rattle.run_play.specs.Slots.{Pace, first_pace, Slot}
+use Rattle.run_play.specs.PlayEvents.{starts_in, indices_in, code_in}
+
+-- These slots were taken, by the code of the choices at their ends, up to this pace.
+pub record Paced (p : Public) (slots : List Slot) (pace : Pace) : Type 0 where
+  pub code : ℕ
+  pub count : ℕ
+  pub code_is : code ≡ code_in p slots
+  pub counted : length slots ≡ count
+  pub begun : starts_in slots ≡ starts p code count
+  pub beat : pace.beat ≡ beat_at p code count
+  pub ended : pace.heard.ended ≡ end_at p code count
+  pub within : All (λ index. index < count_of p) (indices_in slots)
+  pub fell : length (indices_in slots) ≡ (beat_at p code count).choices
+
+-- none was
+pub paced-none : (p : Public) → Paced p [] (first_pace p)
+unfolding starts starts_from beat_at code_of
+paced-none p = record {
+  code = 0;
+  count = 0;
+  code_is = refl;
+  counted = refl;
+  begun = refl;
+  beat = refl;
+  ended = refl;
+  within = All-nil (λ index. index < count_of p);
+  fell = refl;
+}
+
+one-more : (slots : List Slot) (slot : Slot) (n : ℕ) → length slots ≡ n → length (slots ++ slot ∷ []) ≡ suc n
+one-more slots slot n counted = omega (arith, length-append slots (slot ∷ []), counted)
+
+indices-more : (slots : List Slot) (slot : Slot) (chosen : Option ℕ) → slot.chosen ≡ chosen
+    → indices_in (slots ++ slot ∷ []) ≡ indices_in slots ++ option_to_list chosen
+indices-more slots slot chosen is =
+    flat_map-append (λ (s : Slot). option_to_list s.chosen) slots (slot ∷ [])
+    ∙ ap (λ l. indices_in slots ++ l) (append-nil (option_to_list slot.chosen))
+    ∙ ap (λ o. indices_in slots ++ option_to_list o) is
+
+starts-more : (p : Public) (slots : List Slot) (pace : Pace) (slot : Slot) → (h : Paced p slots pace)
+    → slot.start ≡ pace.beat.next → starts_in (slots ++ slot ∷ []) ≡ starts p h.code (suc h.count)
+starts-more p slots pace slot h at =
+    map-append (λ (s : Slot). s.start) slots (slot ∷ [])
+    ∙ ap (λ s. starts_in slots ++ s ∷ []) (at ∙ ap (λ (b : Beat). b.next) h.beat)
+    ∙ ap (λ l. l ++ start_at p h.code h.count ∷ []) h.begun
+    ∙ sym (starts-next p h.code h.count)
+
+ended-more : (p : Public) (slots : List Slot) (pace next : Pace) → (h : Paced p slots pace)
+    → next.heard.ended ≡ pace.beat.next + olat_of p.levels → next.heard.ended ≡ end_at p h.code (suc h.count)
+ended-more p slots pace next h is = is ∙ ap (λ (b : Beat). b.next + olat_of p.levels) h.beat
+
+-- a slot more, at whose end no choice falls
+pub paced-without : (p : Public) (slots : List Slot) (pace next : Pace) (slot : Slot) → Paced p slots pace
+    → falls_next p pace.beat ≡ false → slot.start ≡ pace.beat.next → slot.chosen ≡ None
+    → next.beat ≡ beat_with p pace.beat pace.beat.rate pace.beat.choices
+    → next.heard.ended ≡ pace.beat.next + olat_of p.levels → Paced p (slots ++ slot ∷ []) next
+paced-without p slots pace next slot h none at chosen beat ended =
+    let same : indices_in (slots ++ slot ∷ []) ≡ indices_in slots =
+        indices-more slots slot None chosen ∙ append-nil (indices_in slots) in
+    let beat_is : beat_at p h.code (suc h.count)
+        ≡ beat_with p (beat_at p h.code h.count) (beat_at p h.code h.count).rate (beat_at p h.code h.count).choices =
+        beat-without p h.code h.count (ap (falls_next p) (sym h.beat) ∙ none) in
+    record {
+      code = h.code;
+      count = suc h.count;
+      code_is = h.code_is ∙ ap (code_of (count_of p)) (sym same);
+      counted = one-more slots slot h.count h.counted;
+      begun = starts-more p slots pace slot h at;
+      beat = beat ∙ ap (λ (b : Beat). beat_with p b b.rate b.choices) h.beat ∙ sym beat_is;
+      ended = ended-more p slots pace next h ended;
+      within = subst (λ l. All (λ index. index < count_of p) l) (sym same) h.within;
+      fell = ap length same ∙ h.fell ∙ ap (λ (b : Beat). b.choices) (sym beat_is);
+    }
+
+-- ---- a choice more
+pub record MoreDigits (p : Public) (n index code : ℕ) (digits : List ℕ) : Type 0 where
+  pub within : All (λ i. i < count_of p) (digits ++ index ∷ [])
+  pub agree : AgreeTo p code (code_of (count_of p) (digits ++ index ∷ [])) (length digits)
+  pub beat_is : beat_at p code n ≡ beat_at p (code_of (count_of p) (digits ++ index ∷ [])) n
+  pub digit : digit_of (code_of (count_of p) (digits ++ index ∷ [])) (count_of p)
+      (beat_at p (code_of (count_of p) (digits ++ index ∷ [])) n).choices ≡ index
+
+pub more-digits : (p : Public) (n index code : ℕ) (digits : List ℕ) → code ≡ code_of (count_of p) digits
+    → All (λ i. i < count_of p) digits → length digits ≡ (beat_at p code n).choices → index < count_of p
+    → MoreDigits p n index code digits
+more-digits p n index code digits is all fell small =
+    let base : ℕ = count_of p in
+    let new : ℕ = code_of base (digits ++ index ∷ []) in
+    let within : All (λ i. i < count_of p) (digits ++ index ∷ []) =
+        All-push (λ i. i < count_of p) digits index all small in
+    let more : length (digits ++ index ∷ []) ≡ length digits + 1 = length-append digits (index ∷ []) in
+    let agree : AgreeTo p code new (length digits) =
+        (λ place below.
+        ap (λ c. digit_of c base place) is
+        ∙ digit-of-code base digits place all below
+        ∙ sym (get_or_append_left digits (index ∷ []) 0 place below)
+        ∙ sym (digit-of-code base (digits ++ index ∷ []) place within (omega arith))) in
+    let beat_is : beat_at p code n ≡ beat_at p new n =
+        beat-agrees p code new (length digits) n agree (omega (arith, fell)) in
+    let place : (beat_at p new n).choices ≡ length digits =
+        ap (λ (b : Beat). b.choices) (sym beat_is) ∙ sym fell in
+    record {
+      within = within;
+      agree = agree;
+      beat_is = beat_is;
+      digit = ap (digit_of new base) place
+        ∙ digit-of-code base (digits ++ index ∷ []) (length digits) within (omega arith)
+        ∙ get_or_push digits index 0 (length digits) refl;
+    }
+
+-- a slot more, at whose end this index is chosen
+pub paced-chosen : (p : Public) (slots : List Slot) (pace next : Pace) (slot : Slot) (index : ℕ) → Paced p slots pace
+    → falls_next p pace.beat ≡ true → index < count_of p → slot.start ≡ pace.beat.next → slot.chosen ≡ Some index
+    → next.beat ≡ beat_with p pace.beat (rate_at p.rates index) (pace.beat.choices + 1)
+    → next.heard.ended ≡ pace.beat.next + olat_of p.levels → Paced p (slots ++ slot ∷ []) next
+paced-chosen p slots pace next slot index h some small at chosen beat ended =
+    let digits : List ℕ = indices_in slots in
+    let new : ℕ = code_of (count_of p) (digits ++ index ∷ []) in
+    let m : MoreDigits p h.count index h.code digits =
+        more-digits p h.count index h.code digits h.code_is h.within h.fell small in
+    let indices : indices_in (slots ++ slot ∷ []) ≡ digits ++ index ∷ [] =
+        indices-more slots slot (Some index) chosen in
+    let beat_is : beat_at p new (suc h.count)
+        ≡ beat_with p (beat_at p new h.count) (rate_at p.rates index) ((beat_at p new h.count).choices + 1) =
+        beat-chosen p new h.count (ap (falls_next p) (sym (h.beat ∙ m.beat_is)) ∙ some)
+        ∙ ap
+        (λ i. beat_with p (beat_at p new h.count) (rate_at p.rates i) ((beat_at p new h.count).choices + 1)) m.digit in
+    let few : (beat_at p h.code h.count).choices ≤ length digits = omega (arith, h.fell) in
+    let same : starts p h.code (suc h.count) ≡ starts p new (suc h.count) =
+        starts-agree p h.code new (length digits) h.count m.agree few in
+    record {
+      code = new;
+      count = suc h.count;
+      code_is = ap (code_of (count_of p)) (sym indices);
+      counted = one-more slots slot h.count h.counted;
+      begun = starts-more p slots pace slot h at ∙ same;
+      beat = beat
+        ∙ ap (λ (b : Beat). beat_with p b (rate_at p.rates index) (b.choices + 1)) (h.beat ∙ m.beat_is)
+        ∙ sym beat_is;
+      ended = ended-more p slots pace next h ended
+        ∙ ap (λ (b : Beat). b.next + olat_of p.levels) m.beat_is;
+      within = subst (λ l. All (λ i. i < count_of p) l) (sym indices) m.within;
+      fell = ap length indices ∙ length-append digits (index ∷ [])
+        ∙ ap (λ k. k + 1) (h.fell ∙ ap (λ (b : Beat). b.choices) m.beat_is)
+        ∙ ap (λ (b : Beat). b.choices) (sym beat_is);
+    }

@@ -1,0 +1,93 @@
+//! Laws of plays and halts. The functions do nothing: each states laws in its contract.
+
+ghost use Rattle.std.specs.Prelude.{◌≡◌, ◌<◌, ◌≤◌, ◌^◌, ℕ, suc, List, [], ◌∷◌, ◌++◌, length, map, take, slice_get};
+ghost use Rattle.std.specs.Prelude.{Option, Some, None};
+ghost use Rattle.asc_base.specs.Settings.{IsConfig};
+ghost use Rattle.asc_base.specs.declared.settings.Config.{Config};
+ghost use Rattle.bus_schedule.specs.Shown.{starts_of, indices_of};
+ghost use Rattle.bus_schedule.specs.Timetable.{public_of, count_of};
+ghost use Rattle.bus_watch.specs.declared.log.Event.{Event};
+ghost use Rattle.data_cache.specs.CacheLists.{Lines};
+ghost use Rattle.data_cache.specs.Lines.{LineRequest};
+ghost use Rattle.request_plan.specs.Plan.{Plan};
+ghost use Rattle.request_plan.specs.Play.{bare, play};
+ghost use Rattle.rv32_core.specs.Access.{Access};
+ghost use Rattle.rv32_core.specs.Machine.{CoreState, Machine};
+ghost use Rattle.run_play.specs.Slots.{Slot};
+ghost use Rattle.run_play.specs.Requests.{Standing, followed, one_by_one, request_slots};
+ghost use Rattle.run_play.specs.Play.{Play, Budget, after_slots, access_turn, instruction, comes_to, times_out};
+ghost use Rattle.run_play.specs.Play.{after_requests, play_from, play_of};
+ghost use Rattle.run_play.specs.Halt.{Stop, ending_of, end_of, cut_at, unprepared, halt};
+ghost use Rattle.run_play.specs.PlayEvents.{PlayEvent, said_of_all, play_events, starts_in, points_in, indices_in};
+ghost use Rattle.run_play.specs.PlayEvents.{choices_in, code_in};
+ghost use Rattle.run_play.specs.OnTime.{AreOnTime};
+ghost use Rattle.run_play.specs.Turns.{access_slots, Matches};
+
+/// A play goes on instruction by instruction: where no instruction is left it ends with the budget, where no time is
+/// left with the time, and else the slots of the next instruction's requests are taken, and what comes of them depends
+/// on whether a slot came too late and how the instruction ended. Slots that were taken before stand before all others.
+/// Requests one after another are the first of them, and then, unless a slot came too late, the others.
+pub fn play_goes_on()
+    ensures budget { (config : Config) (machine : Machine) (lines : Lines) (now : Standing)
+        → play_from config 0 machine lines now ≡ comes_to config Budget now }
+    ensures late { (config : Config) (n : ℕ) (machine : Machine) (lines : Lines) (now : Standing)
+        → config.time ≤ now.clock → play_from config (suc n) machine lines now ≡ times_out config now.clock now }
+    ensures next { (config : Config) (n : ℕ) (machine : Machine) (lines : Lines) (now : Standing)
+        → now.clock < config.time → let step = instruction config.ways machine lines in
+        let taken = one_by_one (request_slots config) (bare step.records) now in
+        play_from config (suc n) machine lines now
+        ≡ after_slots taken.slots
+        (after_requests config (play_from config n ((step.outcome).0) step.held) taken.standing
+        ((step.outcome).1).cost taken.standing.late ((step.outcome).1).ended) }
+    ensures twice { (one two : List Slot) (rest : Play)
+        → after_slots one (after_slots two rest) ≡ after_slots (one ++ two) rest }
+    ensures requests { (config : Config) (first others : List LineRequest) (now : Standing) → now.late ≡ None
+        → one_by_one (request_slots config) (first ++ others) now
+        ≡ (let taken = one_by_one (request_slots config) first now in
+        followed taken (one_by_one (request_slots config) others) taken.standing.late) }
+{}
+
+/// A core's accesses, one after another through a server that takes the slots of each, take the slots of all their
+/// requests, and leave what stands after them; the lines behind the machine and the outcome are those without slots.
+pub fn instructions_take_slots<A, B>()
+    ensures { (config : Config) (core : CoreState) (plan : Plan Access (List ℕ) B A) (lines : Lines) (now : Standing)
+        → now.late ≡ None → let whole = play (access_turn config.ways core) plan lines in
+        Matches (play (access_slots config core) plan (lines, now)) whole
+        (one_by_one (request_slots config) (bare whole.records) now) }
+{}
+
+/// A play that is cut in a slot is the slots before it and a part of that one, with the numbers that it leaves. So its
+/// starts and points are the first of the play's, and its events the first of the play's.
+pub fn halts_are_prefixes()
+    ensures at { (levels : ℕ) (run : Play) (stop : Stop) (before later : List Slot) (cut : Slot)
+        → run.slots ≡ before ++ cut ∷ later
+        → halt levels run (suc (length before)) stop ≡ cut_at levels stop before cut }
+    ensures none { (levels : ℕ) (run : Play) (stop : Stop) → halt levels run 0 stop ≡ unprepared }
+    ensures behind { (levels : ℕ) (run : Play) (stop : Stop) (k : ℕ) → length run.slots < k
+        → halt levels run k stop ≡ run }
+    ensures starts { (levels : ℕ) (run : Play) (k : ℕ) (stop : Stop) → k ≤ length run.slots
+        → starts_in (halt levels run k stop).slots ≡ take k (starts_in run.slots) }
+    ensures points { (levels : ℕ) (run : Play) (k : ℕ) (stop : Stop) → k ≤ length run.slots
+        → points_in (halt levels run k stop).slots ≡ take k (points_in run.slots) }
+    ensures numbers { (levels : ℕ) (run : Play) (k : ℕ) (stop : Stop) (slot : Slot)
+        → slice_get run.slots k ≡ Some slot
+        → ((halt levels run (suc k) stop).numbers ≡ slot.left)
+        × ((halt levels run (suc k) stop).ending ≡ ending_of stop)
+        × ((halt levels run (suc k) stop).last ≡ end_of levels slot.start stop) }
+    ensures events { (levels : ℕ) (run : Play) (k : ℕ) (stop : Stop) → (rest : List PlayEvent)
+        × (play_events run.slots ≡ play_events (halt levels run k stop).slots ++ rest) }
+{}
+
+/// The slots of a play, the dummies among them, start as the timetable of its code says, up to its end time; its choices
+/// are as many as fall by then, and its code is in the leakage budget. What a log says, where it says the events of
+/// slots, are their starts and choices.
+pub fn plays_are_scheduled()
+    ensures slots { (config : Config) → IsConfig config → (memory marked : List ℕ) (machine : Machine)
+        → let run = play_of config memory marked machine in AreOnTime (public_of config) run.last run.slots }
+    ensures code { (config : Config) (end : ℕ) (slots : List Slot) → IsConfig config
+        → AreOnTime (public_of config) end slots
+        → (code_in (public_of config) slots < count_of (public_of config) ^ choices_in slots)
+        × (code_in (public_of config) slots < 2 ^ config.leak) }
+    ensures log { (events : List Event) (slots : List Slot) → said_of_all events ≡ play_events slots
+        → (starts_of events ≡ starts_in slots) × (indices_of events ≡ indices_in slots) }
+{}

@@ -1,0 +1,12 @@
+//! What a program does over encrypted memory and when, where the memory is honest, as definitions: its slots, their
+//! points, what is tagged in them, the rates, the numbers that are reported; and a play that is cut by a stop.
+//!
+//! `specs/Play.antt` has the play, `specs/Halt.antt` the cut, `specs/PlayEvents.antt` what of a log's events they say.
+//! Times are in cycles. The crate has laws alone; the calls do nothing.
+#![tactic(auto)]
+
+mod laws;
+mod rows;
+
+pub use laws::{halts_are_prefixes, instructions_take_slots, play_goes_on, plays_are_scheduled};
+pub use rows::{appends_have_rows, halts_have_rows, jumps_have_rows, plays_have_rows};
