@@ -75,11 +75,11 @@ pub halt-numbers : (levels : ℕ) (run : Play) (k : ℕ) (stop : Stop) (slot : S
     × ((halt levels run (suc k) stop).last ≡ end_of levels slot.start stop)
 halt-numbers levels run k stop slot is =
     let whole : halt levels run (suc k) stop ≡ cut_at levels stop (take k run.slots) slot =
-        ap (λ found. option_map_or (cut_at levels stop (take k run.slots)) found run) is in (
-          ap (λ (r : Play). r.numbers) whole,
-          ap (λ (r : Play). r.ending) whole,
-          ap (λ (r : Play). r.last) whole,
-        )
+    ap (λ found. option_map_or (cut_at levels stop (take k run.slots)) found run) is in (
+      ap (λ (r : Play). r.numbers) whole,
+      ap (λ (r : Play). r.ending) whole,
+      ap (λ (r : Play). r.last) whole,
+    )
 
 -- ---- what no stop changes of a slot
 -- the slot with other messages and another choice
@@ -146,7 +146,7 @@ begins-put : (slot : Slot) → Begins (slot_events slot) (slot_events (after_put
 begins-put slot = (
   chooses_of slot.chosen ++ tags_of slot.appended,
   ap (λ l. Starts slot.start slot.asked ∷ Draws slot.point ∷ l)
-  (same-put slot.put (chooses_of slot.chosen) (tags_of slot.appended)),
+      (same-put slot.put (chooses_of slot.chosen) (tags_of slot.appended)),
 )
 
 begins-part : (levels : ℕ) (stop : Stop) (slot : Slot) → Begins (slot_events slot) (slot_events (part_of levels stop slot))
@@ -167,23 +167,22 @@ cut-events : (levels : ℕ) (run : Play) (stop : Stop) (k : ℕ) → k < length 
 cut-events levels run stop k below =
     let p : Parted run.slots k = parted run.slots k below in
     let cut : Begins (slot_events p.cut) (slot_events (part_of levels stop p.cut)) =
-        begins-part levels stop p.cut in
+    begins-part levels stop p.cut in
     let first : List PlayEvent = play_events p.before in
     let part : List PlayEvent = slot_events (part_of levels stop p.cut) in
     let more : List PlayEvent = play_events p.later in
     let is : play_events (halt levels run (suc k) stop).slots ≡ first ++ part =
-        ap (λ n. play_events (halt levels run (suc n) stop).slots) (sym p.counted)
-        ∙ ap (λ (r : Play). play_events r.slots) (halt-at levels run stop p.before p.later p.cut p.parts)
-        ∙ flat_map-append slot_events p.before (part_of levels stop p.cut ∷ [])
-        ∙ ap (λ l. first ++ l) (append-nil part) in
-    (
+    ap (λ n. play_events (halt levels run (suc n) stop).slots) (sym p.counted)
+    ∙ ap (λ (r : Play). play_events r.slots) (halt-at levels run stop p.before p.later p.cut p.parts)
+    ∙ flat_map-append slot_events p.before (part_of levels stop p.cut ∷ [])
+    ∙ ap (λ l. first ++ l) (append-nil part) in (
       cut.0 ++ more,
       ap play_events p.parts
-      ∙ flat_map-append slot_events p.before (p.cut ∷ p.later)
-      ∙ ap (λ l. first ++ (l ++ more)) cut.1
-      ∙ ap (λ l. first ++ l) (append_assoc part (cut.0) more)
-      ∙ sym (append_assoc first part (cut.0 ++ more))
-      ∙ ap (λ l. l ++ (cut.0 ++ more)) (sym is),
+          ∙ flat_map-append slot_events p.before (p.cut ∷ p.later)
+          ∙ ap (λ l. first ++ (l ++ more)) cut.1
+          ∙ ap (λ l. first ++ l) (append_assoc part (cut.0) more)
+          ∙ sym (append_assoc first part (cut.0 ++ more))
+          ∙ ap (λ l. l ++ (cut.0 ++ more)) (sym is),
     )
 
 pub halt-events : (levels : ℕ) (run : Play) (k : ℕ) (stop : Stop)
@@ -194,6 +193,6 @@ halt-events levels run (suc k) stop = elim (cases_lt k (length run.slots)) [
   | inr over ↦ (
     [],
     sym (append-nil (play_events run.slots))
-    ∙ ap (λ (r : Play). play_events r.slots ++ []) (sym (halt-behind levels run stop k over)),
+        ∙ ap (λ (r : Play). play_events r.slots ++ []) (sym (halt-behind levels run stop k over)),
   )
 ]

@@ -45,7 +45,7 @@ module _ (p : Public) (some : 0 < count_of p) where
       let heard : Heard = heard_next p pace asked in
       let index : ℕ = learner_rule p.rates (olat_of p.levels) heard.accesses (heard.ended - heard.since) in
       let is : choice_next p pace asked ≡ Some index =
-          ap (λ b. cond {A = Option ℕ} b (Some index) None) falls in
+      ap (λ b. cond {A = Option ℕ} b (Some index) None) falls in
       paced-chosen p slots pace (pace_after p pace asked) slot index h falls
       (index-within p.rates (olat_of p.levels) _ _ _ some) at (chosen ∙ is)
       (ap
@@ -58,7 +58,7 @@ module _ (p : Public) (some : 0 < count_of p) where
       let heard : Heard = heard_next p pace asked in
       let index : ℕ = learner_rule p.rates (olat_of p.levels) heard.accesses (heard.ended - heard.since) in
       let is : choice_next p pace asked ≡ None =
-          ap (λ b. cond {A = Option ℕ} b (Some index) None) falls in
+      ap (λ b. cond {A = Option ℕ} b (Some index) None) falls in
       paced-without p slots pace (pace_after p pace asked) slot h falls at (chosen ∙ is)
       (ap
       (λ b. cond {A = Beat} b

@@ -1,8 +1,13 @@
 pub mod Steps
 pub mod Halts
 pub mod Turns
+pub mod Lines
+pub mod Flat
+pub mod Finished
+pub mod PlaysFlat
 pub mod Events
 pub mod Paces
 pub mod Keeping
 pub mod PlaysOnTime
 pub mod Jumps
+pub mod Defaults

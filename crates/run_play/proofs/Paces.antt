@@ -72,10 +72,10 @@ pub paced-without : (p : Public) (slots : List Slot) (pace next : Pace) (slot : 
     → next.heard.ended ≡ pace.beat.next + olat_of p.levels → Paced p (slots ++ slot ∷ []) next
 paced-without p slots pace next slot h none at chosen beat ended =
     let same : indices_in (slots ++ slot ∷ []) ≡ indices_in slots =
-        indices-more slots slot None chosen ∙ append-nil (indices_in slots) in
+    indices-more slots slot None chosen ∙ append-nil (indices_in slots) in
     let beat_is : beat_at p h.code (suc h.count)
-        ≡ beat_with p (beat_at p h.code h.count) (beat_at p h.code h.count).rate (beat_at p h.code h.count).choices =
-        beat-without p h.code h.count (ap (falls_next p) (sym h.beat) ∙ none) in
+    ≡ beat_with p (beat_at p h.code h.count) (beat_at p h.code h.count).rate (beat_at p h.code h.count).choices =
+    beat-without p h.code h.count (ap (falls_next p) (sym h.beat) ∙ none) in
     record {
       code = h.code;
       count = suc h.count;
@@ -103,25 +103,25 @@ more-digits p n index code digits is all fell small =
     let base : ℕ = count_of p in
     let new : ℕ = code_of base (digits ++ index ∷ []) in
     let within : All (λ i. i < count_of p) (digits ++ index ∷ []) =
-        All-push (λ i. i < count_of p) digits index all small in
+    All-push (λ i. i < count_of p) digits index all small in
     let more : length (digits ++ index ∷ []) ≡ length digits + 1 = length-append digits (index ∷ []) in
     let agree : AgreeTo p code new (length digits) =
-        (λ place below.
-        ap (λ c. digit_of c base place) is
-        ∙ digit-of-code base digits place all below
-        ∙ sym (get_or_append_left digits (index ∷ []) 0 place below)
-        ∙ sym (digit-of-code base (digits ++ index ∷ []) place within (omega arith))) in
+    (λ place below.
+    ap (λ c. digit_of c base place) is
+    ∙ digit-of-code base digits place all below
+    ∙ sym (get_or_append_left digits (index ∷ []) 0 place below)
+    ∙ sym (digit-of-code base (digits ++ index ∷ []) place within (omega arith))) in
     let beat_is : beat_at p code n ≡ beat_at p new n =
-        beat-agrees p code new (length digits) n agree (omega (arith, fell)) in
+    beat-agrees p code new (length digits) n agree (omega (arith, fell)) in
     let place : (beat_at p new n).choices ≡ length digits =
-        ap (λ (b : Beat). b.choices) (sym beat_is) ∙ sym fell in
+    ap (λ (b : Beat). b.choices) (sym beat_is) ∙ sym fell in
     record {
       within = within;
       agree = agree;
       beat_is = beat_is;
       digit = ap (digit_of new base) place
-        ∙ digit-of-code base (digits ++ index ∷ []) (length digits) within (omega arith)
-        ∙ get_or_push digits index 0 (length digits) refl;
+          ∙ digit-of-code base (digits ++ index ∷ []) (length digits) within (omega arith)
+          ∙ get_or_push digits index 0 (length digits) refl;
     }
 
 -- a slot more, at whose end this index is chosen
@@ -133,17 +133,17 @@ paced-chosen p slots pace next slot index h some small at chosen beat ended =
     let digits : List ℕ = indices_in slots in
     let new : ℕ = code_of (count_of p) (digits ++ index ∷ []) in
     let m : MoreDigits p h.count index h.code digits =
-        more-digits p h.count index h.code digits h.code_is h.within h.fell small in
+    more-digits p h.count index h.code digits h.code_is h.within h.fell small in
     let indices : indices_in (slots ++ slot ∷ []) ≡ digits ++ index ∷ [] =
-        indices-more slots slot (Some index) chosen in
+    indices-more slots slot (Some index) chosen in
     let beat_is : beat_at p new (suc h.count)
-        ≡ beat_with p (beat_at p new h.count) (rate_at p.rates index) ((beat_at p new h.count).choices + 1) =
-        beat-chosen p new h.count (ap (falls_next p) (sym (h.beat ∙ m.beat_is)) ∙ some)
-        ∙ ap
-        (λ i. beat_with p (beat_at p new h.count) (rate_at p.rates i) ((beat_at p new h.count).choices + 1)) m.digit in
+    ≡ beat_with p (beat_at p new h.count) (rate_at p.rates index) ((beat_at p new h.count).choices + 1) =
+    beat-chosen p new h.count (ap (falls_next p) (sym (h.beat ∙ m.beat_is)) ∙ some)
+    ∙ ap
+    (λ i. beat_with p (beat_at p new h.count) (rate_at p.rates i) ((beat_at p new h.count).choices + 1)) m.digit in
     let few : (beat_at p h.code h.count).choices ≤ length digits = omega (arith, h.fell) in
     let same : starts p h.code (suc h.count) ≡ starts p new (suc h.count) =
-        starts-agree p h.code new (length digits) h.count m.agree few in
+    starts-agree p h.code new (length digits) h.count m.agree few in
     record {
       code = new;
       count = suc h.count;
@@ -151,12 +151,12 @@ paced-chosen p slots pace next slot index h some small at chosen beat ended =
       counted = one-more slots slot h.count h.counted;
       begun = starts-more p slots pace slot h at ∙ same;
       beat = beat
-        ∙ ap (λ (b : Beat). beat_with p b (rate_at p.rates index) (b.choices + 1)) (h.beat ∙ m.beat_is)
-        ∙ sym beat_is;
+          ∙ ap (λ (b : Beat). beat_with p b (rate_at p.rates index) (b.choices + 1)) (h.beat ∙ m.beat_is)
+          ∙ sym beat_is;
       ended = ended-more p slots pace next h ended
-        ∙ ap (λ (b : Beat). b.next + olat_of p.levels) m.beat_is;
+          ∙ ap (λ (b : Beat). b.next + olat_of p.levels) m.beat_is;
       within = subst (λ l. All (λ i. i < count_of p) l) (sym indices) m.within;
       fell = ap length indices ∙ length-append digits (index ∷ [])
-        ∙ ap (λ k. k + 1) (h.fell ∙ ap (λ (b : Beat). b.choices) m.beat_is)
-        ∙ ap (λ (b : Beat). b.choices) (sym beat_is);
+          ∙ ap (λ k. k + 1) (h.fell ∙ ap (λ (b : Beat). b.choices) m.beat_is)
+          ∙ ap (λ (b : Beat). b.choices) (sym beat_is);
     }

@@ -34,11 +34,11 @@ on-time p slots pace end h past next =
     let before : end ≤ start_at p h.code h.count = omega (arith, next_of) in
     record {
       starts = h.begun ∙ sym (timetable-between p h.code h.count end past_it before)
-        ∙ ap (λ code. timetable p code end) h.code_is;
+          ∙ ap (λ code. timetable p code end) h.code_is;
       indices = h.within;
       fell = h.fell
-        ∙ ap (λ n. (beat_at p h.code n).choices) (sym (ended-between p h.code h.count end past_it before))
-        ∙ ap (λ code. fallen p code end) h.code_is;
+          ∙ ap (λ n. (beat_at p h.code n).choices) (sym (ended-between p h.code h.count end past_it before))
+          ∙ ap (λ code. fallen p code end) h.code_is;
     }
 
 -- the last end isn't behind the next start
@@ -58,7 +58,7 @@ module _ (config : Config) (some : 0 < count_of (public_of config)) where
   lasts-ends ending until now slots h =
       let idle : Passed = passed (public_of config) now.numbers until now.pace in
       let all : Paced (public_of config) (slots ++ idle.slots) idle.pace =
-          paced-passed (public_of config) some now.numbers until now.pace slots h in
+      paced-passed (public_of config) some now.numbers until now.pace slots h in
       on-time (public_of config) (slots ++ idle.slots) idle.pace (max until idle.pace.heard.ended) all (omega arith)
       (omega (
         arith,
@@ -91,7 +91,7 @@ module _ (config : Config) (some : 0 < count_of (public_of config)) where
       let step = instruction config.ways machine lines in
       let taken : Taken = one_by_one (request_slots config) (bare step.records) now in
       let next : Play = after_requests config (rest ((step.outcome).0) step.held) taken.standing
-          ((step.outcome).1).cost taken.standing.late ((step.outcome).1).ended in
+      ((step.outcome).1).cost taken.standing.late ((step.outcome).1).ended in
       lasts-after taken next now (keeps-requests config some (bare step.records) now)
       (lasts-requests (rest ((step.outcome).0) step.held) taken.standing ((step.outcome).1).cost
       taken.standing.late ((step.outcome).1).ended (more ((step.outcome).0) step.held)) slots h
@@ -134,7 +134,7 @@ module _ (config : Config) (some : 0 < count_of (public_of config)) where
       let loaded : Taken = image_slots config memory marked sets first in
       let lines : Lines = record { memory = memory; sets = image_sets config marked sets } in
       let next : Play = after_image config (play_from config config.budget machine lines) loaded.standing
-          loaded.standing.late in
+      loaded.standing.late in
       lasts-after loaded next first (keeps-image memory marked sets first)
       (lasts-image (play_from config config.budget machine lines) loaded.standing loaded.standing.late
       (lasts-from config.budget machine lines)) [] (paced-none (public_of config))
@@ -159,5 +159,5 @@ code-in-budget config end slots is h =
     let power : IsPowerTo 4 (count_of p) = count-power config is in
     let below : code_in p slots < count_of p ^ choices_in slots = code-below (count_of p) (indices_in slots) h.indices in
     let few : choices_in slots ≤ choices_of p =
-        omega (arith, choices-few p (code_in p slots) (ended_by p (code_in p slots) end), h.fell) in
+    omega (arith, choices-few p (code_in p slots) (ended_by p (code_in p slots) end), h.fell) in
     (below, omega (arith, below, codes-few p power.0 (choices_in slots) power.2 few))

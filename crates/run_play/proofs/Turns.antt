@@ -14,7 +14,7 @@ use Rattle.run_play.specs.Play.{access_turn}
 use Rattle.run_play.specs.Turns.{unless_late, access_slots, Matches}
 use Rattle.run_play.proofs.Steps.{one_by_one-append}
 
-bare-turn : {R B : Type 0} (b : B) (rs : List R) (more : List (R × B)) → bare (marked b rs ++ more) ≡ rs ++ bare more
+pub bare-turn : {R B : Type 0} (b : B) (rs : List R) (more : List (R × B)) → bare (marked b rs ++ more) ≡ rs ++ bare more
 bare-turn b rs more = bare-append (marked b rs) more ∙ ap (λ l. l ++ bare more) (bare-marked b rs)
 
 module _ (config : Config) (core : CoreState) where
@@ -67,7 +67,7 @@ module _ (config : Config) (core : CoreState) where
       let both = play (access_slots config core) plan (lines, first.standing) in
       record {
         slots = bare-turn left first.slots both.records ∙ ap (λ l. first.slots ++ l) m.slots
-          ∙ append-nil first.slots;
+            ∙ append-nil first.slots;
         held = m.held;
         outcome = m.outcome;
       }
@@ -84,9 +84,9 @@ module _ (config : Config) (core : CoreState) where
       let rest = play (access_turn config.ways core) (next turn.answer) turn.held in
       let whole = play (access_turn config.ways core) (Ask access left next) lines in
       let same : one_by_one (request_slots config) (bare whole.records) now
-          ≡ followed first (one_by_one (request_slots config) (bare rest.records)) first.standing.late =
-          ap (λ l. one_by_one (request_slots config) l now) (bare-turn left turn.records rest.records)
-          ∙ one_by_one-append (request_slots config) turn.records (bare rest.records) now is in
+      ≡ followed first (one_by_one (request_slots config) (bare rest.records)) first.standing.late =
+      ap (λ l. one_by_one (request_slots config) l now) (bare-turn left turn.records rest.records)
+      ∙ one_by_one-append (request_slots config) turn.records (bare rest.records) now is in
       subst (λ (o : Option ℕ). Matches (after_first left (next turn.answer) turn.held (unless_late o first now)) whole
       (one_by_one (request_slots config) (bare whole.records) now)) (sym is)
       (subst (λ (t : Taken). Matches (after_first left (next turn.answer) turn.held first) whole t) (sym same)

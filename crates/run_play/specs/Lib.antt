@@ -5,4 +5,5 @@ pub mod Halt
 pub mod PlayEvents
 pub mod OnTime
 pub mod Turns
+pub mod Flat
 pub mod Rows

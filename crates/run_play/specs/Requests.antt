@@ -108,8 +108,8 @@ module _ (config : Config) where
   abbrev pub take_slot : Option (List ℕ) → Standing → WalkAccess → Passed → Bool → Taken
   take_slot value now access before true = record {
     slots = before.slots ++ slot_next (public_of config) before.pace now.numbers (Some now.clock)
-      (point_of access.address access.counter) (put_back now.data_lines value access access.purpose)
-      (option_map (message_of access.counters now.data_lines) access.displaced) ∷ [];
+        (point_of access.address access.counter) (put_back now.data_lines value access access.purpose)
+        (option_map (message_of access.counters now.data_lines) access.displaced) ∷ [];
     standing = record now {
       pace = pace_after (public_of config) before.pace (Some now.clock);
       clock = before.pace.beat.next + olat_of config.shape.levels;

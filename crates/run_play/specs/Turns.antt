@@ -1,13 +1,14 @@
--- The slots of an instruction, access by access: a server of a core's accesses that makes slots.
-use Rattle.std.specs.Prelude.{◌≡◌, ℕ, List, Option, Some, None}
+-- Servers that make slots: of a core's accesses, and of requests for lines.
+use Rattle.std.specs.Prelude.{◌≡◌, ℕ, nat_eq, List, [], replicate, Option, Some, None, unwrap_or}
+use Rattle.std.specs.Map.{lookup}
 use Rattle.asc_base.specs.declared.settings.Config.{Config}
 use Rattle.data_cache.specs.CacheLists.{Lines}
-use Rattle.data_cache.specs.Lines.{LineRequest}
+use Rattle.data_cache.specs.Lines.{LineRequest, Fetch, Store}
 use Rattle.request_plan.specs.Play.{Turn, Played, bare}
 use Rattle.rv32_core.specs.Access.{Access}
 use Rattle.rv32_core.specs.Machine.{CoreState}
 use Rattle.run_play.specs.Slots.{Slot}
-use Rattle.run_play.specs.Requests.{Standing, Taken, none_taken, one_by_one, request_slots}
+use Rattle.run_play.specs.Requests.{StoredLines, Standing, Taken, none_taken, one_by_one, request_slots}
 use Rattle.run_play.specs.Play.{access_turn}
 
 -- nothing more is taken once a slot came too late
@@ -29,3 +30,19 @@ pub record Matches {B A : Type 0} (both : Played Slot (Lines × Standing) B A) (
   pub slots : bare both.records ≡ taken.slots
   pub held : both.held ≡ (whole.held, taken.standing)
   pub outcome : both.outcome ≡ whole.outcome
+
+-- the line that is answered to a fetch, as last stored, and zeros where it never was
+abbrev pub answered : StoredLines → LineRequest → List ℕ
+answered lines (Fetch line) = unwrap_or (lookup (nat_eq line) lines) (replicate 64 0)
+answered lines (Store line value) = []
+
+-- The turn of a request for a line: its slots.
+abbrev pub line_slots : Config → Standing → LineRequest → Turn Slot Standing (List ℕ)
+line_slots config now request =
+    let taken = unless_late now.late (request_slots config now request) now in
+    record { records = taken.slots; held = taken.standing; answer = answered now.data_lines request }
+
+-- A play by that server takes these slots, and leaves what stands after them.
+pub record Takes {B A : Type 0} (played : Played Slot Standing B A) (taken : Taken) : Type 0 where
+  pub slots : bare played.records ≡ taken.slots
+  pub held : played.held ≡ taken.standing

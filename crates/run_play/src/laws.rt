@@ -7,11 +7,14 @@ ghost use Rattle.asc_base.specs.declared.settings.Config.{Config};
 ghost use Rattle.bus_schedule.specs.Shown.{starts_of, indices_of};
 ghost use Rattle.bus_schedule.specs.Timetable.{public_of, count_of};
 ghost use Rattle.bus_watch.specs.declared.log.Event.{Event};
-ghost use Rattle.data_cache.specs.CacheLists.{Lines};
+ghost use Rattle.asc_base.specs.Memory.{IsMemory};
+ghost use Rattle.data_cache.specs.CacheLists.{Lines, Requests, requests_along};
 ghost use Rattle.data_cache.specs.Lines.{LineRequest};
 ghost use Rattle.request_plan.specs.Plan.{Plan};
 ghost use Rattle.request_plan.specs.Play.{bare, play};
 ghost use Rattle.rv32_core.specs.Access.{Access};
+ghost use Rattle.rv32_core.specs.FlatMachine.{flat_step};
+ghost use Rattle.rv32_core.specs.LineList.{step_lines};
 ghost use Rattle.rv32_core.specs.Machine.{CoreState, Machine};
 ghost use Rattle.run_play.specs.Slots.{Slot};
 ghost use Rattle.run_play.specs.Requests.{Standing, followed, one_by_one, request_slots};
@@ -21,7 +24,8 @@ ghost use Rattle.run_play.specs.Halt.{Stop, ending_of, end_of, cut_at, unprepare
 ghost use Rattle.run_play.specs.PlayEvents.{PlayEvent, said_of_all, play_events, starts_in, points_in, indices_in};
 ghost use Rattle.run_play.specs.PlayEvents.{choices_in, code_in};
 ghost use Rattle.run_play.specs.OnTime.{AreOnTime};
-ghost use Rattle.run_play.specs.Turns.{access_slots, Matches};
+ghost use Rattle.run_play.specs.Turns.{access_slots, Matches, line_slots, Takes};
+ghost use Rattle.run_play.specs.Flat.{without_bytes, IsFlat};
 
 /// A play goes on instruction by instruction: where no instruction is left it ends with the budget, where no time is
 /// left with the time, and else the slots of the next instruction's requests are taken, and what comes of them depends
@@ -54,6 +58,30 @@ pub fn instructions_take_slots<A, B>()
         → now.late ≡ None → let whole = play (access_turn config.ways core) plan lines in
         Matches (play (access_slots config core) plan (lines, now)) whole
         (one_by_one (request_slots config) (bare whole.records) now) }
+{}
+
+/// A plan of requests for lines that makes these, whatever is answered, takes their slots one by one through a server that
+/// takes the slots of each, and leaves what stands after them.
+pub fn requests_take_slots<A, B>()
+    ensures { (config : Config) (plan : Plan LineRequest (List ℕ) B A) (requests : List LineRequest) (now : Standing)
+        → Requests plan requests → now.late ≡ None
+        → Takes (play (line_slots config) plan now) (one_by_one (request_slots config) requests now) }
+{}
+
+/// An instruction of a play is the flat machine's, and its requests are those that the cache's lists make of the
+/// instruction's lines in the line list. A play ends as the flat run does: an exit and a trap are the flat run's after as
+/// many instructions, at the budget all are finished, and when time is up the flat run goes on.
+pub fn plays_are_flat()
+    ensures instruction { (ways : ℕ) (machine : Machine) (lines : Lines)
+        → let step = instruction ways machine lines in
+        flat_step machine lines.memory
+        ≡ record { machine = (step.outcome).0; memory = step.held.memory; done = (step.outcome).1 } }
+    ensures lines { (ways : ℕ) (machine : Machine) (lines : Lines) → IsMemory machine.core.base machine.core.size
+        → map without_bytes (bare (instruction ways machine lines).records)
+        ≡ requests_along ways [] lines.sets (step_lines machine lines.memory) }
+    ensures ends { (config : Config) (memory marked : List ℕ) (machine : Machine)
+        → let run = play_of config memory marked machine in
+        IsFlat machine memory config.budget run.numbers.instructions run.ending }
 {}
 
 /// A play that is cut in a slot is the slots before it and a part of that one, with the numbers that it leaves. So its

@@ -8,5 +8,8 @@
 mod laws;
 mod rows;
 
-pub use laws::{halts_are_prefixes, instructions_take_slots, play_goes_on, plays_are_scheduled};
+pub use laws::{
+    halts_are_prefixes, instructions_take_slots, play_goes_on, plays_are_flat, plays_are_scheduled,
+    requests_take_slots,
+};
 pub use rows::{appends_have_rows, halts_have_rows, jumps_have_rows, plays_have_rows};

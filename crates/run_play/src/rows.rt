@@ -22,14 +22,41 @@ pub fn plays_have_rows()
     ensures default_settings { config_of default_settings ≡ default_config }
     ensures small_settings { config_of small_settings ≡ small }
     ensures exit { report_of (public_of default_config) (play_at default_config 65536 exit_words)
-        ≡ record { ending = Exited 0; instructions = 2; cycles = 12; last = 12; fetches = 0; real = 0; dummies = 0;
-          choices = 0; code = 0 } }
+        ≡ record {
+          ending = Exited 0;
+          instructions = 2;
+          cycles = 12;
+          last = 12;
+          fetches = 0;
+          real = 0;
+          dummies = 0;
+          choices = 0;
+          code = 0;
+        } }
     ensures hello { report_of (public_of default_config) (play_at default_config 65536 hello_words)
-        ≡ record { ending = Exited 0; instructions = 9; cycles = 34; last = 34; fetches = 0; real = 0; dummies = 0;
-          choices = 0; code = 0 } }
+        ≡ record {
+          ending = Exited 0;
+          instructions = 9;
+          cycles = 34;
+          last = 34;
+          fetches = 0;
+          real = 0;
+          dummies = 0;
+          choices = 0;
+          code = 0;
+        } }
     ensures load { report_of (public_of small) (play_at small 0 load_words)
-        ≡ record { ending = Exited 0; instructions = 3; cycles = 3019; last = 3019; fetches = 2; real = 4;
-          dummies = 0; choices = 0; code = 0 } }
+        ≡ record {
+          ending = Exited 0;
+          instructions = 3;
+          cycles = 3019;
+          last = 3019;
+          fetches = 2;
+          real = 4;
+          dummies = 0;
+          choices = 0;
+          code = 0;
+        } }
     ensures load_starts { starts_in (play_at small 0 load_words).slots ≡ 256 ∷ 1008 ∷ 1760 ∷ 2512 ∷ [] }
     ensures load_points { points_in (play_at small 0 load_words).slots
         ≡ real 64 0 0 ∷ real 0 0 0 ∷ real 1 0 0 ∷ real 0 0 1 ∷ [] }
@@ -40,22 +67,58 @@ pub fn plays_have_rows()
         ∷ Starts 2512 (Some 2258) ∷ Draws (real 0 0 1) ∷ tags 0 0 2 (memory_with 64 0 load_words) ∷ [] }
     ensures one_rate { starts_in (play_at one_rate 0 load_words).slots ≡ 256 ∷ 1008 ∷ 1760 ∷ 2512 ∷ [] }
     ensures trap { report_of (public_of small) (play_at small 0 misaligned_words)
-        ≡ record { ending = Trapped FetchMisaligned 4; instructions = 1; cycles = 2; last = 2; fetches = 0; real = 0;
-          dummies = 0; choices = 0; code = 0 } }
+        ≡ record {
+          ending = Trapped FetchMisaligned 4;
+          instructions = 1;
+          cycles = 2;
+          last = 2;
+          fetches = 0;
+          real = 0;
+          dummies = 0;
+          choices = 0;
+          code = 0;
+        } }
     ensures no_budget { report_of (public_of no_budget) (play_at no_budget 65536 hello_words)
-        ≡ record { ending = Budget; instructions = 0; cycles = 1; last = 1; fetches = 0; real = 0; dummies = 0;
-          choices = 0; code = 0 } }
+        ≡ record {
+          ending = Budget;
+          instructions = 0;
+          cycles = 1;
+          last = 1;
+          fetches = 0;
+          real = 0;
+          dummies = 0;
+          choices = 0;
+          code = 0;
+        } }
     ensures no_time { report_of (public_of no_time) (play_at no_time 0 load_words)
-        ≡ record { ending = TimeUp 256; instructions = 0; cycles = 1; last = 200; fetches = 0; real = 0; dummies = 0;
-          choices = 0; code = 0 } }
+        ≡ record {
+          ending = TimeUp 256;
+          instructions = 0;
+          cycles = 1;
+          last = 200;
+          fetches = 0;
+          real = 0;
+          dummies = 0;
+          choices = 0;
+          code = 0;
+        } }
 {}
 
 /// The same load under one root, where one block is held: the root's block comes to be held and is displaced by the map
 /// block below it, which is appended with the line of its children's counters, of which the first is 1.
 pub fn appends_have_rows()
     ensures report { report_of (public_of one_held) (play_at one_held 0 load_words)
-        ≡ record { ending = Exited 0; instructions = 3; cycles = 3771; last = 3771; fetches = 2; real = 5;
-          dummies = 0; choices = 0; code = 0 } }
+        ≡ record {
+          ending = Exited 0;
+          instructions = 3;
+          cycles = 3771;
+          last = 3771;
+          fetches = 2;
+          real = 5;
+          dummies = 0;
+          choices = 0;
+          code = 0;
+        } }
     ensures events { play_events (play_at one_held 0 load_words).slots
         ≡ Starts 256 (Some 1) ∷ Draws (real 66 0 0)
         ∷ Starts 1008 (Some 752) ∷ Draws (real 64 0 0) ∷ tags 66 1 0 (replicate 9 0 ++ 4 ∷ replicate 54 0)
@@ -63,22 +126,49 @@ pub fn appends_have_rows()
         ∷ Starts 2512 (Some 2256) ∷ Draws (real 1 0 0) ∷ tags 1 0 1 (replicate 64 0)
         ∷ Starts 3264 (Some 3010) ∷ Draws (real 0 0 1) ∷ tags 0 0 2 (memory_with 64 0 load_words) ∷ [] }
     ensures append { report_of (public_of one_held) (halt 5 (play_at one_held 0 load_words) 2 (AppendOverfull 201))
-        ≡ record { ending = StashFull 201; instructions = 0; cycles = 1; last = 1504; fetches = 0; real = 2;
-          dummies = 0; choices = 0; code = 0 } }
+        ≡ record {
+          ending = StashFull 201;
+          instructions = 0;
+          cycles = 1;
+          last = 1504;
+          fetches = 0;
+          real = 2;
+          dummies = 0;
+          choices = 0;
+          code = 0;
+        } }
 {}
 
 /// A program that jumps to itself until its time is up. It asks for no slot, so all slots are dummies. At the end of the
 /// 44th, at 33,088, where epoch 1 began, the greatest of four rates is chosen, since no slot was real.
 pub fn jumps_have_rows()
     ensures one_rate { report_of (public_of short_time) (play_at short_time 0 jump_words)
-        ≡ record { ending = TimeUp 6001; instructions = 3000; cycles = 6001; last = 6016; fetches = 0; real = 0;
-          dummies = 8; choices = 0; code = 0 } }
+        ≡ record {
+          ending = TimeUp 6001;
+          instructions = 3000;
+          cycles = 6001;
+          last = 6016;
+          fetches = 0;
+          real = 0;
+          dummies = 8;
+          choices = 0;
+          code = 0;
+        } }
     ensures starts { starts_in (play_at short_time 0 jump_words).slots
         ≡ 256 ∷ 1008 ∷ 1760 ∷ 2512 ∷ 3264 ∷ 4016 ∷ 4768 ∷ 5520 ∷ [] }
     ensures points { points_in (play_at short_time 0 jump_words).slots ≡ map Dummy (range_with_len 0 8) }
     ensures one_choice { report_of (public_of one_choice) (play_at one_choice 0 jump_words)
-        ≡ record { ending = TimeUp 200001; instructions = 100000; cycles = 200001; last = 200000; fetches = 0;
-          real = 0; dummies = 53; choices = 1; code = 3 } }
+        ≡ record {
+          ending = TimeUp 200001;
+          instructions = 100000;
+          cycles = 200001;
+          last = 200000;
+          fetches = 0;
+          real = 0;
+          dummies = 53;
+          choices = 1;
+          code = 3;
+        } }
     ensures slower { slice_index (starts_in (play_at one_choice 0 jump_words).slots) 44 ≡ 49472 }
     ensures last { slice_index (starts_in (play_at one_choice 0 jump_words).slots) 52 ≡ 184512 }
 {}
@@ -88,18 +178,45 @@ pub fn jumps_have_rows()
 /// second instruction.
 pub fn halts_have_rows()
     ensures read { report_of (public_of small) (halt 5 (play_at small 0 load_words) 1 (MoveFails 2))
-        ≡ record { ending = Device; instructions = 0; cycles = 1; last = 337; fetches = 0; real = 1; dummies = 0;
-          choices = 0; code = 0 } }
+        ≡ record {
+          ending = Device;
+          instructions = 0;
+          cycles = 1;
+          last = 337;
+          fetches = 0;
+          real = 1;
+          dummies = 0;
+          choices = 0;
+          code = 0;
+        } }
     ensures read_events { play_events (halt 5 (play_at small 0 load_words) 1 (MoveFails 2)).slots
         ≡ Starts 256 (Some 1) ∷ Draws (real 64 0 0) ∷ [] }
     ensures write { report_of (public_of small) (halt 5 (play_at small 0 load_words) 3 (MoveFails 8))
-        ≡ record { ending = Device; instructions = 0; cycles = 1; last = 2097; fetches = 0; real = 3; dummies = 0;
-          choices = 0; code = 0 } }
+        ≡ record {
+          ending = Device;
+          instructions = 0;
+          cycles = 1;
+          last = 2097;
+          fetches = 0;
+          real = 3;
+          dummies = 0;
+          choices = 0;
+          code = 0;
+        } }
     ensures write_events { play_events (halt 5 (play_at small 0 load_words) 3 (MoveFails 8)).slots
         ≡ Starts 256 (Some 1) ∷ Draws (real 64 0 0)
         ∷ Starts 1008 (Some 752) ∷ Draws (real 0 0 0) ∷ tags 0 0 1 (memory_with 64 0 load_words)
         ∷ Starts 1760 (Some 1504) ∷ Draws (real 1 0 0) ∷ tags 1 0 1 (replicate 64 0) ∷ [] }
     ensures full { report_of (public_of small) (halt 5 (play_at small 0 load_words) 4 (Overfull 201))
-        ≡ record { ending = StashFull 201; instructions = 1; cycles = 2258; last = 2752; fetches = 1; real = 4;
-          dummies = 0; choices = 0; code = 0 } }
+        ≡ record {
+          ending = StashFull 201;
+          instructions = 1;
+          cycles = 2258;
+          last = 2752;
+          fetches = 1;
+          real = 4;
+          dummies = 0;
+          choices = 0;
+          code = 0;
+        } }
 {}

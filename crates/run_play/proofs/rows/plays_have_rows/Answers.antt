@@ -19,11 +19,11 @@ use Rattle.rv32_table.specs.Table.{decoded, table}
 use Rattle.run_play.specs.Slots.{pass_up_to}
 use Rattle.run_play.specs.Requests.{one_by_one}
 use Rattle.run_play.specs.Play.{play_from, image_slots}
+use Rattle.run_play.proofs.Defaults.{default-is}
 use Rattle.run_play.proofs.rows.plays_have_rows.Goals as goal
 
 pub returns-clause-default_settings : goal.returns-clause-default_settings
-unfolding least greatest layer_count layer_first top_layer levels_of buckets_of places_of layered shape_of config_of narrow_rates layer_of index_of parent_of child_index_of children_of bits_of most_of epoch_at nearest index_by_sums code_of counter_at addresses_from siblings after points after_all all_points group_move asked_changes digits line_of own_counts lines_from pieces_within promoted_first without_first ancestors accesses_of_all walk_down pass_up_to play_from one_by_one image_slots decoded table register_meaning branch_meaning load_meaning
-returns-clause-default_settings c = refl
+returns-clause-default_settings c = default-is
 
 pub returns-clause-small_settings : goal.returns-clause-small_settings
 unfolding least greatest layer_count layer_first top_layer levels_of buckets_of places_of layered shape_of config_of narrow_rates layer_of index_of parent_of child_index_of children_of bits_of most_of epoch_at nearest index_by_sums code_of counter_at addresses_from siblings after points after_all all_points group_move asked_changes digits line_of own_counts lines_from pieces_within promoted_first without_first ancestors accesses_of_all walk_down pass_up_to play_from one_by_one image_slots decoded table register_meaning branch_meaning load_meaning
