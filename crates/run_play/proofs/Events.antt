@@ -1,5 +1,5 @@
 -- What the events of a log say of the slots of a play.
-use Rattle.std.proofs.Common.{◌≡◌, ℕ, List, [], ◌∷◌, ◌++◌, Option, Some, None, refl, sym, ap, ◌∙◌}
+use Rattle.std.proofs.Common.{◌≡◌, ℕ, ◌+◌, List, [], ◌∷◌, ◌++◌, Option, Some, None, refl, sym, ap, ◌∙◌}
 use Rattle.std.specs.Prelude.{option_to_list}
 use Rattle.std.specs.List.{flat_map}
 use Rattle.std.proofs.lemmas.List.Concat.{flat_map-append}
@@ -7,7 +7,11 @@ use Rattle.asc_base.specs.declared.block.Message.{Message}
 use Rattle.bus_schedule.specs.Shown.{start_of, index_of, starts_of, indices_of}
 use Rattle.bus_watch.specs.declared.log.Event.{Event}
 use Rattle.bus_watch.specs.declared.log.Event.TheVariants.{Access, Drawn, Tagged, Accepted, Chosen, Answered}
-use Rattle.run_play.specs.Slots.{Slot}
+use Rattle.asc_base.specs.TreeShape.{olat_of}
+use Rattle.bus_schedule.specs.Timetable.{Public}
+use Rattle.epoch_learner.specs.Heard.{Heard, nothing_heard, with_access, with_choice, hears, heard_of, told_by}
+use Rattle.run_play.specs.OnTime.{heard_slot, heard_slots, heard_in}
+use Rattle.run_play.specs.Slots.{Slot, heard_then}
 use Rattle.run_play.specs.PlayEvents.{PlayEvent, Starts, Draws, Tags, Chooses, said_of, said_of_all, tags_of, chooses_of, slot_events, play_events, starts_in, indices_in}
 
 -- the start and the index that an event of a play says
@@ -94,3 +98,68 @@ log-shows events slots is = (
   sym (all-said start_said said_of start_of start-said events) ∙ ap (flat_map start_said) is ∙ said-starts slots,
   sym (all-said index_said said_of index_of index-said events) ∙ ap (flat_map index_said) is ∙ said-indices slots,
 )
+
+-- ---- what the learner hears of them
+abbrev heard_said : ℕ → Heard → PlayEvent → Heard
+heard_said olat heard (Starts start asked) = with_access heard (record { start = start; asked = asked }) (start + olat)
+heard_said olat heard (Draws point) = heard
+heard_said olat heard (Tags message) = heard
+heard_said olat heard (Chooses index) = with_choice heard
+
+abbrev heard_saids : ℕ → Heard → List PlayEvent → Heard
+heard_saids olat heard [] = heard
+heard_saids olat heard (said ∷ saids) = heard_saids olat (heard_said olat heard said) saids
+
+saids-append : (olat : ℕ) (heard : Heard) (xs ys : List PlayEvent)
+    → heard_saids olat heard (xs ++ ys) ≡ heard_saids olat (heard_saids olat heard xs) ys
+saids-append olat heard [] ys = refl
+saids-append olat heard (x ∷ xs) ys = saids-append olat (heard_said olat heard x) xs ys
+
+hears-said : (olat : ℕ) (heard : Heard) (event : Event)
+    → heard_saids olat heard (said_of event) ≡ hears olat heard event
+hears-said olat heard (Access start asked) = refl
+hears-said olat heard (Drawn point leaf) = refl
+hears-said olat heard (Tagged message) = refl
+hears-said olat heard (Accepted message tag) = refl
+hears-said olat heard (Chosen index) = refl
+hears-said olat heard (Answered line value) = refl
+
+log-said : (olat : ℕ) (heard : Heard) (events : List Event)
+    → heard_saids olat heard (said_of_all events) ≡ heard_of olat heard events
+unfolding heard_of
+log-said olat heard [] = refl
+log-said olat heard (event ∷ events) =
+    saids-append olat heard (said_of event) (said_of_all events)
+    ∙ ap (λ h. heard_saids olat h (said_of_all events)) (hears-said olat heard event)
+    ∙ log-said olat (hears olat heard event) events
+
+its-choice : (olat : ℕ) (heard : Heard) (put : Option Message) (chosen : Option ℕ) (appended : Option Message)
+    → heard_saids olat heard (tags_of put ++ chooses_of chosen ++ tags_of appended) ≡ heard_then heard chosen
+its-choice olat heard None None None = refl
+its-choice olat heard None None (Some appended) = refl
+its-choice olat heard None (Some index) None = refl
+its-choice olat heard None (Some index) (Some appended) = refl
+its-choice olat heard (Some put) None None = refl
+its-choice olat heard (Some put) None (Some appended) = refl
+its-choice olat heard (Some put) (Some index) None = refl
+its-choice olat heard (Some put) (Some index) (Some appended) = refl
+
+slots-said : (olat : ℕ) (heard : Heard) (slots : List Slot)
+    → heard_saids olat heard (play_events slots) ≡ heard_slots olat heard slots
+unfolding heard_slots
+slots-said olat heard [] = refl
+slots-said olat heard (slot ∷ slots) =
+    saids-append olat heard (slot_events slot) (play_events slots)
+    ∙ ap (λ h. heard_saids olat h (play_events slots))
+    (its-choice olat
+    (with_access heard (record { start = slot.start; asked = slot.asked }) (slot.start + olat)) slot.put slot.chosen
+    slot.appended)
+    ∙ slots-said olat (heard_slot olat heard slot) slots
+
+-- What a log's events tell is what is heard of the slots whose events it says.
+pub log-tells : (p : Public) (events : List Event) (slots : List Slot) → said_of_all events ≡ play_events slots
+    → told_by p events ≡ heard_in p slots
+log-tells p events slots is =
+    sym (log-said (olat_of p.levels) nothing_heard events)
+    ∙ ap (heard_saids (olat_of p.levels) nothing_heard) is
+    ∙ slots-said (olat_of p.levels) nothing_heard slots

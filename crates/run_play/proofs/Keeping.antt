@@ -2,7 +2,7 @@
 use Rattle.std.proofs.Common.{◌≡◌, ◌<◌, ◌≤◌, ℕ, zero, suc, ◌+◌, ◌-◌, Bool, true, false, cond, List, [], ◌∷◌, ◌++◌, length, Option, Some, None, refl, sym, ap, ◌∙◌, subst, arith, append-nil, append_assoc, inl, inr}
 use Rattle.std.specs.Prelude.{min, unwrap_or, nat_lt, ◌==◌, ◌⊎◌}
 use Rattle.std.specs.Option.{option_map}
-use Rattle.std.proofs.lemmas.Bool.{cases_Bool, ltb-true, ltb-false}
+use Rattle.std.proofs.lemmas.Bool.{cases_Bool, ltb-true, ltb-false, le-ltb, lt-ltb}
 use Rattle.asc_base.specs.TreeShape.{olat_of}
 use Rattle.asc_base.specs.declared.block.Message.{Message}
 use Rattle.asc_base.specs.declared.block.Point.{Point}
@@ -15,9 +15,9 @@ use Rattle.epoch_learner.specs.Heard.{Heard}
 use Rattle.epoch_learner.specs.LearnerRule.{nearest, index_by_sums, idle_per_access, learner_rule}
 use Rattle.epoch_learner.proofs.Nearest.{nearest_first}
 use Rattle.posmap_lookaside.specs.Walk.{WalkAccess, walk}
-use Rattle.run_play.specs.Slots.{Pace, Numbers, Slot, heard_next, heard_then, choice_next, pace_after, slot_next, dummy_next, Passed, pass_one, pass_up_to, passed}
+use Rattle.run_play.specs.Slots.{Pace, Numbers, Slot, heard_next, choice_next, pace_after, slot_next, dummy_next, Passed, pass_one, pass_up_to, passed}
 use Rattle.run_play.specs.Requests.{Standing, Taken, none_taken, followed, one_by_one, request_done, requested, value_of, take_slot, access_slot, walk_sizes, request_slots}
-use Rattle.run_play.proofs.Paces.{Paced, paced-without, paced-chosen}
+use Rattle.run_play.proofs.Paces.{Paced, IsNext, paced-without, paced-chosen}
 
 -- the learner's index is that of a rate
 index-by : (rates : List ℕ) (olat cycles real waste : ℕ) → 0 < length rates → (none : Bool)
@@ -31,47 +31,39 @@ index-within : (rates : List ℕ) (olat cycles real waste : ℕ) → 0 < length 
 unfolding index_by_sums
 index-within rates olat cycles real waste some = index-by rates olat cycles real waste some (real == 0)
 
-heard-ended : (heard : Heard) (chosen : Option ℕ) → (heard_then heard chosen).ended ≡ heard.ended
-heard-ended heard None = refl
-heard-ended heard (Some index) = refl
-
 module _ (p : Public) (some : 0 < count_of p) where
   -- a slot
   paced-by : (slots : List Slot) (pace : Pace) (slot : Slot) (asked : Option ℕ) → Paced p slots pace
-      → slot.start ≡ pace.beat.next → slot.chosen ≡ choice_next p pace asked
+      → IsNext p pace (pace_after p pace asked) slot → slot.chosen ≡ choice_next p pace asked
       → (falls_next p pace.beat ≡ true) ⊎ (falls_next p pace.beat ≡ false)
       → Paced p (slots ++ slot ∷ []) (pace_after p pace asked)
-  paced-by slots pace slot asked h at chosen (inl falls) =
+  paced-by slots pace slot asked h next chosen (inl falls) =
       let heard : Heard = heard_next p pace asked in
       let index : ℕ = learner_rule p.rates (olat_of p.levels) heard.accesses (heard.ended - heard.since) in
-      let is : choice_next p pace asked ≡ Some index =
-      ap (λ b. cond {A = Option ℕ} b (Some index) None) falls in
+      let is : choice_next p pace asked ≡ Some index = ap (λ b. cond {A = Option ℕ} b (Some index) None) falls in
       paced-chosen p slots pace (pace_after p pace asked) slot index h falls
-      (index-within p.rates (olat_of p.levels) _ _ _ some) at (chosen ∙ is)
+      (index-within p.rates (olat_of p.levels) _ _ _ some) next (chosen ∙ is)
       (ap
       (λ b. cond {A = Beat} b
       (beat_with p pace.beat (rate_at p.rates (unwrap_or (choice_next p pace asked) 0)) (pace.beat.choices + 1))
       (beat_with p pace.beat pace.beat.rate pace.beat.choices)) falls
       ∙ ap (λ o. beat_with p pace.beat (rate_at p.rates (unwrap_or o 0)) (pace.beat.choices + 1)) is)
-      (heard-ended heard (choice_next p pace asked))
-  paced-by slots pace slot asked h at chosen (inr falls) =
+  paced-by slots pace slot asked h next chosen (inr falls) =
       let heard : Heard = heard_next p pace asked in
       let index : ℕ = learner_rule p.rates (olat_of p.levels) heard.accesses (heard.ended - heard.since) in
-      let is : choice_next p pace asked ≡ None =
-      ap (λ b. cond {A = Option ℕ} b (Some index) None) falls in
-      paced-without p slots pace (pace_after p pace asked) slot h falls at (chosen ∙ is)
+      let is : choice_next p pace asked ≡ None = ap (λ b. cond {A = Option ℕ} b (Some index) None) falls in
+      paced-without p slots pace (pace_after p pace asked) slot h falls next (chosen ∙ is)
       (ap
       (λ b. cond {A = Beat} b
       (beat_with p pace.beat (rate_at p.rates (unwrap_or (choice_next p pace asked) 0)) (pace.beat.choices + 1))
       (beat_with p pace.beat pace.beat.rate pace.beat.choices)) falls)
-      (heard-ended heard (choice_next p pace asked))
 
   pub paced-next : (slots : List Slot) (pace : Pace) (numbers : Numbers) (asked : Option ℕ) (point : Point)
       (put appended : Option Message) → Paced p slots pace
       → Paced p (slots ++ slot_next p pace numbers asked point put appended ∷ []) (pace_after p pace asked)
   paced-next slots pace numbers asked point put appended h =
-      paced-by slots pace (slot_next p pace numbers asked point put appended) asked h refl refl
-      (cases_Bool (falls_next p pace.beat))
+      paced-by slots pace (slot_next p pace numbers asked point put appended) asked h
+      (record { start = refl; heard = refl; dummies = refl }) refl (cases_Bool (falls_next p pace.beat))
 
   -- slots that pass
   abbrev Goes : Passed → Pace → Type 0
@@ -127,6 +119,48 @@ far-up p numbers (suc most) time pace near =
 pub passed-far : (p : Public) (numbers : Numbers) (time : ℕ) (pace : Pace)
     → time ≤ (passed p numbers time pace).pace.beat.next
 passed-far p numbers time pace = far-up p numbers time time pace (omega arith)
+
+-- enough dummies are as good as more
+enough-one : (p : Public) (numbers : Numbers) (one two : Pace → Passed) (pace : Pace) (early : Bool)
+    → (early ≡ true → one (pace_after p pace None) ≡ two (pace_after p pace None))
+    → pass_one p numbers one pace early ≡ pass_one p numbers two pace early
+enough-one p numbers one two pace false same = refl
+enough-one p numbers one two pace true same =
+    ap
+    (λ (more : Passed).
+    let all : Passed = record { slots = dummy_next p pace numbers ∷ more.slots; pace = more.pace } in all) (same refl)
+
+none-passes : (p : Public) (numbers : Numbers) (rest : Pace → Passed) (time : ℕ) (pace : Pace) → time ≤ pace.beat.next
+    → pass_one p numbers rest pace (nat_lt pace.beat.next time) ≡ record { slots = []; pace = pace }
+none-passes p numbers rest time pace far = ap (pass_one p numbers rest pace) (le-ltb pace.beat.next time far)
+
+enough : (p : Public) (numbers : Numbers) (m k time : ℕ) (pace : Pace) → time ≤ pace.beat.next + m
+    → time ≤ pace.beat.next + k → pass_up_to p numbers m time pace ≡ pass_up_to p numbers k time pace
+unfolding pass_up_to
+enough p numbers zero zero time pace near far = refl
+enough p numbers zero (suc k) time pace near far =
+    sym (none-passes p numbers (pass_up_to p numbers k time) time pace (omega arith))
+enough p numbers (suc m) zero time pace near far =
+    none-passes p numbers (pass_up_to p numbers m time) time pace (omega arith)
+enough p numbers (suc m) (suc k) time pace near far =
+    enough-one p numbers (pass_up_to p numbers m time) (pass_up_to p numbers k time) pace (nat_lt pace.beat.next time)
+    (λ early. enough p numbers m k time (pace_after p pace None) (omega (arith, next-later p pace None))
+    (omega (arith, next-later p pace None)))
+
+-- no slot starts before the time, or one does and then come the others
+pub passed-none : (p : Public) (numbers : Numbers) (time : ℕ) (pace : Pace) → time ≤ pace.beat.next
+    → passed p numbers time pace ≡ record { slots = []; pace = pace }
+unfolding pass_up_to
+passed-none p numbers time pace far =
+    enough p numbers time 0 time pace (omega arith) (omega arith)
+
+pub passed-one : (p : Public) (numbers : Numbers) (time : ℕ) (pace : Pace) → pace.beat.next < time
+    → let more = passed p numbers time (pace_after p pace None) in
+    passed p numbers time pace ≡ record { slots = dummy_next p pace numbers ∷ more.slots; pace = more.pace }
+unfolding pass_up_to
+passed-one p numbers time pace early =
+    enough p numbers time (suc time) time pace (omega arith) (omega arith)
+    ∙ ap (pass_one p numbers (pass_up_to p numbers time time) pace) (lt-ltb pace.beat.next time early)
 
 module _ (config : Config) (some : 0 < count_of (public_of config)) where
   -- what is taken from what stands

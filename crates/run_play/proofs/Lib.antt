@@ -9,5 +9,6 @@ pub mod Events
 pub mod Paces
 pub mod Keeping
 pub mod PlaysOnTime
+pub mod IsPaced
 pub mod Jumps
 pub mod Defaults

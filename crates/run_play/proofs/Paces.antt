@@ -4,6 +4,8 @@ use Rattle.std.specs.Prelude.{map, option_to_list, unwrap_or}
 use Rattle.std.specs.List.{flat_map, All}
 use Rattle.std.specs.Option.{option_map_or}
 use Rattle.std.proofs.lemmas.List.{map-append, get_or_append_left, get_or_push}
+use Rattle.epoch_learner.specs.Heard.{Heard, nothing_heard, with_access}
+use Rattle.std.proofs.lemmas.List.Sums.{sum_by-append}
 use Rattle.std.proofs.lemmas.List.Concat.{flat_map-append}
 use Rattle.std.proofs.lemmas.List.Elements.{All-nil, All-push}
 use Rattle.asc_base.specs.TreeShape.{olat_of}
@@ -13,8 +15,9 @@ use Rattle.bus_schedule.specs.Timetable.{Public, AgreeTo, count_of, rate_at, dig
 use Rattle.bus_schedule.proofs.CodeLaws.{digit-of-code}
 use Rattle.bus_schedule.proofs.ScheduledLaws.{beat-without, beat-chosen}
 use Rattle.bus_schedule.proofs.TimetableLaws.{starts-next, beat-agrees, starts-agree}
-use Rattle.run_play.specs.Slots.{Pace, first_pace, Slot}
-use Rattle.run_play.specs.PlayEvents.{starts_in, indices_in, code_in}
+use Rattle.run_play.specs.OnTime.{heard_slot, heard_slots, heard_in, IsPace}
+use Rattle.run_play.specs.Slots.{Pace, first_pace, Slot, heard_then, dummy_count}
+use Rattle.run_play.specs.PlayEvents.{starts_in, indices_in, dummies_in, code_in}
 
 -- These slots were taken, by the code of the choices at their ends, up to this pace.
 pub record Paced (p : Public) (slots : List Slot) (pace : Pace) : Type 0 where
@@ -24,13 +27,21 @@ pub record Paced (p : Public) (slots : List Slot) (pace : Pace) : Type 0 where
   pub counted : length slots ≡ count
   pub begun : starts_in slots ≡ starts p code count
   pub beat : pace.beat ≡ beat_at p code count
+  pub heard : pace.heard ≡ heard_in p slots
   pub ended : pace.heard.ended ≡ end_at p code count
+  pub dummies : pace.dummies ≡ dummies_in slots
   pub within : All (λ index. index < count_of p) (indices_in slots)
   pub fell : length (indices_in slots) ≡ (beat_at p code count).choices
 
+-- this slot is next after a pace, and then comes that one, but for the timetable
+pub record IsNext (p : Public) (pace next : Pace) (slot : Slot) : Type 0 where
+  pub start : slot.start ≡ pace.beat.next
+  pub heard : next.heard ≡ heard_slot (olat_of p.levels) pace.heard slot
+  pub dummies : next.dummies ≡ pace.dummies + dummy_count slot.asked
+
 -- none was
 pub paced-none : (p : Public) → Paced p [] (first_pace p)
-unfolding starts starts_from beat_at code_of
+unfolding starts starts_from beat_at code_of heard_slots
 paced-none p = record {
   code = 0;
   count = 0;
@@ -38,7 +49,9 @@ paced-none p = record {
   counted = refl;
   begun = refl;
   beat = refl;
+  heard = refl;
   ended = refl;
+  dummies = refl;
   within = All-nil (λ index. index < count_of p);
   fell = refl;
 }
@@ -61,16 +74,42 @@ starts-more p slots pace slot h at =
     ∙ ap (λ l. l ++ start_at p h.code h.count ∷ []) h.begun
     ∙ sym (starts-next p h.code h.count)
 
-ended-more : (p : Public) (slots : List Slot) (pace next : Pace) → (h : Paced p slots pace)
-    → next.heard.ended ≡ pace.beat.next + olat_of p.levels → next.heard.ended ≡ end_at p h.code (suc h.count)
-ended-more p slots pace next h is = is ∙ ap (λ (b : Beat). b.next + olat_of p.levels) h.beat
+heard-ended : (heard : Heard) (chosen : Option ℕ) → (heard_then heard chosen).ended ≡ heard.ended
+heard-ended heard None = refl
+heard-ended heard (Some index) = refl
+
+ended-more : (p : Public) (slots : List Slot) (pace next : Pace) (slot : Slot) → (h : Paced p slots pace)
+    → IsNext p pace next slot → next.heard.ended ≡ end_at p h.code (suc h.count)
+ended-more p slots pace next slot h n =
+    ap (λ (heard : Heard). heard.ended) n.heard
+    ∙ heard-ended (with_access pace.heard (record { start = slot.start; asked = slot.asked })
+    (slot.start + olat_of p.levels)) slot.chosen
+    ∙ ap (λ start. start + olat_of p.levels) (n.start ∙ ap (λ (b : Beat). b.next) h.beat)
+
+heard-last : (olat : ℕ) (heard : Heard) (slots : List Slot) (slot : Slot)
+    → heard_slots olat heard (slots ++ slot ∷ []) ≡ heard_slot olat (heard_slots olat heard slots) slot
+unfolding heard_slots
+heard-last olat heard [] slot = refl
+heard-last olat heard (first ∷ slots) slot = heard-last olat (heard_slot olat heard first) slots slot
+
+heard-more : (p : Public) (slots : List Slot) (pace next : Pace) (slot : Slot) → (h : Paced p slots pace)
+    → IsNext p pace next slot → next.heard ≡ heard_in p (slots ++ slot ∷ [])
+heard-more p slots pace next slot h n =
+    n.heard ∙ ap (λ heard. heard_slot (olat_of p.levels) heard slot) h.heard
+    ∙ sym (heard-last (olat_of p.levels) nothing_heard slots slot)
+
+dummies-more : (p : Public) (slots : List Slot) (pace next : Pace) (slot : Slot) → (h : Paced p slots pace)
+    → IsNext p pace next slot → next.dummies ≡ dummies_in (slots ++ slot ∷ [])
+dummies-more p slots pace next slot h n =
+    let all : dummies_in (slots ++ slot ∷ []) ≡ dummies_in slots + dummies_in (slot ∷ []) =
+        sum_by-append (λ (s : Slot). dummy_count s.asked) slots (slot ∷ []) in
+    omega (arith, n.dummies, h.dummies, all)
 
 -- a slot more, at whose end no choice falls
 pub paced-without : (p : Public) (slots : List Slot) (pace next : Pace) (slot : Slot) → Paced p slots pace
-    → falls_next p pace.beat ≡ false → slot.start ≡ pace.beat.next → slot.chosen ≡ None
-    → next.beat ≡ beat_with p pace.beat pace.beat.rate pace.beat.choices
-    → next.heard.ended ≡ pace.beat.next + olat_of p.levels → Paced p (slots ++ slot ∷ []) next
-paced-without p slots pace next slot h none at chosen beat ended =
+    → falls_next p pace.beat ≡ false → IsNext p pace next slot → slot.chosen ≡ None
+    → next.beat ≡ beat_with p pace.beat pace.beat.rate pace.beat.choices → Paced p (slots ++ slot ∷ []) next
+paced-without p slots pace next slot h none n chosen beat =
     let same : indices_in (slots ++ slot ∷ []) ≡ indices_in slots =
     indices-more slots slot None chosen ∙ append-nil (indices_in slots) in
     let beat_is : beat_at p h.code (suc h.count)
@@ -81,9 +120,11 @@ paced-without p slots pace next slot h none at chosen beat ended =
       count = suc h.count;
       code_is = h.code_is ∙ ap (code_of (count_of p)) (sym same);
       counted = one-more slots slot h.count h.counted;
-      begun = starts-more p slots pace slot h at;
+      begun = starts-more p slots pace slot h n.start;
       beat = beat ∙ ap (λ (b : Beat). beat_with p b b.rate b.choices) h.beat ∙ sym beat_is;
-      ended = ended-more p slots pace next h ended;
+      heard = heard-more p slots pace next slot h n;
+      ended = ended-more p slots pace next slot h n;
+      dummies = dummies-more p slots pace next slot h n;
       within = subst (λ l. All (λ index. index < count_of p) l) (sym same) h.within;
       fell = ap length same ∙ h.fell ∙ ap (λ (b : Beat). b.choices) (sym beat_is);
     }
@@ -126,10 +167,10 @@ more-digits p n index code digits is all fell small =
 
 -- a slot more, at whose end this index is chosen
 pub paced-chosen : (p : Public) (slots : List Slot) (pace next : Pace) (slot : Slot) (index : ℕ) → Paced p slots pace
-    → falls_next p pace.beat ≡ true → index < count_of p → slot.start ≡ pace.beat.next → slot.chosen ≡ Some index
+    → falls_next p pace.beat ≡ true → index < count_of p → IsNext p pace next slot → slot.chosen ≡ Some index
     → next.beat ≡ beat_with p pace.beat (rate_at p.rates index) (pace.beat.choices + 1)
-    → next.heard.ended ≡ pace.beat.next + olat_of p.levels → Paced p (slots ++ slot ∷ []) next
-paced-chosen p slots pace next slot index h some small at chosen beat ended =
+    → Paced p (slots ++ slot ∷ []) next
+paced-chosen p slots pace next slot index h some small n chosen beat =
     let digits : List ℕ = indices_in slots in
     let new : ℕ = code_of (count_of p) (digits ++ index ∷ []) in
     let m : MoreDigits p h.count index h.code digits =
@@ -149,14 +190,47 @@ paced-chosen p slots pace next slot index h some small at chosen beat ended =
       count = suc h.count;
       code_is = ap (code_of (count_of p)) (sym indices);
       counted = one-more slots slot h.count h.counted;
-      begun = starts-more p slots pace slot h at ∙ same;
+      begun = starts-more p slots pace slot h n.start ∙ same;
       beat = beat
           ∙ ap (λ (b : Beat). beat_with p b (rate_at p.rates index) (b.choices + 1)) (h.beat ∙ m.beat_is)
           ∙ sym beat_is;
-      ended = ended-more p slots pace next h ended
+      heard = heard-more p slots pace next slot h n;
+      ended = ended-more p slots pace next slot h n
           ∙ ap (λ (b : Beat). b.next + olat_of p.levels) m.beat_is;
+      dummies = dummies-more p slots pace next slot h n;
       within = subst (λ l. All (λ i. i < count_of p) l) (sym indices) m.within;
       fell = ap length indices ∙ length-append digits (index ∷ [])
           ∙ ap (λ k. k + 1) (h.fell ∙ ap (λ (b : Beat). b.choices) m.beat_is)
           ∙ ap (λ (b : Beat). b.choices) (sym beat_is);
     }
+
+-- what is said of it
+pub is-pace : (p : Public) (slots : List Slot) (pace : Pace) → Paced p slots pace → IsPace p slots pace
+is-pace p slots pace h =
+    let beat : pace.beat ≡ beat_at p (code_in p slots) (length slots) =
+        h.beat ∙ ap (λ n. beat_at p h.code n) (sym h.counted) ∙ ap (λ c. beat_at p c (length slots)) h.code_is in
+    record {
+      starts = h.begun ∙ ap (λ n. starts p h.code n) (sym h.counted)
+        ∙ ap (λ c. starts p c (length slots)) h.code_is;
+      beat = beat;
+      heard = h.heard;
+      ended = h.ended ∙ ap (λ n. end_at p h.code n) (sym h.counted) ∙ ap (λ c. end_at p c (length slots)) h.code_is;
+      dummies = h.dummies;
+      indices = h.within;
+      fell = h.fell ∙ ap (λ (b : Beat). b.choices) (sym h.beat);
+    }
+
+pub from-pace : (p : Public) (slots : List Slot) (pace : Pace) → IsPace p slots pace → Paced p slots pace
+from-pace p slots pace h = record {
+  code = code_in p slots;
+  count = length slots;
+  code_is = refl;
+  counted = refl;
+  begun = h.starts;
+  beat = h.beat;
+  heard = h.heard;
+  ended = h.ended;
+  dummies = h.dummies;
+  within = h.indices;
+  fell = h.fell ∙ ap (λ (b : Beat). b.choices) h.beat;
+}

@@ -1,5 +1,5 @@
 -- The events of a play, in order, and what is reported of it.
-use Rattle.std.specs.Prelude.{ℕ, ◌-◌, List, [], ◌∷◌, ◌++◌, length, map, option_to_list, Option}
+use Rattle.std.specs.Prelude.{ℕ, List, [], ◌∷◌, ◌++◌, length, map, option_to_list, Option}
 use Rattle.std.specs.List.{flat_map, sum_by}
 use Rattle.asc_base.specs.declared.block.Message.{Message}
 use Rattle.asc_base.specs.declared.block.Point.{Point}
@@ -8,7 +8,7 @@ use Rattle.bus_schedule.specs.Timetable.{Public, count_of}
 use Rattle.bus_watch.specs.declared.log.Event.{Event}
 use Rattle.bus_watch.specs.declared.log.Event.TheVariants.{Access, Drawn, Tagged, Accepted, Chosen, Answered}
 use Rattle.epoch_learner.specs.LearnerRule.{real_count}
-use Rattle.run_play.specs.Slots.{Slot}
+use Rattle.run_play.specs.Slots.{Slot, dummy_count}
 use Rattle.run_play.specs.Play.{PlayEnding, Play}
 
 -- What a play says of a log's events: a slot starts, and was asked for at a time or is a dummy; a point's leaf is drawn,
@@ -62,9 +62,6 @@ indices_in slots = flat_map (λ (s : Slot). option_to_list s.chosen) slots
 -- how many were asked for, and how many are dummies
 abbrev pub real_in : List Slot → ℕ
 real_in slots = sum_by (λ (s : Slot). real_count s.asked) slots
-
-abbrev pub dummy_count : Option ℕ → ℕ
-dummy_count asked = 1 - real_count asked
 
 abbrev pub dummies_in : List Slot → ℕ
 dummies_in slots = sum_by (λ (s : Slot). dummy_count s.asked) slots

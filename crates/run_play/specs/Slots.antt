@@ -44,6 +44,11 @@ pub record Slot : Type 0 where
   pub appended : Option Message
   pub left : Numbers
 
+-- 1 for a dummy, and 0 for a slot that was asked for
+abbrev pub dummy_count : Option ℕ → ℕ
+dummy_count None = 1
+dummy_count (Some asked) = 0
+
 -- what was heard, after a choice where there is one
 abbrev pub heard_then : Heard → Option ℕ → Heard
 heard_then heard chosen = option_map_or (λ index. with_choice heard) chosen heard
@@ -69,7 +74,7 @@ module _ (p : Public) where
       record {
         beat = beat_after p pace.beat (unwrap_or chosen 0);
         heard = heard_then (heard_next pace asked) chosen;
-        dummies = pace.dummies + option_map_or (λ time. 0) asked 1;
+        dummies = pace.dummies + dummy_count asked;
       }
 
   -- the slot that is next

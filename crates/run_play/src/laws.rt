@@ -5,7 +5,10 @@ ghost use Rattle.std.specs.Prelude.{Option, Some, None};
 ghost use Rattle.asc_base.specs.Settings.{IsConfig};
 ghost use Rattle.asc_base.specs.declared.settings.Config.{Config};
 ghost use Rattle.bus_schedule.specs.Shown.{starts_of, indices_of};
-ghost use Rattle.bus_schedule.specs.Timetable.{public_of, count_of};
+ghost use Rattle.asc_base.specs.declared.block.Message.{Message};
+ghost use Rattle.asc_base.specs.declared.block.Point.{Point};
+ghost use Rattle.bus_schedule.specs.Timetable.{Public, public_of, count_of};
+ghost use Rattle.epoch_learner.specs.Heard.{told_by};
 ghost use Rattle.bus_watch.specs.declared.log.Event.{Event};
 ghost use Rattle.asc_base.specs.Memory.{IsMemory};
 ghost use Rattle.data_cache.specs.CacheLists.{Lines, Requests, requests_along};
@@ -16,14 +19,14 @@ ghost use Rattle.rv32_core.specs.Access.{Access};
 ghost use Rattle.rv32_core.specs.FlatMachine.{flat_step};
 ghost use Rattle.rv32_core.specs.LineList.{step_lines};
 ghost use Rattle.rv32_core.specs.Machine.{CoreState, Machine};
-ghost use Rattle.run_play.specs.Slots.{Slot};
+ghost use Rattle.run_play.specs.Slots.{Slot, Numbers, Pace, first_pace, passed, pace_after, slot_next, dummy_next};
 ghost use Rattle.run_play.specs.Requests.{Standing, followed, one_by_one, request_slots};
 ghost use Rattle.run_play.specs.Play.{Play, Budget, after_slots, access_turn, instruction, comes_to, times_out};
 ghost use Rattle.run_play.specs.Play.{after_requests, play_from, play_of};
 ghost use Rattle.run_play.specs.Halt.{Stop, ending_of, end_of, cut_at, unprepared, halt};
 ghost use Rattle.run_play.specs.PlayEvents.{PlayEvent, said_of_all, play_events, starts_in, points_in, indices_in};
 ghost use Rattle.run_play.specs.PlayEvents.{choices_in, code_in};
-ghost use Rattle.run_play.specs.OnTime.{AreOnTime};
+ghost use Rattle.run_play.specs.OnTime.{heard_in, IsPace, AreOnTime};
 ghost use Rattle.run_play.specs.Turns.{access_slots, Matches, line_slots, Takes};
 ghost use Rattle.run_play.specs.Flat.{without_bytes, IsFlat};
 
@@ -104,6 +107,36 @@ pub fn halts_are_prefixes()
         × ((halt levels run (suc k) stop).last ≡ end_of levels slot.start stop) }
     ensures events { (levels : ℕ) (run : Play) (k : ℕ) (stop : Stop) → (rest : List PlayEvent)
         × (play_events run.slots ≡ play_events (halt levels run k stop).slots ++ rest) }
+{}
+
+/// The slots that start before a time pass one by one: none, or a dummy and then the others; the slot that is next then
+/// isn't before the time.
+pub fn dummies_pass()
+    ensures none { (p : Public) (numbers : Numbers) (time : ℕ) (pace : Pace) → time ≤ pace.beat.next
+        → passed p numbers time pace ≡ record { slots = []; pace = pace } }
+    ensures one { (p : Public) (numbers : Numbers) (time : ℕ) (pace : Pace) → pace.beat.next < time
+        → let more = passed p numbers time (pace_after p pace None) in
+        passed p numbers time pace ≡ record { slots = dummy_next p pace numbers ∷ more.slots; pace = more.pace } }
+    ensures far { (p : Public) (numbers : Numbers) (time : ℕ) (pace : Pace)
+        → time ≤ (passed p numbers time pace).pace.beat.next }
+{}
+
+/// Where a pace is that after some slots, it is so after a slot more, after dummies, and after the slots of requests: the
+/// timetable stands where the code of these slots' choices leads to, the learner heard these slots, and the dummies are
+/// counted. What a log tells that says the events of slots is what is heard of them.
+pub fn slots_keep_the_pace()
+    ensures start { (p : Public) → IsPace p [] (first_pace p) }
+    ensures slot { (p : Public) → 0 < count_of p → (slots : List Slot) (pace : Pace) (numbers : Numbers)
+        (asked : Option ℕ) (point : Point) (put appended : Option Message) → IsPace p slots pace
+        → IsPace p (slots ++ slot_next p pace numbers asked point put appended ∷ []) (pace_after p pace asked) }
+    ensures dummies { (p : Public) → 0 < count_of p → (slots : List Slot) (pace : Pace) (numbers : Numbers) (time : ℕ)
+        → IsPace p slots pace → let more = passed p numbers time pace in IsPace p (slots ++ more.slots) more.pace }
+    ensures requests { (config : Config) → IsConfig config → (slots : List Slot) (now : Standing)
+        (requests : List LineRequest) → IsPace (public_of config) slots now.pace
+        → let taken = one_by_one (request_slots config) requests now in
+        IsPace (public_of config) (slots ++ taken.slots) taken.standing.pace }
+    ensures log { (p : Public) (events : List Event) (slots : List Slot) → said_of_all events ≡ play_events slots
+        → told_by p events ≡ heard_in p slots }
 {}
 
 /// The slots of a play, the dummies among them, start as the timetable of its code says, up to its end time; its choices
