@@ -1,5 +1,6 @@
 -- The configuration of the default settings.
-use Rattle.std.proofs.Common.{◌≡◌, ◌<◌, ◌≤◌, ℕ, ◌+◌, ◌-◌, ◌^◌, zero, suc, max, true, false, refl, ap, ◌∙◌, arith, inr, pow_mono}
+use Rattle.std.proofs.Common.{◌≡◌, ◌<◌, ◌≤◌, ℕ, ◌+◌, ◌-◌, ◌^◌, zero, suc, max, true, false, refl, ap, ◌∙◌, arith, inr}
+use Rattle.std.proofs.Common.{pow_mono}
 use Rattle.std.specs.Prelude.{nat_le}
 use Rattle.std.proofs.lemmas.Bool.{lt-leb}
 use Rattle.asc_base.specs.Settings.{config_of, narrow_rates}

@@ -12,7 +12,8 @@ use Rattle.bus_schedule.specs.Timetable.{Public}
 use Rattle.epoch_learner.specs.Heard.{Heard, nothing_heard, with_access, with_choice, hears, heard_of, told_by}
 use Rattle.run_play.specs.OnTime.{heard_slot, heard_slots, heard_in}
 use Rattle.run_play.specs.Slots.{Slot, heard_then}
-use Rattle.run_play.specs.PlayEvents.{PlayEvent, Starts, Draws, Tags, Chooses, said_of, said_of_all, tags_of, chooses_of, slot_events, play_events, starts_in, indices_in}
+use Rattle.run_play.specs.PlayEvents.{PlayEvent, Starts, Draws, Tags, Chooses, said_of, said_of_all, tags_of}
+use Rattle.run_play.specs.PlayEvents.{chooses_of, slot_events, play_events, starts_in, indices_in}
 
 -- the start and the index that an event of a play says
 abbrev start_said : PlayEvent → List ℕ

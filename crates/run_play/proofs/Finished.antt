@@ -1,5 +1,5 @@
 -- What is taken finishes no instruction.
-use Rattle.std.proofs.Common.{◌≡◌, ℕ, Bool, true, false, List, [], ◌∷◌, Option, Some, None, refl, ap, ◌∙◌}
+use Rattle.std.proofs.Common.{◌≡◌, ℕ, Bool, true, false, List, [], ◌∷◌, Option, Some, None, refl, ◌∙◌}
 use Rattle.std.specs.Prelude.{min, nat_lt}
 use Rattle.asc_base.specs.declared.settings.Config.{Config}
 use Rattle.bus_schedule.specs.Timetable.{public_of}
@@ -7,7 +7,8 @@ use Rattle.data_cache.specs.CacheLists.{Sets, requests_of, sets_after}
 use Rattle.data_cache.specs.Lines.{LineRequest, Fetch, Store}
 use Rattle.posmap_lookaside.specs.Walk.{WalkAccess, walk}
 use Rattle.run_play.specs.Slots.{Passed, passed}
-use Rattle.run_play.specs.Requests.{Standing, Taken, none_taken, followed, one_by_one, request_done, requested, value_of, take_slot, access_slot, walk_sizes, request_slots}
+use Rattle.run_play.specs.Requests.{Standing, Taken, none_taken, followed, one_by_one, request_done, requested}
+use Rattle.run_play.specs.Requests.{value_of, take_slot, access_slot, walk_sizes, request_slots}
 use Rattle.run_play.specs.Play.{image_use, line_loaded, image_slots}
 
 -- the instructions that are finished

@@ -1,14 +1,15 @@
 -- A play's instructions are the flat machine's, and it uses the lines of the line list.
-use Rattle.std.proofs.Common.{◌≡◌, ◌≤◌, ℕ, zero, suc, ◌+◌, ◌*◌, Bool, true, false, cond, List, [], ◌∷◌, ◌++◌, take, drop, map, Option, Some, None, refl, sym, ap, ◌∙◌, subst, arith}
-use Rattle.std.specs.Prelude.{◌&&◌, not, nat_lt, if◌then◌else◌}
-use Rattle.std.specs.Option.{option_map_or}
+use Rattle.std.proofs.Common.{◌≡◌, ℕ, zero, suc, ◌*◌, Bool, true, false, List, [], ◌∷◌, ◌++◌, take, drop, map, Option}
+use Rattle.std.proofs.Common.{Some, None, refl, sym, ap, ◌∙◌}
+use Rattle.std.specs.Prelude.{◌&&◌, not, if◌then◌else◌}
 use Rattle.std.proofs.lemmas.List.{map-append}
 use Rattle.asc_base.specs.Memory.{IsMemory}
-use Rattle.data_cache.specs.CacheLists.{Kept, Sets, Lines, needs, keeps, set_of, victim, line_in, stored, fetched, requests_of, requests_along, sets_after}
-use Rattle.data_cache.specs.Lines.{LineRequest, Fetch, Store}
+use Rattle.data_cache.specs.CacheLists.{Kept, Sets, Lines, needs, keeps, set_of, victim, line_in, stored, fetched}
+use Rattle.data_cache.specs.CacheLists.{requests_of, requests_along}
+use Rattle.data_cache.specs.Lines.{Fetch, Store}
 use Rattle.request_plan.specs.Plan.{Plan, Done, Ask}
-use Rattle.request_plan.specs.Play.{served, play, bare, marked}
-use Rattle.rv32_core.specs.Access.{Access, Load, access_bytes}
+use Rattle.request_plan.specs.Play.{served, play, bare}
+use Rattle.rv32_core.specs.Access.{Access, access_bytes}
 use Rattle.rv32_core.specs.FlatMachine.{FlatStep, flat_step}
 use Rattle.rv32_core.specs.LineList.{LineUse, line_used, asked_lines, step_lines}
 use Rattle.rv32_core.specs.Machine.{CoreState, Machine}
@@ -77,7 +78,8 @@ module _ (ways : ℕ) (core : CoreState) where
       ∙ map-append without_bytes turn.records (bare rest.records)
       ∙ ap (λ l. l ++ map without_bytes (bare rest.records))
       (requests-so ways lines.memory lines.sets (line_used core access))
-      ∙ ap (λ l. requests_of ways [] lines.sets (line_used core access) ++ l) (played-lines (next turn.answer) turn.held)
+      ∙ ap (λ l. requests_of ways [] lines.sets (line_used core access) ++ l)
+      (played-lines (next turn.answer) turn.held)
 
 -- an instruction is the flat machine's
 pub instruction-flat : (ways : ℕ) (machine : Machine) (lines : Lines)

@@ -1,5 +1,7 @@
 -- What a cut of a play is.
-use Rattle.std.proofs.Common.{◌≡◌, ◌<◌, ◌≤◌, ℕ, zero, suc, ◌+◌, Bool, true, false, cond, List, [], ◌∷◌, ◌++◌, take, length, Option, Some, None, refl, sym, ap, ◌∙◌, arith, append_assoc, append-nil, length-append, inl, inr}
+use Rattle.std.proofs.Common.{◌≡◌, ◌<◌, ◌≤◌, ℕ, zero, suc, Bool, true, false, cond, List, [], ◌∷◌, ◌++◌, take, length}
+use Rattle.std.proofs.Common.{Option, Some, None, refl, sym, ap, ◌∙◌, arith, append_assoc, append-nil, length-append}
+use Rattle.std.proofs.Common.{inl, inr}
 use Rattle.std.specs.Prelude.{slice_get, map, nat_le}
 use Rattle.std.specs.Option.{option_map_or}
 use Rattle.std.proofs.Math.Seq.{take-append_seam}
@@ -9,8 +11,10 @@ use Rattle.std.proofs.lemmas.List.Concat.{flat_map-append}
 use Rattle.asc_base.specs.declared.block.Message.{Message}
 use Rattle.run_play.specs.Slots.{Slot}
 use Rattle.run_play.specs.Play.{Play}
-use Rattle.run_play.specs.Halt.{Stop, Refused, Overfull, MoveFails, AppendRefused, AppendOverfull, ending_of, end_of, before_put, after_put, part_of, cut_at, unprepared, halt}
-use Rattle.run_play.specs.PlayEvents.{PlayEvent, Starts, Draws, tags_of, chooses_of, slot_events, play_events, starts_in, points_in}
+use Rattle.run_play.specs.Halt.{Stop, Refused, Overfull, MoveFails, AppendRefused, AppendOverfull, ending_of, end_of}
+use Rattle.run_play.specs.Halt.{before_put, after_put, part_of, cut_at, unprepared, halt}
+use Rattle.run_play.specs.PlayEvents.{PlayEvent, Starts, Draws, tags_of, chooses_of, slot_events, play_events}
+use Rattle.run_play.specs.PlayEvents.{starts_in, points_in}
 
 -- the slot after others
 seam : (before later : List Slot) (cut : Slot) → slice_get (before ++ cut ∷ later) (length before) ≡ Some cut
@@ -149,7 +153,8 @@ begins-put slot = (
       (same-put slot.put (chooses_of slot.chosen) (tags_of slot.appended)),
 )
 
-begins-part : (levels : ℕ) (stop : Stop) (slot : Slot) → Begins (slot_events slot) (slot_events (part_of levels stop slot))
+begins-part : (levels : ℕ) (stop : Stop) (slot : Slot)
+    → Begins (slot_events slot) (slot_events (part_of levels stop slot))
 begins-part levels (Refused evidence) slot =
     (tags_of slot.put ++ chooses_of slot.chosen ++ tags_of slot.appended, refl)
 begins-part levels (Overfull held) slot = begins-put slot

@@ -1,16 +1,15 @@
 -- The pace after slots.
-use Rattle.std.proofs.Common.{◌≡◌, ◌<◌, ℕ, suc, ◌+◌, List, [], ◌∷◌, ◌++◌, length, Option, refl, sym, ap, ◌∙◌}
+use Rattle.std.proofs.Common.{◌<◌, ℕ, List, [], ◌∷◌, ◌++◌, Option}
 use Rattle.asc_base.specs.Settings.{IsConfig}
-use Rattle.asc_base.specs.TreeShape.{olat_of}
 use Rattle.asc_base.specs.declared.block.Message.{Message}
 use Rattle.asc_base.specs.declared.block.Point.{Point}
 use Rattle.asc_base.specs.declared.settings.Config.{Config}
-use Rattle.bus_schedule.specs.Timetable.{Public, public_of, count_of, end_at}
+use Rattle.bus_schedule.specs.Timetable.{Public, public_of, count_of}
 use Rattle.data_cache.specs.Lines.{LineRequest}
 use Rattle.run_play.specs.Slots.{Pace, first_pace, Numbers, Slot, pace_after, slot_next, passed}
 use Rattle.run_play.specs.Requests.{Standing, one_by_one, request_slots}
 use Rattle.run_play.specs.OnTime.{IsPace}
-use Rattle.run_play.proofs.Paces.{Paced, paced-none, is-pace, from-pace}
+use Rattle.run_play.proofs.Paces.{paced-none, is-pace, from-pace}
 use Rattle.run_play.proofs.Keeping.{paced-next, paced-passed, keeps-requests}
 use Rattle.run_play.proofs.PlaysOnTime.{some-rate}
 

@@ -1,5 +1,5 @@
 -- A program that jumps to itself until the time is up, in a line that is kept: many instructions by induction.
-use Rattle.std.proofs.Common.{◌≡◌, ◌≤◌, ◌<◌, ℕ, suc, zero, ◌+◌, ◌*◌, true, List, [], ◌∷◌, None, refl, ap, ◌∙◌, arith}
+use Rattle.std.proofs.Common.{◌≡◌, ◌≤◌, ◌<◌, ℕ, suc, zero, ◌+◌, ◌*◌, true, [], ◌∷◌, None, ap, ◌∙◌, arith}
 use Rattle.std.specs.Prelude.{replicate}
 use Rattle.asc_base.specs.declared.settings.Config.{Config}
 use Rattle.asc_base.specs.declared.settings.Rates.{Rates}
@@ -12,7 +12,8 @@ use Rattle.rv32_table.specs.Table.{decoded, table}
 use Rattle.run_play.specs.Slots.{first_pace}
 use Rattle.run_play.specs.Requests.{Standing, one_by_one}
 use Rattle.run_play.specs.Play.{Play, play_from, image_slots, times_out}
-use Rattle.run_play.specs.Rows.{small, short_time, one_choice, jump_words, memory_with, play_at}
+use Rattle.run_play.specs.Rows.{small, short_time, one_choice}
+use Rattle.run_play.specs.Programs.{jump_words, memory_with, play_at}
 use Rattle.run_play.proofs.Steps.{play-next}
 
 abbrev pub machine : Machine
@@ -70,7 +71,8 @@ module _ (leak epoch time : ℕ) (rates : Rates) where
 -- ---- the rows
 -- up to 6,000 cycles at one rate, and up to 200,000 with a choice among four
 abbrev pub short_end : Play
-short_end = times_out short_time 6001 (jumped 0 65536 6000 (record { list = 256 ∷ replicate 15 0; count = 1 }) 6001 3000)
+short_end =
+    times_out short_time 6001 (jumped 0 65536 6000 (record { list = 256 ∷ replicate 15 0; count = 1 }) 6001 3000)
 
 abbrev four : Rates
 four = record { list = 256 ∷ 1024 ∷ 4096 ∷ 16384 ∷ replicate 12 0; count = 4 }

@@ -1,22 +1,25 @@
 -- What is taken keeps the timetable: a slot, slots that pass, accesses, requests.
-use Rattle.std.proofs.Common.{◌≡◌, ◌<◌, ◌≤◌, ℕ, zero, suc, ◌+◌, ◌-◌, Bool, true, false, cond, List, [], ◌∷◌, ◌++◌, length, Option, Some, None, refl, sym, ap, ◌∙◌, subst, arith, append-nil, append_assoc, inl, inr}
+use Rattle.std.proofs.Common.{◌≡◌, ◌<◌, ◌≤◌, ℕ, zero, suc, ◌+◌, ◌-◌, Bool, true, false, cond, List, [], ◌∷◌, ◌++◌}
+use Rattle.std.proofs.Common.{length, Option, Some, None, refl, sym, ap, ◌∙◌, subst, arith, append-nil, append_assoc}
+use Rattle.std.proofs.Common.{inl, inr}
 use Rattle.std.specs.Prelude.{min, unwrap_or, nat_lt, ◌==◌, ◌⊎◌}
-use Rattle.std.specs.Option.{option_map}
-use Rattle.std.proofs.lemmas.Bool.{cases_Bool, ltb-true, ltb-false, le-ltb, lt-ltb}
+use Rattle.std.proofs.lemmas.Bool.{cases_Bool, ltb-false, le-ltb, lt-ltb}
 use Rattle.asc_base.specs.TreeShape.{olat_of}
 use Rattle.asc_base.specs.declared.block.Message.{Message}
 use Rattle.asc_base.specs.declared.block.Point.{Point}
 use Rattle.asc_base.specs.declared.block.Point.TheVariants.{Dummy}
 use Rattle.asc_base.specs.declared.settings.Config.{Config}
 use Rattle.bus_schedule.specs.declared.beat.Beat.{Beat}
-use Rattle.bus_schedule.specs.Timetable.{Public, public_of, count_of, rate_at, falls_next, beat_with, beat_after}
+use Rattle.bus_schedule.specs.Timetable.{Public, public_of, count_of, rate_at, falls_next, beat_with}
 use Rattle.data_cache.specs.Lines.{LineRequest, Fetch, Store}
 use Rattle.epoch_learner.specs.Heard.{Heard}
 use Rattle.epoch_learner.specs.LearnerRule.{nearest, index_by_sums, idle_per_access, learner_rule}
 use Rattle.epoch_learner.proofs.Nearest.{nearest_first}
 use Rattle.posmap_lookaside.specs.Walk.{WalkAccess, walk}
-use Rattle.run_play.specs.Slots.{Pace, Numbers, Slot, heard_next, choice_next, pace_after, slot_next, dummy_next, Passed, pass_one, pass_up_to, passed}
-use Rattle.run_play.specs.Requests.{Standing, Taken, none_taken, followed, one_by_one, request_done, requested, value_of, take_slot, access_slot, walk_sizes, request_slots}
+use Rattle.run_play.specs.Slots.{Pace, Numbers, Slot, heard_next, choice_next, pace_after, slot_next, dummy_next}
+use Rattle.run_play.specs.Slots.{Passed, pass_one, pass_up_to, passed}
+use Rattle.run_play.specs.Requests.{Standing, Taken, none_taken, followed, one_by_one, request_done, requested}
+use Rattle.run_play.specs.Requests.{value_of, take_slot, access_slot, walk_sizes, request_slots}
 use Rattle.run_play.proofs.Paces.{Paced, IsNext, paced-without, paced-chosen}
 
 -- the learner's index is that of a rate

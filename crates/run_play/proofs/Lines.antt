@@ -4,7 +4,7 @@ use Rattle.asc_base.specs.declared.settings.Config.{Config}
 use Rattle.data_cache.specs.CacheLists.{Requests}
 use Rattle.data_cache.specs.Lines.{LineRequest}
 use Rattle.request_plan.specs.Plan.{Plan, Done, Ask}
-use Rattle.request_plan.specs.Play.{Played, play, bare, marked}
+use Rattle.request_plan.specs.Play.{Played, play, marked}
 use Rattle.run_play.specs.Slots.{Slot}
 use Rattle.run_play.specs.Requests.{Standing, Taken, none_taken, followed, one_by_one, request_slots}
 use Rattle.run_play.specs.Turns.{unless_late, answered, line_slots, Takes}

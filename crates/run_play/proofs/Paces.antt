@@ -1,8 +1,8 @@
 -- How slots keep the timetable, one after another.
-use Rattle.std.proofs.Common.{◌≡◌, ◌<◌, ◌≤◌, ℕ, zero, suc, ◌+◌, Bool, true, false, cond, List, [], ◌∷◌, ◌++◌, length, Option, Some, None, refl, sym, ap, ◌∙◌, subst, arith, append-nil, append_assoc, length-append}
-use Rattle.std.specs.Prelude.{map, option_to_list, unwrap_or}
-use Rattle.std.specs.List.{flat_map, All}
-use Rattle.std.specs.Option.{option_map_or}
+use Rattle.std.proofs.Common.{◌≡◌, ◌<◌, ◌≤◌, ℕ, suc, ◌+◌, true, false, List, [], ◌∷◌, ◌++◌, length, Option, Some}
+use Rattle.std.proofs.Common.{None, refl, sym, ap, ◌∙◌, subst, arith, append-nil, length-append}
+use Rattle.std.specs.Prelude.{option_to_list}
+use Rattle.std.specs.List.{All}
 use Rattle.std.proofs.lemmas.List.{map-append, get_or_append_left, get_or_push}
 use Rattle.epoch_learner.specs.Heard.{Heard, nothing_heard, with_access}
 use Rattle.std.proofs.lemmas.List.Sums.{sum_by-append}
@@ -11,7 +11,8 @@ use Rattle.std.proofs.lemmas.List.Elements.{All-nil, All-push}
 use Rattle.asc_base.specs.TreeShape.{olat_of}
 use Rattle.bus_schedule.specs.declared.beat.Beat.{Beat}
 use Rattle.bus_schedule.specs.Shown.{code_of}
-use Rattle.bus_schedule.specs.Timetable.{Public, AgreeTo, count_of, rate_at, digit_of, falls_next, first_beat, beat_with, beat_after, beat_at, start_at, end_at, starts_from, starts}
+use Rattle.bus_schedule.specs.Timetable.{Public, AgreeTo, count_of, rate_at, digit_of, falls_next, beat_with, beat_at}
+use Rattle.bus_schedule.specs.Timetable.{start_at, end_at, starts_from, starts}
 use Rattle.bus_schedule.proofs.CodeLaws.{digit-of-code}
 use Rattle.bus_schedule.proofs.ScheduledLaws.{beat-without, beat-chosen}
 use Rattle.bus_schedule.proofs.TimetableLaws.{starts-next, beat-agrees, starts-agree}
@@ -102,7 +103,7 @@ dummies-more : (p : Public) (slots : List Slot) (pace next : Pace) (slot : Slot)
     → IsNext p pace next slot → next.dummies ≡ dummies_in (slots ++ slot ∷ [])
 dummies-more p slots pace next slot h n =
     let all : dummies_in (slots ++ slot ∷ []) ≡ dummies_in slots + dummies_in (slot ∷ []) =
-        sum_by-append (λ (s : Slot). dummy_count s.asked) slots (slot ∷ []) in
+    sum_by-append (λ (s : Slot). dummy_count s.asked) slots (slot ∷ []) in
     omega (arith, n.dummies, h.dummies, all)
 
 -- a slot more, at whose end no choice falls
@@ -208,10 +209,10 @@ paced-chosen p slots pace next slot index h some small n chosen beat =
 pub is-pace : (p : Public) (slots : List Slot) (pace : Pace) → Paced p slots pace → IsPace p slots pace
 is-pace p slots pace h =
     let beat : pace.beat ≡ beat_at p (code_in p slots) (length slots) =
-        h.beat ∙ ap (λ n. beat_at p h.code n) (sym h.counted) ∙ ap (λ c. beat_at p c (length slots)) h.code_is in
+    h.beat ∙ ap (λ n. beat_at p h.code n) (sym h.counted) ∙ ap (λ c. beat_at p c (length slots)) h.code_is in
     record {
       starts = h.begun ∙ ap (λ n. starts p h.code n) (sym h.counted)
-        ∙ ap (λ c. starts p c (length slots)) h.code_is;
+          ∙ ap (λ c. starts p c (length slots)) h.code_is;
       beat = beat;
       heard = h.heard;
       ended = h.ended ∙ ap (λ n. end_at p h.code n) (sym h.counted) ∙ ap (λ c. end_at p c (length slots)) h.code_is;

@@ -1,10 +1,11 @@
 -- A play ends as the flat run does.
-use Rattle.std.proofs.Common.{◌≡◌, ℕ, zero, suc, ◌+◌, Bool, true, false, List, Option, Some, None, refl, sym, ap, ◌∙◌, subst, arith}
+use Rattle.std.proofs.Common.{◌≡◌, ℕ, zero, suc, ◌+◌, Bool, true, false, List, Option, Some, None, refl, sym, ap, ◌∙◌}
+use Rattle.std.proofs.Common.{subst, arith}
 use Rattle.std.specs.Prelude.{nat_lt}
 use Rattle.asc_base.specs.declared.settings.Config.{Config}
 use Rattle.data_cache.specs.CacheLists.{Lines, Sets, no_lines}
 use Rattle.request_plan.specs.Play.{bare}
-use Rattle.rv32_core.specs.FlatMachine.{FlatStep, flat_step}
+use Rattle.rv32_core.specs.FlatMachine.{FlatStep}
 use Rattle.rv32_core.specs.FlatRun as flat
 use Rattle.rv32_core.specs.FlatRun.{FlatRun, run_from, flat_run}
 use Rattle.rv32_core.specs.Machine.{Machine}
@@ -13,7 +14,9 @@ use Rattle.rv32_core.specs.declared.outcome.Ended.TheVariants.{No, Exit, Trap}
 use Rattle.rv32_core.proofs.FlatRunLaws.{flat_run-zero, flat_run-suc}
 use Rattle.run_play.specs.Slots.{Numbers}
 use Rattle.run_play.specs.Requests.{Standing, standing_at_start, Taken, one_by_one, request_slots}
-use Rattle.run_play.specs.Play.{PlayEnding, Exited, Trapped, Budget, TimeUp, StashFull, Integrity, Device, Play, instruction, finished, image_slots, image_sets, after_requests, begins, play_from, after_image, play_of}
+use Rattle.run_play.specs.Play.{PlayEnding, Exited, Trapped, Budget, TimeUp, StashFull, Integrity, Device, Play}
+use Rattle.run_play.specs.Play.{instruction, finished, image_slots, image_sets, after_requests, begins, play_from}
+use Rattle.run_play.specs.Play.{after_image, play_of}
 use Rattle.run_play.specs.Flat.{EndsAs, IsFlat}
 use Rattle.run_play.proofs.Finished.{done_in, requests-done, image-done}
 use Rattle.run_play.proofs.Flat.{instruction-flat}

@@ -1,11 +1,12 @@
 -- Plays keep the timetable up to their end times.
-use Rattle.std.proofs.Common.{◌≡◌, ◌<◌, ◌≤◌, ℕ, zero, suc, ◌+◌, ◌^◌, Bool, true, false, List, [], ◌∷◌, ◌++◌, length, Option, Some, None, refl, sym, ap, ◌∙◌, subst, arith, append-nil, append_assoc}
+use Rattle.std.proofs.Common.{◌≡◌, ◌<◌, ◌≤◌, ℕ, zero, suc, ◌^◌, Bool, true, false, List, [], ◌∷◌, ◌++◌, Option, Some}
+use Rattle.std.proofs.Common.{None, refl, sym, ap, ◌∙◌, subst, arith, append_assoc}
 use Rattle.std.specs.Prelude.{min, max, nat_lt}
-use Rattle.std.specs.List.{All}
 use Rattle.asc_base.specs.Settings.{IsPowerTo, IsConfig}
 use Rattle.asc_base.specs.declared.settings.Config.{Config}
 use Rattle.bus_schedule.specs.declared.beat.Beat.{Beat}
-use Rattle.bus_schedule.specs.Timetable.{Public, public_of, count_of, choices_of, beat_at, start_at, end_at, starts, timetable, ended_by, fallen}
+use Rattle.bus_schedule.specs.Timetable.{Public, public_of, count_of, choices_of, beat_at, start_at, end_at}
+use Rattle.bus_schedule.specs.Timetable.{timetable, ended_by, fallen}
 use Rattle.bus_schedule.proofs.ChoiceLaws.{choices-few, codes-few}
 use Rattle.bus_schedule.proofs.CodeLaws.{code-below}
 use Rattle.bus_schedule.proofs.PublicParts.{count-power, first-among}
@@ -17,10 +18,13 @@ use Rattle.request_plan.specs.Play.{bare}
 use Rattle.rv32_core.specs.Machine.{Machine}
 use Rattle.rv32_core.specs.declared.outcome.Ended.{Ended}
 use Rattle.rv32_core.specs.declared.outcome.Ended.TheVariants.{No, Exit, Trap}
-use Rattle.run_play.specs.Slots.{Pace, Numbers, Slot, Passed, passed}
-use Rattle.run_play.specs.Requests.{Standing, standing_at_start, Taken, none_taken, followed, one_by_one, request_slots}
-use Rattle.run_play.specs.Play.{PlayEnding, Exited, Trapped, Budget, TimeUp, Play, after_slots, instruction, image_use, line_loaded, finished, image_slots, image_sets, ends, comes_to, times_out, after_requests, begins, play_from, after_image, play_of}
-use Rattle.run_play.specs.PlayEvents.{starts_in, indices_in, choices_in, code_in}
+use Rattle.run_play.specs.Slots.{Pace, Slot, Passed, passed}
+use Rattle.run_play.specs.Requests.{Standing, standing_at_start, Taken, none_taken, followed, one_by_one}
+use Rattle.run_play.specs.Requests.{request_slots}
+use Rattle.run_play.specs.Play.{PlayEnding, Exited, Trapped, Budget, TimeUp, Play, after_slots, instruction}
+use Rattle.run_play.specs.Play.{image_use, line_loaded, finished, image_slots, image_sets, ends, after_requests}
+use Rattle.run_play.specs.Play.{begins, play_from, after_image, play_of}
+use Rattle.run_play.specs.PlayEvents.{indices_in, choices_in, code_in}
 use Rattle.run_play.specs.OnTime.{AreOnTime}
 use Rattle.run_play.proofs.Paces.{Paced, paced-none}
 use Rattle.run_play.proofs.Keeping.{paced-passed, passed-far, Keeps, keeps-none, keeps-followed, keeps-requests}
@@ -157,7 +161,8 @@ pub code-in-budget : (config : Config) (end : ℕ) (slots : List Slot) → IsCon
 code-in-budget config end slots is h =
     let p : Public = public_of config in
     let power : IsPowerTo 4 (count_of p) = count-power config is in
-    let below : code_in p slots < count_of p ^ choices_in slots = code-below (count_of p) (indices_in slots) h.indices in
+    let below : code_in p slots < count_of p ^ choices_in slots =
+    code-below (count_of p) (indices_in slots) h.indices in
     let few : choices_in slots ≤ choices_of p =
     omega (arith, choices-few p (code_in p slots) (ended_by p (code_in p slots) end), h.fell) in
     (below, omega (arith, below, codes-few p power.0 (choices_in slots) power.2 few))

@@ -1,13 +1,15 @@
 -- How a play goes on, instruction by instruction.
-use Rattle.std.proofs.Common.{◌≡◌, ◌<◌, ◌≤◌, ℕ, suc, List, [], ◌∷◌, ◌++◌, Option, Some, None, refl, sym, ap, ◌∙◌, append_assoc}
+use Rattle.std.proofs.Common.{◌≡◌, ◌<◌, ◌≤◌, ℕ, suc, List, [], ◌∷◌, ◌++◌, Option, Some, None, refl, sym, ap, ◌∙◌}
+use Rattle.std.proofs.Common.{append_assoc}
 use Rattle.std.proofs.lemmas.Bool.{lt-ltb, le-ltb}
 use Rattle.asc_base.specs.declared.settings.Config.{Config}
-use Rattle.data_cache.specs.CacheLists.{Lines, Sets}
+use Rattle.data_cache.specs.CacheLists.{Lines}
 use Rattle.request_plan.specs.Play.{bare}
 use Rattle.rv32_core.specs.Machine.{Machine}
 use Rattle.run_play.specs.Slots.{Slot}
 use Rattle.run_play.specs.Requests.{Standing, Taken, none_taken, followed, one_by_one, request_slots}
-use Rattle.run_play.specs.Play.{Play, Budget, after_slots, instruction, begins, after_requests, comes_to, times_out, play_from}
+use Rattle.run_play.specs.Play.{Play, Budget, after_slots, instruction, begins, after_requests, comes_to, times_out}
+use Rattle.run_play.specs.Play.{play_from}
 
 -- slots before slots
 pub after_slots-twice : (one two : List Slot) (rest : Play)

@@ -1,5 +1,5 @@
 -- An instruction's slots, access by access.
-use Rattle.std.proofs.Common.{◌≡◌, ℕ, List, [], ◌∷◌, ◌++◌, Option, Some, None, refl, sym, ap, ◌∙◌, append-nil, subst}
+use Rattle.std.proofs.Common.{◌≡◌, ℕ, List, ◌++◌, Option, Some, None, refl, sym, ap, ◌∙◌, append-nil, subst}
 use Rattle.asc_base.specs.declared.settings.Config.{Config}
 use Rattle.data_cache.specs.CacheLists.{Lines}
 use Rattle.data_cache.specs.Lines.{LineRequest}
@@ -14,7 +14,8 @@ use Rattle.run_play.specs.Play.{access_turn}
 use Rattle.run_play.specs.Turns.{unless_late, access_slots, Matches}
 use Rattle.run_play.proofs.Steps.{one_by_one-append}
 
-pub bare-turn : {R B : Type 0} (b : B) (rs : List R) (more : List (R × B)) → bare (marked b rs ++ more) ≡ rs ++ bare more
+pub bare-turn : {R B : Type 0} (b : B) (rs : List R) (more : List (R × B))
+    → bare (marked b rs ++ more) ≡ rs ++ bare more
 bare-turn b rs more = bare-append (marked b rs) more ∙ ap (λ l. l ++ bare more) (bare-marked b rs)
 
 module _ (config : Config) (core : CoreState) where
@@ -48,7 +49,8 @@ module _ (config : Config) (core : CoreState) where
       → (first.standing.late ≡ None
       → Matches (play (access_slots config core) plan (lines, first.standing))
       (play (access_turn config.ways core) plan lines)
-      (one_by_one (request_slots config) (bare (play (access_turn config.ways core) plan lines).records) first.standing))
+      (one_by_one (request_slots config) (bare (play (access_turn config.ways core) plan lines).records)
+      first.standing))
       → Matches (after_first left plan lines first)
       (let rest = play (access_turn config.ways core) plan lines in
       record { records = marked left requests ++ rest.records; held = rest.held; outcome = rest.outcome })

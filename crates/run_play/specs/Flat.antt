@@ -16,9 +16,9 @@ module _ (machine : Machine) (memory : List ℕ) where
   abbrev pub FlatEnds : ℕ → flat.FlatEnding → Type 0
   FlatEnds count ending = (flat_run count machine memory).ending ≡ ending
 
-  -- After so many instructions, all of which finish in the flat run: it exits with the last of them, or traps in the next
-  -- one; at the budget they are as many as were to finish; and when time is up they haven't ended it. No play ends by a
-  -- stop of its memory.
+  -- After so many instructions, all of which finish in the flat run: it exits with the last of them, or traps in the
+  -- next one; at the budget they are as many as were to finish; and when time is up they haven't ended it. No play ends
+  -- by a stop of its memory.
   abbrev pub EndsAs : (budget count : ℕ) → PlayEnding → Type 0
   EndsAs budget count (Exited status) = FlatEnds count (flat.Exited status)
   EndsAs budget count (Trapped kind pc) = FlatEnds count flat.Budget × FlatEnds (count + 1) (flat.Trapped kind pc)

@@ -7,3 +7,4 @@ pub mod OnTime
 pub mod Turns
 pub mod Flat
 pub mod Rows
+pub mod Programs

@@ -31,8 +31,8 @@ pub record IsPace (p : Public) (slots : List Slot) (pace : Pace) : Type 0 where
   pub indices : All (λ index. index < count_of p) (indices_in slots)
   pub fell : choices_in slots ≡ pace.beat.choices
 
--- Up to a time these slots are those of the timetable, by the code of the choices at their ends, the dummies among them;
--- and the choices are indices of rates, as many as fall by then.
+-- Up to a time these slots are those of the timetable, by the code of the choices at their ends, the dummies among
+-- them; and the choices are indices of rates, as many as fall by then.
 pub record AreOnTime (p : Public) (end : ℕ) (slots : List Slot) : Type 0 where
   pub starts : starts_in slots ≡ timetable p (code_in p slots) end
   pub indices : All (λ index. index < count_of p) (indices_in slots)

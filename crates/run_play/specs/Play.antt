@@ -1,5 +1,6 @@
 -- The Play: what a program does and when, over a memory outside that is honest. It knows no leaf, stash, bucket or key.
-use Rattle.std.specs.Prelude.{ℕ, zero, suc, ◌+◌, nat_lt, min, max, Bool, true, false, List, [], ◌∷◌, ◌++◌, Option, Some, None}
+use Rattle.std.specs.Prelude.{ℕ, zero, suc, ◌+◌, nat_lt, min, max, Bool, true, false, List, [], ◌∷◌, ◌++◌, Option}
+use Rattle.std.specs.Prelude.{Some, None}
 use Rattle.asc_base.specs.declared.settings.Config.{Config}
 use Rattle.asc_base.specs.declared.stop.Evidence.{Evidence}
 use Rattle.bus_schedule.specs.Timetable.{public_of}
@@ -15,7 +16,8 @@ use Rattle.rv32_core.specs.declared.outcome.Ended.{Ended}
 use Rattle.rv32_core.specs.declared.outcome.Ended.TheVariants.{No, Exit, Trap}
 use Rattle.rv32_core.specs.declared.outcome.TrapKind.{TrapKind}
 use Rattle.run_play.specs.Slots.{Slot, Numbers, passed}
-use Rattle.run_play.specs.Requests.{Standing, standing_at_start, Taken, none_taken, followed, one_by_one, request_slots}
+use Rattle.run_play.specs.Requests.{Standing, standing_at_start, Taken, none_taken, followed, one_by_one}
+use Rattle.run_play.specs.Requests.{request_slots}
 
 -- How a run ends: by itself, at the settings' budget or time, or by a stop of its memory.
 pub data PlayEnding : Type 0 where

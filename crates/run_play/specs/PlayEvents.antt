@@ -11,8 +11,9 @@ use Rattle.epoch_learner.specs.LearnerRule.{real_count}
 use Rattle.run_play.specs.Slots.{Slot, dummy_count}
 use Rattle.run_play.specs.Play.{PlayEnding, Play}
 
--- What a play says of a log's events: a slot starts, and was asked for at a time or is a dummy; a point's leaf is drawn,
--- whatever the leaf is; a message is tagged; an index is chosen. It says nothing of what is accepted and answered.
+-- What a play says of a log's events: a slot starts, and was asked for at a time or is a dummy; a point's leaf is
+-- drawn, whatever the leaf is; a message is tagged; an index is chosen. It says nothing of what is accepted and
+-- answered.
 pub data PlayEvent : Type 0 where
   Starts : ℕ → Option ℕ → PlayEvent
   Draws : Point → PlayEvent
@@ -73,9 +74,9 @@ choices_in slots = length (indices_in slots)
 abbrev pub code_in : Public → List Slot → ℕ
 code_in p slots = code_of (count_of p) (indices_in slots)
 
--- What is reported of a run but its output: how it ended; the instructions that are finished, the cycles and the fetches
--- that were answered; the end time; how many slots were asked for, and how many were dummies; how many rates were
--- chosen, and their code.
+-- What is reported of a run but its output: how it ended; the instructions that are finished, the cycles and the
+-- fetches that were answered; the end time; how many slots were asked for, and how many were dummies; how many rates
+-- were chosen, and their code.
 pub record PlayReport : Type 0 where
   pub ending : PlayEnding
   pub instructions : ℕ

@@ -1,5 +1,6 @@
 -- What a request for a line makes over a memory that is honest: its slots, and what stands after them.
-use Rattle.std.specs.Prelude.{ℕ, ◌+◌, nat_eq, nat_lt, min, Bool, true, false, List, [], ◌∷◌, ◌++◌, replicate, Option, Some, None, unwrap_or}
+use Rattle.std.specs.Prelude.{ℕ, ◌+◌, nat_eq, nat_lt, min, Bool, true, false, List, [], ◌∷◌, ◌++◌, replicate, Option}
+use Rattle.std.specs.Prelude.{Some, None, unwrap_or}
 use Rattle.std.specs.Map.{lookup}
 use Rattle.std.specs.Option.{option_map, option_map_or}
 use Rattle.asc_base.specs.TreeShape.{olat_of, children_of}
@@ -9,7 +10,8 @@ use Rattle.bus_schedule.specs.Timetable.{public_of}
 use Rattle.data_cache.specs.Lines.{LineRequest, Fetch, Store}
 use Rattle.posmap_counters.specs.Counters.{Counters, counter_at, point_of}
 use Rattle.posmap_counters.specs.Families.{family_line}
-use Rattle.posmap_lookaside.specs.Walk.{Purpose, Refill, Final, Moves, WalkAccess, OnChip, WalkSizes, chip_at_start, walk}
+use Rattle.posmap_lookaside.specs.Walk.{Purpose, Refill, Final, Moves, WalkAccess, OnChip, WalkSizes, chip_at_start}
+use Rattle.posmap_lookaside.specs.Walk.{walk}
 use Rattle.run_play.specs.Slots.{Pace, first_pace, Numbers, no_numbers, Slot, slot_next, pace_after, Passed, passed}
 
 -- the data lines as last stored; of two pairs with one line the first counts
@@ -103,8 +105,8 @@ module _ (config : Config) where
       (unwrap_or value (line_at access.counters lines access.address)))
 
   -- An access takes the first slot that starts at or after the clock, and those before it pass; the clock becomes that
-  -- slot's end. A slot that starts at or after the time of the settings is too late. After a refill the displaced block is
-  -- appended, under the counters that stand then.
+  -- slot's end. A slot that starts at or after the time of the settings is too late. After a refill the displaced block
+  -- is appended, under the counters that stand then.
   abbrev pub take_slot : Option (List ℕ) → Standing → WalkAccess → Passed → Bool → Taken
   take_slot value now access before true = record {
     slots = before.slots ++ slot_next (public_of config) before.pace now.numbers (Some now.clock)

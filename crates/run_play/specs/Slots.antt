@@ -1,5 +1,6 @@
 -- Slots as they are taken: which pass as dummies, which rate is chosen at their ends, and what is tagged in them.
-use Rattle.std.specs.Prelude.{ℕ, zero, suc, ◌+◌, ◌-◌, nat_lt, Bool, true, false, if◌then◌else◌, List, [], ◌∷◌, Option, Some, None, unwrap_or}
+use Rattle.std.specs.Prelude.{ℕ, zero, suc, ◌+◌, ◌-◌, nat_lt, Bool, true, false, if◌then◌else◌, List, [], ◌∷◌, Option}
+use Rattle.std.specs.Prelude.{Some, None, unwrap_or}
 use Rattle.std.specs.Option.{option_map_or}
 use Rattle.asc_base.specs.TreeShape.{olat_of}
 use Rattle.asc_base.specs.declared.block.Message.{Message}
@@ -32,9 +33,9 @@ pub record Numbers : Type 0 where
 abbrev pub no_numbers : Numbers
 no_numbers = record { instructions = 0; cycles = 0; fetches = 0 }
 
--- One slot: its start; when it was asked for, if it is no dummy; its point; the message of the block that is put back in
--- it; the index that is chosen at its end; the message of the block that is appended after it; and how far the run came
--- where it stops in this slot or in the append.
+-- One slot: its start; when it was asked for, if it is no dummy; its point; the message of the block that is put back
+-- in it; the index that is chosen at its end; the message of the block that is appended after it; and how far the run
+-- came where it stops in this slot or in the append.
 pub record Slot : Type 0 where
   pub start : ℕ
   pub asked : Option ℕ

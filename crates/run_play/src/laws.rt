@@ -63,8 +63,8 @@ pub fn instructions_take_slots<A, B>()
         (one_by_one (request_slots config) (bare whole.records) now) }
 {}
 
-/// A plan of requests for lines that makes these, whatever is answered, takes their slots one by one through a server that
-/// takes the slots of each, and leaves what stands after them.
+/// A plan of requests for lines that makes these, whatever is answered, takes their slots one by one through a server
+/// that takes the slots of each, and leaves what stands after them.
 pub fn requests_take_slots<A, B>()
     ensures { (config : Config) (plan : Plan LineRequest (List ℕ) B A) (requests : List LineRequest) (now : Standing)
         → Requests plan requests → now.late ≡ None
@@ -72,8 +72,8 @@ pub fn requests_take_slots<A, B>()
 {}
 
 /// An instruction of a play is the flat machine's, and its requests are those that the cache's lists make of the
-/// instruction's lines in the line list. A play ends as the flat run does: an exit and a trap are the flat run's after as
-/// many instructions, at the budget all are finished, and when time is up the flat run goes on.
+/// instruction's lines in the line list. A play ends as the flat run does: an exit and a trap are the flat run's after
+/// as many instructions, at the budget all are finished, and when time is up the flat run goes on.
 pub fn plays_are_flat()
     ensures instruction { (ways : ℕ) (machine : Machine) (lines : Lines)
         → let step = instruction ways machine lines in
@@ -121,9 +121,9 @@ pub fn dummies_pass()
         → time ≤ (passed p numbers time pace).pace.beat.next }
 {}
 
-/// Where a pace is that after some slots, it is so after a slot more, after dummies, and after the slots of requests: the
-/// timetable stands where the code of these slots' choices leads to, the learner heard these slots, and the dummies are
-/// counted. What a log tells that says the events of slots is what is heard of them.
+/// Where a pace is that after some slots, it is so after a slot more, after dummies, and after the slots of requests:
+/// the timetable stands where the code of these slots' choices leads to, the learner heard these slots, and the dummies
+/// are counted. What a log tells that says the events of slots is what is heard of them.
 pub fn slots_keep_the_pace()
     ensures start { (p : Public) → IsPace p [] (first_pace p) }
     ensures slot { (p : Public) → 0 < count_of p → (slots : List Slot) (pace : Pace) (numbers : Numbers)
@@ -139,9 +139,9 @@ pub fn slots_keep_the_pace()
         → told_by p events ≡ heard_in p slots }
 {}
 
-/// The slots of a play, the dummies among them, start as the timetable of its code says, up to its end time; its choices
-/// are as many as fall by then, and its code is in the leakage budget. What a log says, where it says the events of
-/// slots, are their starts and choices.
+/// The slots of a play, the dummies among them, start as the timetable of its code says, up to its end time; its
+/// choices are as many as fall by then, and its code is in the leakage budget. What a log says, where it says the
+/// events of slots, are their starts and choices.
 pub fn plays_are_scheduled()
     ensures slots { (config : Config) → IsConfig config → (memory marked : List ℕ) (machine : Machine)
         → let run = play_of config memory marked machine in AreOnTime (public_of config) run.last run.slots }

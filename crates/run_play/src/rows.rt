@@ -10,14 +10,16 @@ ghost use Rattle.run_play.specs.Play.{Exited, Trapped, Budget, TimeUp, StashFull
 ghost use Rattle.run_play.specs.Halt.{Overfull, MoveFails, AppendOverfull, halt};
 ghost use Rattle.run_play.specs.PlayEvents.{Starts, Draws, play_events, starts_in, points_in, report_of};
 ghost use Rattle.run_play.specs.Rows.{default_settings, small_settings, default_config, small, no_budget, no_time};
-ghost use Rattle.run_play.specs.Rows.{one_rate, short_time, one_choice, one_held, exit_words, hello_words, load_words};
-ghost use Rattle.run_play.specs.Rows.{jump_words, misaligned_words, memory_with, play_at, real, tags};
+ghost use Rattle.run_play.specs.Rows.{one_rate, short_time, one_choice, one_held};
+ghost use Rattle.run_play.specs.Programs.{exit_words, hello_words};
+ghost use Rattle.run_play.specs.Programs.{load_words};
+ghost use Rattle.run_play.specs.Programs.{jump_words, misaligned_words, memory_with, play_at, real, tags};
 
-/// Plays of programs. With the default settings programs of one line take no slot, be it that they exit at once or write
-/// six bytes first. Over 64 lines and a cache of one line a load of line 1 stores line 0 before it, so its walk refills
-/// the map block of both, and the program's own line is fetched again: four slots, one behind another, also where there
-/// is one rate. A jump to an address that no instruction has traps. With no budget the image is loaded and nothing is
-/// done, and with less time than the first slot's start the first slot that is needed comes too late.
+/// Plays of programs. With the default settings programs of one line take no slot, be it that they exit at once or
+/// write six bytes first. Over 64 lines and a cache of one line a load of line 1 stores line 0 before it, so its walk
+/// refills the map block of both, and the program's own line is fetched again: four slots, one behind another, also
+/// where there is one rate. A jump to an address that no instruction has traps. With no budget the image is loaded and
+/// nothing is done, and with less time than the first slot's start the first slot that is needed comes too late.
 pub fn plays_have_rows()
     ensures default_settings { config_of default_settings ≡ default_config }
     ensures small_settings { config_of small_settings ≡ small }
@@ -139,8 +141,8 @@ pub fn appends_have_rows()
         } }
 {}
 
-/// A program that jumps to itself until its time is up. It asks for no slot, so all slots are dummies. At the end of the
-/// 44th, at 33,088, where epoch 1 began, the greatest of four rates is chosen, since no slot was real.
+/// A program that jumps to itself until its time is up. It asks for no slot, so all slots are dummies. At the end of
+/// the 44th, at 33,088, where epoch 1 began, the greatest of four rates is chosen, since no slot was real.
 pub fn jumps_have_rows()
     ensures one_rate { report_of (public_of short_time) (play_at short_time 0 jump_words)
         ≡ record {
