@@ -3,6 +3,11 @@ pub mod Halts
 pub mod Turns
 pub mod Lines
 pub mod Flat
+pub mod Sets
+pub mod Honest
+pub mod Stored
+pub mod HonestPlays
+pub mod Answered
 pub mod Finished
 pub mod PlaysFlat
 pub mod Events

@@ -6,5 +6,6 @@ pub mod PlayEvents
 pub mod OnTime
 pub mod Turns
 pub mod Flat
+pub mod Honest
 pub mod Rows
 pub mod Programs

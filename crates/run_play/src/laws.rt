@@ -1,6 +1,6 @@
 //! Laws of plays and halts. The functions do nothing: each states laws in its contract.
 
-ghost use Rattle.std.specs.Prelude.{◌≡◌, ◌<◌, ◌≤◌, ◌^◌, ℕ, suc, List, [], ◌∷◌, ◌++◌, length, map, take, slice_get};
+ghost use Rattle.std.specs.Prelude.{◌≡◌, ◌<◌, ◌≤◌, ◌^◌, ◌*◌, ◌⊎◌, replicate, ℕ, suc, List, [], ◌∷◌, ◌++◌, length, map, take, slice_get};
 ghost use Rattle.std.specs.Prelude.{Option, Some, None};
 ghost use Rattle.asc_base.specs.Settings.{IsConfig};
 ghost use Rattle.asc_base.specs.declared.settings.Config.{Config};
@@ -11,23 +11,26 @@ ghost use Rattle.bus_schedule.specs.Timetable.{Public, public_of, count_of};
 ghost use Rattle.epoch_learner.specs.Heard.{told_by};
 ghost use Rattle.bus_watch.specs.declared.log.Event.{Event};
 ghost use Rattle.asc_base.specs.Memory.{IsMemory};
-ghost use Rattle.data_cache.specs.CacheLists.{Lines, Requests, requests_along};
+ghost use Rattle.asc_base.specs.Has.{Has};
+ghost use Rattle.data_cache.specs.Cached.{lists_access, HasBytes};
+ghost use Rattle.data_cache.specs.CacheLists.{Lines, Requests, no_lines, requests_of, requests_along, sets_after, line_in};
 ghost use Rattle.data_cache.specs.Lines.{LineRequest};
 ghost use Rattle.request_plan.specs.Plan.{Plan};
 ghost use Rattle.request_plan.specs.Play.{bare, play};
-ghost use Rattle.rv32_core.specs.Access.{Access};
+ghost use Rattle.rv32_core.specs.Access.{Access, IsAccess};
 ghost use Rattle.rv32_core.specs.FlatMachine.{flat_step};
 ghost use Rattle.rv32_core.specs.LineList.{step_lines};
-ghost use Rattle.rv32_core.specs.Machine.{CoreState, Machine};
+ghost use Rattle.rv32_core.specs.Machine.{CoreState, Machine, IsCore};
 ghost use Rattle.run_play.specs.Slots.{Slot, Numbers, Pace, first_pace, passed, pace_after, slot_next, dummy_next};
-ghost use Rattle.run_play.specs.Requests.{Standing, followed, one_by_one, request_slots};
+ghost use Rattle.run_play.specs.Requests.{StoredLines, Standing, followed, one_by_one, request_slots};
 ghost use Rattle.run_play.specs.Play.{Play, Budget, after_slots, access_turn, instruction, comes_to, times_out};
-ghost use Rattle.run_play.specs.Play.{after_requests, play_from, play_of};
+ghost use Rattle.run_play.specs.Play.{after_requests, image_use, play_from, play_of};
 ghost use Rattle.run_play.specs.Halt.{Stop, ending_of, end_of, cut_at, unprepared, halt};
 ghost use Rattle.run_play.specs.PlayEvents.{PlayEvent, said_of_all, play_events, starts_in, points_in, indices_in};
 ghost use Rattle.run_play.specs.PlayEvents.{choices_in, code_in};
 ghost use Rattle.run_play.specs.OnTime.{heard_in, IsPace, AreOnTime};
 ghost use Rattle.run_play.specs.Turns.{access_slots, Matches, line_slots, Takes};
+ghost use Rattle.run_play.specs.Honest.{stored_by, IsHonest};
 ghost use Rattle.run_play.specs.Flat.{without_bytes, IsFlat};
 
 /// A play goes on instruction by instruction: where no instruction is left it ends with the budget, where no time is
@@ -137,6 +140,36 @@ pub fn slots_keep_the_pace()
         IsPace (public_of config) (slots ++ taken.slots) taken.standing.pace }
     ensures log { (p : Public) (events : List Event) (slots : List Slot) → said_of_all events ≡ play_events slots
         → told_by p events ≡ heard_in p slots }
+{}
+
+/// At the start of a run the lines that aren't the image's stand for the bytes. An image line that is loaded stands for
+/// them from then on, and they do after an instruction's requests. Where no slot came too late these requests' lines were
+/// stored in order; and over all lines the requests that the cache's lists make of an access are answered by the bytes, so
+/// that the access reads and writes them. So the plan of an instruction, through the cache's lists and a server that knows
+/// the stored lines alone, goes on as over the bytes.
+pub fn plays_stay_honest()
+    ensures start { (ways sets count : ℕ) (memory marked : List ℕ) → 0 < sets
+        → ((line : ℕ) → line < count → Has line marked ⊎ (line_in memory line ≡ replicate 64 0))
+        → IsHonest ways count marked (record { memory = memory; sets = no_lines sets }) [] }
+    ensures load { (ways count line : ℕ) (pending : List ℕ) (lines : Lines) (stored : StoredLines) → 0 < ways
+        → IsHonest ways count (line ∷ pending) lines stored
+        → IsHonest ways count pending (record lines { sets = sets_after ways lines.sets (image_use line) })
+        (stored_by stored (requests_of ways lines.memory lines.sets (image_use line))) }
+    ensures instruction { (ways count : ℕ) (pending : List ℕ) (machine : Machine) (lines : Lines)
+        (stored : StoredLines) → 0 < ways → IsCore machine.core → machine.core.size ≡ 64 * count
+        → length lines.memory ≡ 64 * count → IsHonest ways count pending lines stored
+        → let step = instruction ways machine lines in
+        IsHonest ways count pending step.held (stored_by stored (bare step.records)) }
+    ensures stored { (config : Config) (requests : List LineRequest) (now : Standing)
+        → (one_by_one (request_slots config) requests now).standing.late ≡ None
+        → (one_by_one (request_slots config) requests now).standing.data_lines
+        ≡ stored_by now.data_lines requests }
+    ensures answered { (config : Config) (ways count : ℕ) (core : CoreState) (access : Access) (lines : Lines)
+        (now : Standing) → IsAccess core.base (64 * count) access → HasBytes access
+        → length lines.memory ≡ 64 * count → IsHonest ways count [] lines now.data_lines
+        → let turn = access_turn ways core lines access in
+        (play (line_slots config) (lists_access core.base ways lines access) now).outcome
+        ≡ (turn.held, turn.answer) }
 {}
 
 /// The slots of a play, the dummies among them, start as the timetable of its code says, up to its end time; its
