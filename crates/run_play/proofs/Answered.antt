@@ -4,7 +4,7 @@ use Rattle.std.specs.Prelude.{if◌then◌else◌}
 use Rattle.std.proofs.lemmas.Bool.{and_parts}
 use Rattle.asc_base.specs.declared.settings.Config.{Config}
 use Rattle.data_cache.specs.Cached.{line_at, place_at, lists_access, HasBytes}
-use Rattle.data_cache.specs.CacheLists.{Kept, Sets, Lines, needs, keeps, keeps_dirty, set_of, with_kept, victim, stored, fetched, set_settled, set_after, line_in, ask_all, sets_after, use_set, after_use}
+use Rattle.data_cache.specs.CacheLists.{Kept, Sets, Lines, needs, keeps, keeps_dirty, set_of, with_kept, victim, stored, fetched, set_settled, set_after, line_in, ask_all, sets_after, use_set, after_use, write_whole_line}
 use Rattle.data_cache.specs.Lines as lines
 use Rattle.data_cache.specs.Lines.{LineRequest, Fetch}
 use Rattle.data_cache.proofs.Parts.{patched_own}
@@ -16,7 +16,7 @@ use Rattle.rv32_core.specs.Access.{Access, Load, Store, IsAccess, access_bytes, 
 use Rattle.rv32_core.specs.LineList.{LineUse, Read, Write, line_used}
 use Rattle.rv32_core.specs.Machine.{CoreState}
 use Rattle.run_play.specs.Honest.{data_line, stored_by, IsStored, IsHonest}
-use Rattle.run_play.specs.Play.{access_turn}
+use Rattle.run_play.specs.Play.{access_turn, image_use}
 use Rattle.run_play.specs.Requests.{StoredLines, Standing, Taken, none_taken, followed, one_by_one, request_done, requested, value_of, access_slot, walk_sizes, request_slots}
 use Rattle.run_play.specs.Slots.{Slot}
 use Rattle.run_play.specs.Turns.{unless_late, line_slots}
@@ -113,9 +113,10 @@ module _ (config : Config) where
   -- a use of a set
   pub use-plays : (ways : ℕ) (set : List Kept) (memory : List ℕ) (use_of : LineUse) (now : Standing)
       → 64 * use_of.line + 64 ≤ length memory
-      → (keeps_dirty set use_of.line ≡ true) ⊎ (data_line (data_in now) use_of.line ≡ line_in memory use_of.line)
+      → ((needs use_of.kind && not (keeps set use_of.line)) ≡ true
+      → data_line (data_in now) use_of.line ≡ line_in memory use_of.line)
       → (play (line_slots config) (use_set ways set memory use_of) now).outcome ≡ (set_after ways set use_of, memory)
-  use-plays ways set memory use_of now room stands =
+  use-plays ways set memory use_of now room wants =
       let last : Option Kept = victim ways set use_of.line in
       let storing = ask_all set memory (stored memory last) in
       let after = play (line_slots config) storing now in
@@ -132,7 +133,7 @@ module _ (config : Config) where
       ∙ ap (λ (m : List ℕ). let pair : List Kept × List ℕ = (set_after ways set use_of, m) in pair)
       (fetch-by (set_settled ways set last) memory use_of.line (needs use_of.kind && not (keeps set use_of.line))
       after.held room
-      (λ need. s.keeps use_of.line (needs-none use_of set memory (data_in now) stands need)))
+      (λ need. s.keeps use_of.line (wants need)))
 
   -- ---- an access of a core
   -- the place of an address in its line
@@ -157,7 +158,7 @@ module _ (config : Config) where
       ∙ ap
       (λ (r : List Kept × List ℕ). let out : Lines × List ℕ =
       (after_use lists line (r.0) (r.1), slice_of (r.1) (64 * line + place_at base address) size) in out)
-      (use-plays ways set lists.memory use_of now room stands)
+      (use-plays ways set lists.memory use_of now room (needs-none use_of set lists.memory (data_in now) stands))
       ∙ ap (λ k. let out : Lines × List ℕ =
       (after_use lists line (set_after ways set use_of) lists.memory, slice_of lists.memory k size) in out)
       (place-is base address)
@@ -185,7 +186,7 @@ module _ (config : Config) where
       ∙ ap
       (λ (r : List Kept × List ℕ). let out : Lines × List ℕ =
       (after_use lists line (r.0) (spliced (r.1) (64 * line + place_at base address) bytes), []) in out)
-      (use-plays ways set lists.memory use_of now room stands)
+      (use-plays ways set lists.memory use_of now room (needs-none use_of set lists.memory (data_in now) stands))
       ∙ ap (λ k. let out : Lines × List ℕ =
       (after_use lists line (set_after ways set use_of) (spliced lists.memory k bytes), []) in out)
       (place-is base address)
@@ -213,3 +214,19 @@ module _ (config : Config) where
       let high : address + length bytes ≤ core.base + 64 * count = is.below in
       store-plays-access core.base ways address bytes lists now (omega arith)
       (line-of-all ways count lists now.data_lines (line_at core.base address) (omega arith) h)
+
+  -- a line that is written whole as the bytes have it
+  pub whole-plays : (ways line : ℕ) (value : List ℕ) (lists : Lines) (now : Standing)
+      → 64 * line + 64 ≤ length lists.memory → value ≡ line_in lists.memory line
+      → (play (line_slots config) (write_whole_line ways lists line value) now).outcome
+      ≡ record lists { sets = sets_after ways lists.sets (image_use line) }
+  whole-plays ways line value lists now room is =
+      let set : List Kept = set_of lists.sets line in
+      let end : List Kept × List ℕ → Plan LineRequest (List ℕ) Sets Lines =
+          (λ r. Done (after_use lists line (r.0) (spliced (r.1) (64 * line) value))) in
+      ap (λ (p : Played Slot Standing Sets Lines). p.outcome)
+      (play-bind (line_slots config) (with_kept lists.sets line) (use_set ways set lists.memory (image_use line)) end now)
+      ∙ ap (λ (r : List Kept × List ℕ). after_use lists line (r.0) (spliced (r.1) (64 * line) value))
+      (use-plays ways set lists.memory (image_use line) now room (λ need. absurd cc))
+      ∙ ap (λ v. after_use lists line (set_after ways set (image_use line)) (spliced lists.memory (64 * line) v)) is
+      ∙ ap (after_use lists line (set_after ways set (image_use line))) (patched_own lists.memory line room)

@@ -39,7 +39,7 @@ module _ (ways count : ℕ) (core : CoreState) (some : 0 < ways) (aligned : core
   access-reads (Load address size) memory clean = refl
   access-reads (Store address bytes) memory clean = absurd cc
 
-  access-long : (access : Access) (memory : List ℕ) → IsAccess core.base (64 * count) access → length memory ≡ 64 * count
+  pub access-long : (access : Access) (memory : List ℕ) → IsAccess core.base (64 * count) access → length memory ≡ 64 * count
       → length ((access_bytes core.base memory access).1) ≡ 64 * count
   access-long (Load address size) memory is long = long
   access-long (Store address bytes) memory is long =

@@ -8,6 +8,7 @@ pub mod Honest
 pub mod Stored
 pub mod HonestPlays
 pub mod Answered
+pub mod Through
 pub mod Finished
 pub mod PlaysFlat
 pub mod Events

@@ -46,3 +46,11 @@ line_slots config now request =
 pub record Takes {B A : Type 0} (played : Played Slot Standing B A) (taken : Taken) : Type 0 where
   pub slots : bare played.records ≡ taken.slots
   pub held : played.held ≡ taken.standing
+
+-- A play by that server through the cache's lists takes these slots and leaves what stands after them, and where none
+-- came too late it comes to the lines and the outcome of the play over the bytes.
+pub record Comes {B C A : Type 0} (played : Played Slot Standing B (Lines × A)) (whole : Played LineRequest Lines C A)
+    (taken : Taken) : Type 0 where
+  pub slots : bare played.records ≡ taken.slots
+  pub held : played.held ≡ taken.standing
+  pub outcome : taken.standing.late ≡ None → played.outcome ≡ (whole.held, whole.outcome)

@@ -1,6 +1,6 @@
 //! Laws of plays and halts. The functions do nothing: each states laws in its contract.
 
-ghost use Rattle.std.specs.Prelude.{◌≡◌, ◌<◌, ◌≤◌, ◌^◌, ◌*◌, ◌⊎◌, replicate, ℕ, suc, List, [], ◌∷◌, ◌++◌, length, map, take, slice_get};
+ghost use Rattle.std.specs.Prelude.{◌≡◌, ◌<◌, ◌≤◌, ◌^◌, ◌*◌, ◌+◌, ◌⊎◌, replicate, ℕ, suc, List, [], ◌∷◌, ◌++◌, length, map, take, slice_get};
 ghost use Rattle.std.specs.Prelude.{Option, Some, None};
 ghost use Rattle.asc_base.specs.Settings.{IsConfig};
 ghost use Rattle.asc_base.specs.declared.settings.Config.{Config};
@@ -13,14 +13,15 @@ ghost use Rattle.bus_watch.specs.declared.log.Event.{Event};
 ghost use Rattle.asc_base.specs.Memory.{IsMemory};
 ghost use Rattle.asc_base.specs.Has.{Has};
 ghost use Rattle.data_cache.specs.Cached.{lists_access, HasBytes};
-ghost use Rattle.data_cache.specs.CacheLists.{Lines, Requests, no_lines, requests_of, requests_along, sets_after, line_in};
+ghost use Rattle.data_cache.specs.CacheLists.{Lines, Requests, no_lines, requests_of, requests_along, sets_after, line_in, write_whole_line};
 ghost use Rattle.data_cache.specs.Lines.{LineRequest};
-ghost use Rattle.request_plan.specs.Plan.{Plan};
+ghost use Rattle.request_plan.specs.Plan.{Plan, through};
 ghost use Rattle.request_plan.specs.Play.{bare, play};
 ghost use Rattle.rv32_core.specs.Access.{Access, IsAccess};
 ghost use Rattle.rv32_core.specs.FlatMachine.{flat_step};
 ghost use Rattle.rv32_core.specs.LineList.{step_lines};
 ghost use Rattle.rv32_core.specs.Machine.{CoreState, Machine, IsCore};
+ghost use Rattle.rv32_core.specs.StepPlan.{step_plan};
 ghost use Rattle.run_play.specs.Slots.{Slot, Numbers, Pace, first_pace, passed, pace_after, slot_next, dummy_next};
 ghost use Rattle.run_play.specs.Requests.{StoredLines, Standing, followed, one_by_one, request_slots};
 ghost use Rattle.run_play.specs.Play.{Play, Budget, after_slots, access_turn, instruction, comes_to, times_out};
@@ -29,7 +30,7 @@ ghost use Rattle.run_play.specs.Halt.{Stop, ending_of, end_of, cut_at, unprepare
 ghost use Rattle.run_play.specs.PlayEvents.{PlayEvent, said_of_all, play_events, starts_in, points_in, indices_in};
 ghost use Rattle.run_play.specs.PlayEvents.{choices_in, code_in};
 ghost use Rattle.run_play.specs.OnTime.{heard_in, IsPace, AreOnTime};
-ghost use Rattle.run_play.specs.Turns.{access_slots, Matches, line_slots, Takes};
+ghost use Rattle.run_play.specs.Turns.{access_slots, Matches, line_slots, Takes, Comes};
 ghost use Rattle.run_play.specs.Honest.{stored_by, IsHonest};
 ghost use Rattle.run_play.specs.Flat.{without_bytes, IsFlat};
 
@@ -145,8 +146,7 @@ pub fn slots_keep_the_pace()
 /// At the start of a run the lines that aren't the image's stand for the bytes. An image line that is loaded stands for
 /// them from then on, and they do after an instruction's requests. Where no slot came too late these requests' lines were
 /// stored in order; and over all lines the requests that the cache's lists make of an access are answered by the bytes, so
-/// that the access reads and writes them. So the plan of an instruction, through the cache's lists and a server that knows
-/// the stored lines alone, goes on as over the bytes.
+/// that the access reads and writes them.
 pub fn plays_stay_honest()
     ensures start { (ways sets count : ℕ) (memory marked : List ℕ) → 0 < sets
         → ((line : ℕ) → line < count → Has line marked ⊎ (line_in memory line ≡ replicate 64 0))
@@ -170,6 +170,26 @@ pub fn plays_stay_honest()
         → let turn = access_turn ways core lines access in
         (play (line_slots config) (lists_access core.base ways lines access) now).outcome
         ≡ (turn.held, turn.answer) }
+{}
+
+/// Through the cache's lists, over a server of requests that knows the stored lines alone: an image line that is written
+/// whole takes the slots of its requests, and leaves the bytes as they are; and where stored lines and kept ones stand for
+/// the bytes, an instruction takes the slots of the play's instruction and leaves what stands after them, and unless a slot
+/// came too late it comes to the play's lines, machine and ending.
+pub fn lists_take_slots()
+    ensures image { (config : Config) (ways line : ℕ) (value : List ℕ) (lines : Lines) (now : Standing)
+        → now.late ≡ None → Takes (play (line_slots config) (write_whole_line ways lines line value) now)
+        (one_by_one (request_slots config) (requests_of ways lines.memory lines.sets (image_use line)) now) }
+    ensures written { (config : Config) (ways line : ℕ) (value : List ℕ) (lines : Lines) (now : Standing)
+        → 64 * line + 64 ≤ length lines.memory → value ≡ line_in lines.memory line
+        → (play (line_slots config) (write_whole_line ways lines line value) now).outcome
+        ≡ record lines { sets = sets_after ways lines.sets (image_use line) } }
+    ensures instruction { (config : Config) (ways count : ℕ) (machine : Machine) (lines : Lines) (now : Standing)
+        → 0 < ways → IsCore machine.core → machine.core.size ≡ 64 * count → length lines.memory ≡ 64 * count
+        → IsHonest ways count [] lines now.data_lines → now.late ≡ None
+        → let step = instruction ways machine lines in
+        Comes (play (line_slots config) (through (lists_access machine.core.base ways) (step_plan machine) lines) now)
+        step (one_by_one (request_slots config) (bare step.records) now) }
 {}
 
 /// The slots of a play, the dummies among them, start as the timetable of its code says, up to its end time; its
