@@ -1,23 +1,28 @@
 -- Over what stands for a list of bytes, what an access asks for is answered by these bytes.
-use Rattle.std.proofs.Common.{◌≡◌, ℕ, ◌+◌, ◌-◌, ◌*◌, ◌/◌, ◌%◌, ◌<◌, ◌≤◌, Bool, true, false, not, ◌==◌, ◌||◌, ◌&&◌, List, [], ◌∷◌, ◌++◌, Option, Some, None, length, refl, sym, ap, subst, ◌∙◌, arith, inl, inr, ◌⊎◌}
+use Rattle.std.proofs.Common.{◌≡◌, ℕ, ◌+◌, ◌-◌, ◌*◌, ◌<◌, ◌≤◌, Bool, true, false, not, ◌==◌, ◌||◌, ◌&&◌, List, []}
+use Rattle.std.proofs.Common.{◌∷◌, Option, Some, None, length, refl, sym, ap, ◌∙◌, arith, inl, inr, ◌⊎◌}
 use Rattle.std.specs.Prelude.{if◌then◌else◌}
 use Rattle.std.proofs.lemmas.Bool.{and_parts}
 use Rattle.asc_base.specs.declared.settings.Config.{Config}
 use Rattle.data_cache.specs.Cached.{line_at, place_at, lists_access, HasBytes}
-use Rattle.data_cache.specs.CacheLists.{Kept, Sets, Lines, needs, keeps, keeps_dirty, set_of, with_kept, victim, stored, fetched, set_settled, set_after, line_in, ask_all, sets_after, use_set, after_use, write_whole_line}
+use Rattle.data_cache.specs.CacheLists.{Kept, Sets, Lines, needs, keeps, keeps_dirty, set_of, with_kept, victim}
+use Rattle.data_cache.specs.CacheLists.{stored, fetched, set_settled, set_after, line_in, ask_all, sets_after}
+use Rattle.data_cache.specs.CacheLists.{use_set, after_use, write_whole_line}
 use Rattle.data_cache.specs.Lines as lines
 use Rattle.data_cache.specs.Lines.{LineRequest, Fetch}
 use Rattle.data_cache.proofs.Parts.{patched_own}
 use Rattle.posmap_lookaside.specs.Walk.{walk}
-use Rattle.request_plan.specs.Plan.{Plan, Done, Ask, bind}
+use Rattle.request_plan.specs.Plan.{Plan, Done, bind}
 use Rattle.request_plan.specs.Play.{Played, play}
 use Rattle.request_plan.proofs.Plays.{play-bind}
-use Rattle.rv32_core.specs.Access.{Access, Load, Store, IsAccess, access_bytes, slice_of, spliced}
-use Rattle.rv32_core.specs.LineList.{LineUse, Read, Write, line_used}
+use Rattle.rv32_core.specs.Access.{Access, Load, Store, IsAccess, slice_of, spliced}
+use Rattle.rv32_core.specs.LineList.{LineUse, Read, Write}
 use Rattle.rv32_core.specs.Machine.{CoreState}
-use Rattle.run_play.specs.Honest.{data_line, stored_by, IsStored, IsHonest}
+use Rattle.run_play.specs.Honest.{stored_by, IsStored, IsHonest}
+use Rattle.run_play.specs.Requests.{data_line}
 use Rattle.run_play.specs.Play.{access_turn, image_use}
-use Rattle.run_play.specs.Requests.{StoredLines, Standing, Taken, none_taken, followed, one_by_one, request_done, requested, value_of, access_slot, walk_sizes, request_slots}
+use Rattle.run_play.specs.Requests.{StoredLines, Standing, Taken, none_taken, followed, one_by_one, request_done}
+use Rattle.run_play.specs.Requests.{requested, value_of, access_slot, walk_sizes, request_slots}
 use Rattle.run_play.specs.Slots.{Slot}
 use Rattle.run_play.specs.Turns.{unless_late, line_slots}
 use Rattle.run_play.proofs.Honest.{line-front}
@@ -71,7 +76,8 @@ module _ (config : Config) where
 
   -- ---- what is asked of a set
   -- the dirty victim is stored, and nothing is answered
-  pub record Stores (memory : List ℕ) (now : Standing) (after : Played Slot Standing (List Kept) (List ℕ)) : Type 0 where
+  pub record Stores (memory : List ℕ) (now : Standing) (after : Played Slot Standing (List Kept)
+      (List ℕ)) : Type 0 where
     pub outcome : after.outcome ≡ memory
     pub keeps : (n : ℕ) → data_line (data_in now) n ≡ line_in memory n
         → data_line (data_in after.held) n ≡ line_in memory n
@@ -107,7 +113,8 @@ module _ (config : Config) where
   needs-none use_of set memory before (inr stands) need = stands
   needs-none use_of set memory before (inl dirty) need =
       let kept : keeps set use_of.line ≡ true = dirty-kept set use_of.line dirty in
-      let none : not (keeps set use_of.line) ≡ true = (and_parts (needs use_of.kind) (not (keeps set use_of.line)) need).1 in
+      let none : not (keeps set use_of.line)
+      ≡ true = (and_parts (needs use_of.kind) (not (keeps set use_of.line)) need).1 in
       let no : false ≡ true = ap not (sym kept) ∙ none in absurd cc
 
   -- a use of a set
@@ -122,7 +129,7 @@ module _ (config : Config) where
       let after = play (line_slots config) storing now in
       let fetching = λ (m : List ℕ). ask_all (set_settled ways set last) m (fetched set use_of) in
       let end : List ℕ → Plan LineRequest (List ℕ) (List Kept) (List Kept × List ℕ) =
-          (λ brought. Done (set_after ways set use_of, brought)) in
+      (λ brought. Done (set_after ways set use_of, brought)) in
       let s : Stores memory now after = store-plays set memory last now in
       let then_fetch = λ (m : List ℕ). bind (λ (left : List Kept). left) (fetching m) end in
       ap (λ (p : Played Slot Standing (List Kept) (List Kept × List ℕ)). p.outcome)
@@ -144,15 +151,19 @@ module _ (config : Config) where
       → 64 * line_at base address + 64 ≤ length lists.memory
       → IsStored lists (data_in now) (line_at base address)
       → (play (line_slots config) (lists_access base ways lists (Load address size)) now).outcome
-      ≡ (after_use lists (line_at base address)
-      (set_after ways (set_of lists.sets (line_at base address)) (record { line = line_at base address; kind = Read }))
-      lists.memory, slice_of lists.memory (address - base) size)
+      ≡ (
+        after_use lists (line_at base address)
+            (set_after ways (set_of lists.sets (line_at base address))
+            (record { line = line_at base address; kind = Read }))
+            lists.memory,
+        slice_of lists.memory (address - base) size,
+      )
   load-plays base ways address size lists now room stands =
       let line : ℕ = line_at base address in
       let use_of : LineUse = record { line = line; kind = Read } in
       let set : List Kept = set_of lists.sets line in
       let end : List Kept × List ℕ → Plan LineRequest (List ℕ) Sets (Lines × List ℕ) =
-          (λ r. Done (after_use lists line (r.0) (r.1), slice_of (r.1) (64 * line + place_at base address) size)) in
+      (λ r. Done (after_use lists line (r.0) (r.1), slice_of (r.1) (64 * line + place_at base address) size)) in
       ap (λ (p : Played Slot Standing Sets (Lines × List ℕ)). p.outcome)
       (play-bind (line_slots config) (with_kept lists.sets line) (use_set ways set lists.memory use_of) end now)
       ∙ ap
@@ -167,17 +178,21 @@ module _ (config : Config) where
       → 64 * line_at base address + 64 ≤ length lists.memory
       → IsStored lists (data_in now) (line_at base address)
       → (play (line_slots config) (lists_access base ways lists (Store address bytes)) now).outcome
-      ≡ (after_use lists (line_at base address)
-      (set_after ways (set_of lists.sets (line_at base address)) (record { line = line_at base address; kind = Write }))
-      (spliced lists.memory (address - base) bytes), [])
+      ≡ (
+        after_use lists (line_at base address)
+            (set_after ways (set_of lists.sets (line_at base address))
+            (record { line = line_at base address; kind = Write }))
+            (spliced lists.memory (address - base) bytes),
+        [],
+      )
   store-plays-access base ways address bytes lists now room stands =
       let line : ℕ = line_at base address in
       let use_of : LineUse = record { line = line; kind = Write } in
       let set : List Kept = set_of lists.sets line in
       let inner : List Kept × List ℕ → Plan LineRequest (List ℕ) Sets Lines =
-          (λ r. Done (after_use lists line (r.0) (spliced (r.1) (64 * line + place_at base address) bytes))) in
+      (λ r. Done (after_use lists line (r.0) (spliced (r.1) (64 * line + place_at base address) bytes))) in
       let write : Plan LineRequest (List ℕ) Sets Lines =
-          bind (with_kept lists.sets line) (use_set ways set lists.memory use_of) inner in
+      bind (with_kept lists.sets line) (use_set ways set lists.memory use_of) inner in
       let outer : Lines → Plan LineRequest (List ℕ) Sets (Lines × List ℕ) = (λ after. Done (after, [])) in
       ap (λ (p : Played Slot Standing Sets (Lines × List ℕ)). p.outcome)
       (play-bind (line_slots config) (λ (left : Sets). left) write outer now)
@@ -223,9 +238,10 @@ module _ (config : Config) where
   whole-plays ways line value lists now room is =
       let set : List Kept = set_of lists.sets line in
       let end : List Kept × List ℕ → Plan LineRequest (List ℕ) Sets Lines =
-          (λ r. Done (after_use lists line (r.0) (spliced (r.1) (64 * line) value))) in
+      (λ r. Done (after_use lists line (r.0) (spliced (r.1) (64 * line) value))) in
       ap (λ (p : Played Slot Standing Sets Lines). p.outcome)
-      (play-bind (line_slots config) (with_kept lists.sets line) (use_set ways set lists.memory (image_use line)) end now)
+      (play-bind (line_slots config) (with_kept lists.sets line) (use_set ways set lists.memory
+      (image_use line)) end now)
       ∙ ap (λ (r : List Kept × List ℕ). after_use lists line (r.0) (spliced (r.1) (64 * line) value))
       (use-plays ways set lists.memory (image_use line) now room (λ need. absurd cc))
       ∙ ap (λ v. after_use lists line (set_after ways set (image_use line)) (spliced lists.memory (64 * line) v)) is

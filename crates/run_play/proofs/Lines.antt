@@ -18,7 +18,8 @@ module _ (config : Config) where
       record { records = marked left first.slots ++ rest.records; held = rest.held; outcome = rest.outcome }
 
   -- nothing is taken after a slot that came too late
-  pub too_late : {B A : Type 0} (plan : Plan LineRequest (List ℕ) B A) (now : Standing) (late : ℕ) → now.late ≡ Some late
+  pub too_late : {B A : Type 0} (plan : Plan LineRequest (List ℕ) B A) (now : Standing) (late : ℕ)
+      → now.late ≡ Some late
       → Takes (play (line_slots config) plan now) (none_taken now)
   too_late (Done a) now late is = record { slots = refl; held = refl }
   too_late {B} {A} (Ask request left next) now late is =

@@ -1,12 +1,14 @@
 -- What a use makes of a set: a dirty line stays dirty, or is the victim.
-use Rattle.std.proofs.Common.{◌≡◌, ℕ, zero, suc, ◌+◌, ◌-◌, ◌<◌, ◌≤◌, Bool, true, false, cond, not, ◌==◌, ◌||◌, ◌&&◌, List, [], ◌∷◌, ◌++◌, Option, Some, None, length, take, drop, slice_get, refl, sym, ap, ◌∙◌, arith, inl, inr, eqb-true, ◌⊎◌}
-use Rattle.std.specs.List.{list_any, filter}
-use Rattle.std.proofs.lemmas.Bool.{cases_Bool, and_parts}
+use Rattle.std.proofs.Common.{◌≡◌, ℕ, zero, suc, ◌+◌, ◌-◌, ◌<◌, ◌≤◌, Bool, true, false, cond, not, ◌==◌, ◌||◌, ◌&&◌}
+use Rattle.std.proofs.Common.{List, [], ◌∷◌, Some, length, take, drop, slice_get, refl, sym, ap, ◌∙◌, arith, inl, inr}
+use Rattle.std.proofs.Common.{eqb-true, ◌⊎◌}
+use Rattle.std.specs.List.{list_any}
+use Rattle.std.proofs.lemmas.Bool.{and_parts}
 use Rattle.std.proofs.lemmas.Bool.Decides.{eqb_tells}
 use Rattle.std.proofs.lemmas.List.{take-append-drop}
 use Rattle.std.proofs.lemmas.List.Folds.{list_any-append}
 use Rattle.std.proofs.lemmas.Map.Views.{any-filter_same}
-use Rattle.data_cache.specs.CacheLists.{Kept, keeps_dirty, others, victim}
+use Rattle.data_cache.specs.CacheLists.{Kept, keeps_dirty, others}
 
 -- the test of a dirty line
 abbrev pub is_dirty_at : ℕ → Kept → Bool
@@ -19,7 +21,8 @@ eqb-no a b ne = elim (eqb_tells a b) [ inl h ↦ absurd (ne h.1) | inr h ↦ h.0
 pub others-dirty : (set : List Kept) (line n : ℕ) → (n ≡ line → ⊥) → keeps_dirty (others set line) n ≡ keeps_dirty set n
 others-dirty set line n ne =
     any-filter_same (is_dirty_at n) (λ (k : Kept). not (k.line == line)) true
-    (λ k h. ap not (eqb-no k.line line (λ e. ne (sym (eqb-true k.line n (and_parts (k.line == n) k.dirty h).0) ∙ e)))) set
+    (λ k h. ap not (eqb-no k.line line (λ e. ne (sym (eqb-true k.line n (and_parts (k.line == n) k.dirty h).0)
+    ∙ e)))) set
 
 few-by : (k : Kept) (rest : List Kept) (n : ℕ) (b : Bool) → length rest ≤ n
     → length (cond {A = List Kept} b (k ∷ rest) rest) ≤ suc n
@@ -60,22 +63,22 @@ pub stays-or-last : (l : List Kept) (i n : ℕ) → length l ≤ i + 1 → keeps
     ⊎ ((v : Kept) × (slice_get l i ≡ Some v) × (v.line ≡ n) × (v.dirty ≡ true))
 stays-or-last l i n few dirty =
     let split : (keeps_dirty (take i l) n || keeps_dirty (drop i l) n) ≡ true =
-        sym (list_any-append (is_dirty_at n) (take i l) (drop i l))
-        ∙ ap (list_any (is_dirty_at n)) (take-append-drop i l) ∙ dirty in
+    sym (list_any-append (is_dirty_at n) (take i l) (drop i l))
+    ∙ ap (list_any (is_dirty_at n)) (take-append-drop i l) ∙ dirty in
     elim (or-tells (keeps_dirty (take i l) n) (keeps_dirty (drop i l) n) split) [
       | inl stays ↦ inl stays
       | inr behind ↦ elim (last-one l i few) [
         | inl none ↦ (
-          let no : false ≡ true = ap (list_any (is_dirty_at n)) (sym none) ∙ behind in
-          absurd (cc)
-        )
+            let no : false ≡ true = ap (list_any (is_dirty_at n)) (sym none) ∙ behind in
+            absurd (cc)
+            )
         | inr last ↦ (
-          let one : is_dirty_at n last.kept ≡ true =
-              sym (or-none (is_dirty_at n last.kept))
-              ∙ ap (list_any (is_dirty_at n)) (sym last.rest) ∙ behind in
-          let both = and_parts (last.kept.line == n) last.kept.dirty one in
-          inr (last.kept, last.is, eqb-true last.kept.line n both.0, both.1)
-        )
+            let one : is_dirty_at n last.kept ≡ true =
+            sym (or-none (is_dirty_at n last.kept))
+            ∙ ap (list_any (is_dirty_at n)) (sym last.rest) ∙ behind in
+            let both = and_parts (last.kept.line == n) last.kept.dirty one in
+            inr (last.kept, last.is, eqb-true last.kept.line n both.0, both.1)
+            )
       ]
     ]
 

@@ -1,8 +1,10 @@
 -- An instruction through the cache's lists takes the slots of the play, and comes to what the play does.
-use Rattle.std.proofs.Common.{◌≡◌, ℕ, ◌*◌, ◌%◌, ◌<◌, List, [], ◌∷◌, ◌++◌, length, Option, Some, None, refl, sym, ap, subst, ◌∙◌, arith, append-nil}
+use Rattle.std.proofs.Common.{◌≡◌, ℕ, ◌*◌, ◌%◌, ◌<◌, List, [], ◌∷◌, ◌++◌, length, Option, Some, None, refl, sym, ap}
+use Rattle.std.proofs.Common.{subst, ◌∙◌, arith, append-nil}
 use Rattle.asc_base.specs.declared.settings.Config.{Config}
 use Rattle.data_cache.specs.Cached.{lists_access, use_at, HasBytes}
-use Rattle.data_cache.specs.CacheLists.{Kept, Sets, Lines, set_of, with_kept, use_set, after_use, write_whole_line, requests_of, Requests}
+use Rattle.data_cache.specs.CacheLists.{Kept, Sets, Lines, set_of, with_kept, use_set, after_use, write_whole_line}
+use Rattle.data_cache.specs.CacheLists.{requests_of, Requests}
 use Rattle.data_cache.specs.Lines.{LineRequest}
 use Rattle.data_cache.proofs.UseLaws.{use-requests, access-requests}
 use Rattle.fed_run.proofs.SomeBytes.{Asks-both, step_plan-bytes}
@@ -51,8 +53,8 @@ module _ (config : Config) where
       let g = more is in
       record {
         slots = bare-append (put_all (λ (c : Sets). (c, left)) first.records) second.records
-          ∙ ap (λ l. l ++ bare second.records) (bare-put (λ (c : Sets). (c, left)) first.records ∙ t.slots)
-          ∙ ap (λ l. taken.slots ++ l) g.slots;
+            ∙ ap (λ l. l ++ bare second.records) (bare-put (λ (c : Sets). (c, left)) first.records ∙ t.slots)
+            ∙ ap (λ l. taken.slots ++ l) g.slots;
         held = g.held;
         outcome = g.outcome;
       }
@@ -60,8 +62,8 @@ module _ (config : Config) where
       let g = none l is in
       record {
         slots = bare-append (put_all (λ (c : Sets). (c, left)) first.records) second.records
-          ∙ ap (λ l. l ++ bare second.records) (bare-put (λ (c : Sets). (c, left)) first.records ∙ t.slots)
-          ∙ ap (λ l. taken.slots ++ l) g.slots ∙ append-nil taken.slots;
+            ∙ ap (λ l. l ++ bare second.records) (bare-put (λ (c : Sets). (c, left)) first.records ∙ t.slots)
+            ∙ ap (λ l. taken.slots ++ l) g.slots ∙ append-nil taken.slots;
         held = g.held;
         outcome = λ fresh. (let no : Some l ≡ None = sym is ∙ fresh in absurd cc);
       }
@@ -85,18 +87,18 @@ module _ (config : Config) where
         let goes = λ (r : Lines × List ℕ). through serve (next (r.1)) (r.0) in
         let second = play (line_slots config) (goes first.outcome) first.held in
         let makes : Requests (serve lines access) turn.records =
-            subst (λ (u : LineUse). Requests (serve lines access) (requests_of ways lines.memory lines.sets u))
-            (use-is core access) (access-requests core.base ways lines access) in
+        subst (λ (u : LineUse). Requests (serve lines access) (requests_of ways lines.memory lines.sets u))
+        (use-is core access) (access-requests core.base ways lines access) in
         let t : Takes first taken = takes config (serve lines access) turn.records now makes fresh in
         let o : first.outcome ≡ (turn.held, turn.answer) =
-            access-plays config ways count core access lines now ((asks.0).0) ((asks.0).1) long h in
+        access-plays config ways count core access lines now ((asks.0).0) ((asks.0).1) long h in
         let is_second : play (line_slots config) (goes (turn.held, turn.answer)) taken.standing ≡ second =
-            ap (λ r. play (line_slots config) (goes r) taken.standing) (sym o)
-            ∙ ap (λ s. play (line_slots config) (goes first.outcome) s) (sym t.held) in
+        ap (λ r. play (line_slots config) (goes r) taken.standing) (sym o)
+        ∙ ap (λ s. play (line_slots config) (goes first.outcome) s) (sym t.held) in
         let same : one_by_one (request_slots config) (bare whole.records) now
-            ≡ followed taken (one_by_one (request_slots config) (bare rest.records)) taken.standing.late =
-            ap (λ l. one_by_one (request_slots config) l now) (bare-turn left turn.records rest.records)
-            ∙ one_by_one-append (request_slots config) turn.records (bare rest.records) now fresh in
+        ≡ followed taken (one_by_one (request_slots config) (bare rest.records)) taken.standing.late =
+        ap (λ l. one_by_one (request_slots config) l now) (bare-turn left turn.records rest.records)
+        ∙ one_by_one-append (request_slots config) turn.records (bare rest.records) now fresh in
         subst
         (λ p. Comes p whole (one_by_one (request_slots config) (bare whole.records) now))
         (sym (play-bind (line_slots config) (λ (c : Sets). (c, left)) (serve lines access) goes now))
@@ -105,7 +107,8 @@ module _ (config : Config) where
         Comes (record second { records = put_all (λ (c : Sets). (c, left)) first.records ++ second.records }) whole k)
         (sym same)
         (comes-next left turn.records first taken second rest taken.standing.late t refl
-        (λ none. subst (λ p. Comes p rest (one_by_one (request_slots config) (bare rest.records) taken.standing)) is_second
+        (λ none. subst (λ p. Comes p rest (one_by_one (request_slots config)
+        (bare rest.records) taken.standing)) is_second
         (comes (next turn.answer) turn.held taken.standing (asks.1 turn.answer)
         (access-long ways count core some aligned access lines.memory ((asks.0).0) long)
         (subst (IsHonest ways count [] turn.held) (sym (requests-data config turn.records now none))
@@ -118,7 +121,8 @@ module _ (config : Config) where
       → IsCore machine.core → machine.core.size ≡ 64 * count → length lines.memory ≡ 64 * count
       → IsHonest ways count [] lines now.data_lines → now.late ≡ None
       → let step = instruction ways machine lines in
-      Comes (play (line_slots config) (through (lists_access machine.core.base ways) (step_plan machine) lines) now) step
+      Comes (play (line_slots config) (through (lists_access machine.core.base ways)
+      (step_plan machine) lines) now) step
       (one_by_one (request_slots config) (bare step.records) now)
   instruction-comes ways count machine lines now some is size long h fresh =
       comes ways count machine.core some (omega (arith, is.memory.base_pages)) (step_plan machine) lines now
@@ -135,16 +139,17 @@ module _ (config : Config) where
       let plan = use_set ways set lines.memory (image_use line) in
       let first = play (line_slots config) plan now in
       let end : List Kept × List ℕ → Plan LineRequest (List ℕ) Sets Lines =
-          (λ r. Done (after_use lines line (r.0) (spliced (r.1) (64 * line) value))) in
+      (λ r. Done (after_use lines line (r.0) (spliced (r.1) (64 * line) value))) in
       let whole = play (line_slots config) (write_whole_line ways lines line value) now in
-      let t : Takes first (one_by_one (request_slots config) (requests_of ways lines.memory lines.sets (image_use line)) now) =
-          takes config plan (requests_of ways lines.memory lines.sets (image_use line)) now
-          (use-requests ways lines.memory lines.sets (image_use line)) fresh in
+      let t : Takes first (one_by_one (request_slots config) (requests_of ways lines.memory lines.sets
+      (image_use line)) now) =
+      takes config plan (requests_of ways lines.memory lines.sets (image_use line)) now
+      (use-requests ways lines.memory lines.sets (image_use line)) fresh in
       record {
         slots = ap (λ (p : Played Slot Standing Sets Lines). bare p.records)
-          (play-bind (line_slots config) (with_kept lines.sets line) plan end now)
-          ∙ ap bare (append-nil (put_all (with_kept lines.sets line) first.records))
-          ∙ bare-put (with_kept lines.sets line) first.records ∙ t.slots;
+            (play-bind (line_slots config) (with_kept lines.sets line) plan end now)
+            ∙ ap bare (append-nil (put_all (with_kept lines.sets line) first.records))
+            ∙ bare-put (with_kept lines.sets line) first.records ∙ t.slots;
         held = ap (λ (p : Played Slot Standing Sets Lines). p.held)
-          (play-bind (line_slots config) (with_kept lines.sets line) plan end now) ∙ t.held;
+            (play-bind (line_slots config) (with_kept lines.sets line) plan end now) ∙ t.held;
       }

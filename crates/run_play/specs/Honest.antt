@@ -1,14 +1,9 @@
 -- When the data lines as last stored and the lines that a cache keeps stand for a list of bytes.
-use Rattle.std.specs.Prelude.{◌≡◌, ℕ, ◌<◌, ◌≤◌, Bool, true, ◌⊎◌, List, [], ◌∷◌, All, length, nat_eq, replicate, unwrap_or}
-use Rattle.std.specs.Map.{lookup}
+use Rattle.std.specs.Prelude.{◌≡◌, ℕ, ◌<◌, ◌≤◌, Bool, true, ◌⊎◌, List, [], ◌∷◌, All, length}
 use Rattle.asc_base.specs.Has.{Has}
 use Rattle.data_cache.specs.CacheLists.{Kept, Sets, Lines, set_of, keeps_dirty, line_in}
 use Rattle.data_cache.specs.Lines.{LineRequest, Fetch, Store}
-use Rattle.run_play.specs.Requests.{StoredLines}
-
--- a data line as last stored, and zeros where it never was
-abbrev pub data_line : StoredLines → ℕ → List ℕ
-data_line lines line = unwrap_or (lookup (nat_eq line) lines) (replicate 64 0)
+use Rattle.run_play.specs.Requests.{StoredLines, data_line}
 
 -- the data lines after requests
 abbrev pub stored_by : StoredLines → List LineRequest → StoredLines

@@ -18,6 +18,10 @@ use Rattle.run_play.specs.Slots.{Pace, first_pace, Numbers, no_numbers, Slot, sl
 abbrev pub StoredLines : Type 0
 StoredLines = List (ℕ × List ℕ)
 
+-- a data line as last stored, and zeros where it never was
+abbrev pub data_line : StoredLines → ℕ → List ℕ
+data_line lines line = unwrap_or (lookup (nat_eq line) lines) (replicate 64 0)
+
 -- What stands between two slots: the pace; what is on chip; the data lines; the clock; how far the run came; and, where
 -- a slot that was needed came too late, its start.
 pub record Standing : Type 0 where
@@ -80,12 +84,11 @@ module _ (config : Config) where
   abbrev pub walk_sizes : WalkSizes
   walk_sizes = record { lines = config.shape.lines; layers = config.shape.layers; plb = config.plb; ic = config.ic }
 
-  -- The line of a block: a position-map block's has its children's counters; a data line is as last stored, and zeros
-  -- where it never was.
+  -- The line of a block: a position-map block's has its children's counters; a data line is as last stored.
   abbrev pub line_at : Counters → StoredLines → ℕ → List ℕ
   line_at counters lines address =
       option_map_or (family_line (counter_at counters)) (children_of config.shape.lines config.shape.layers address)
-      (unwrap_or (lookup (nat_eq address) lines) (replicate 64 0))
+      (data_line lines address)
 
   -- the message of a block with this line, under its counter
   abbrev pub message_with : Counters → ℕ → List ℕ → Message

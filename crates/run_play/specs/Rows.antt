@@ -1,5 +1,5 @@
 -- Settings with which plays are computed.
-use Rattle.std.specs.Prelude.{[], ◌∷◌, ◌++◌, replicate}
+use Rattle.std.specs.Prelude.{[], ◌∷◌, replicate}
 use Rattle.asc_base.specs.declared.settings.Config.{Config}
 use Rattle.asc_base.specs.declared.settings.Settings.{Settings}
 

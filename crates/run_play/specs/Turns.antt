@@ -1,6 +1,5 @@
 -- Servers that make slots: of a core's accesses, and of requests for lines.
-use Rattle.std.specs.Prelude.{◌≡◌, ℕ, nat_eq, List, [], replicate, Option, Some, None, unwrap_or}
-use Rattle.std.specs.Map.{lookup}
+use Rattle.std.specs.Prelude.{◌≡◌, ℕ, List, [], Option, Some, None}
 use Rattle.asc_base.specs.declared.settings.Config.{Config}
 use Rattle.data_cache.specs.CacheLists.{Lines}
 use Rattle.data_cache.specs.Lines.{LineRequest, Fetch, Store}
@@ -8,7 +7,7 @@ use Rattle.request_plan.specs.Play.{Turn, Played, bare}
 use Rattle.rv32_core.specs.Access.{Access}
 use Rattle.rv32_core.specs.Machine.{CoreState}
 use Rattle.run_play.specs.Slots.{Slot}
-use Rattle.run_play.specs.Requests.{StoredLines, Standing, Taken, none_taken, one_by_one, request_slots}
+use Rattle.run_play.specs.Requests.{StoredLines, data_line, Standing, Taken, none_taken, one_by_one, request_slots}
 use Rattle.run_play.specs.Play.{access_turn}
 
 -- nothing more is taken once a slot came too late
@@ -31,9 +30,9 @@ pub record Matches {B A : Type 0} (both : Played Slot (Lines × Standing) B A) (
   pub held : both.held ≡ (whole.held, taken.standing)
   pub outcome : both.outcome ≡ whole.outcome
 
--- the line that is answered to a fetch, as last stored, and zeros where it never was
+-- the line that is answered to a fetch
 abbrev pub answered : StoredLines → LineRequest → List ℕ
-answered lines (Fetch line) = unwrap_or (lookup (nat_eq line) lines) (replicate 64 0)
+answered lines (Fetch line) = data_line lines line
 answered lines (Store line value) = []
 
 -- The turn of a request for a line: its slots.

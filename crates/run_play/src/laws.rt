@@ -1,6 +1,7 @@
 //! Laws of plays and halts. The functions do nothing: each states laws in its contract.
 
-ghost use Rattle.std.specs.Prelude.{◌≡◌, ◌<◌, ◌≤◌, ◌^◌, ◌*◌, ◌+◌, ◌⊎◌, replicate, ℕ, suc, List, [], ◌∷◌, ◌++◌, length, map, take, slice_get};
+ghost use Rattle.std.specs.Prelude.{◌≡◌, ◌<◌, ◌≤◌, ◌^◌, ◌*◌, ◌+◌, ◌⊎◌, replicate, ℕ, suc, List, [], ◌∷◌, ◌++◌};
+ghost use Rattle.std.specs.Prelude.{length, map, take, slice_get};
 ghost use Rattle.std.specs.Prelude.{Option, Some, None};
 ghost use Rattle.asc_base.specs.Settings.{IsConfig};
 ghost use Rattle.asc_base.specs.declared.settings.Config.{Config};
@@ -13,7 +14,8 @@ ghost use Rattle.bus_watch.specs.declared.log.Event.{Event};
 ghost use Rattle.asc_base.specs.Memory.{IsMemory};
 ghost use Rattle.asc_base.specs.Has.{Has};
 ghost use Rattle.data_cache.specs.Cached.{lists_access, HasBytes};
-ghost use Rattle.data_cache.specs.CacheLists.{Lines, Requests, no_lines, requests_of, requests_along, sets_after, line_in, write_whole_line};
+ghost use Rattle.data_cache.specs.CacheLists.{Lines, Requests, no_lines, requests_of, requests_along, sets_after};
+ghost use Rattle.data_cache.specs.CacheLists.{line_in, write_whole_line};
 ghost use Rattle.data_cache.specs.Lines.{LineRequest};
 ghost use Rattle.request_plan.specs.Plan.{Plan, through};
 ghost use Rattle.request_plan.specs.Play.{bare, play};
@@ -144,9 +146,9 @@ pub fn slots_keep_the_pace()
 {}
 
 /// At the start of a run the lines that aren't the image's stand for the bytes. An image line that is loaded stands for
-/// them from then on, and they do after an instruction's requests. Where no slot came too late these requests' lines were
-/// stored in order; and over all lines the requests that the cache's lists make of an access are answered by the bytes, so
-/// that the access reads and writes them.
+/// them from then on, and they do after an instruction's requests. Where no slot came too late these requests' lines
+/// were stored in order; and over all lines the requests that the cache's lists make of an access are answered by the
+/// bytes, so that the access reads and writes them.
 pub fn plays_stay_honest()
     ensures start { (ways sets count : ℕ) (memory marked : List ℕ) → 0 < sets
         → ((line : ℕ) → line < count → Has line marked ⊎ (line_in memory line ≡ replicate 64 0))
@@ -172,10 +174,10 @@ pub fn plays_stay_honest()
         ≡ (turn.held, turn.answer) }
 {}
 
-/// Through the cache's lists, over a server of requests that knows the stored lines alone: an image line that is written
-/// whole takes the slots of its requests, and leaves the bytes as they are; and where stored lines and kept ones stand for
-/// the bytes, an instruction takes the slots of the play's instruction and leaves what stands after them, and unless a slot
-/// came too late it comes to the play's lines, machine and ending.
+/// Through the cache's lists, over a server of requests that knows the stored lines alone: an image line that is
+/// written whole takes the slots of its requests, and leaves the bytes as they are; and where stored lines and kept
+/// ones stand for the bytes, an instruction takes the slots of the play's instruction and leaves what stands after
+/// them, and unless a slot came too late it comes to the play's lines, machine and ending.
 pub fn lists_take_slots()
     ensures image { (config : Config) (ways line : ℕ) (value : List ℕ) (lines : Lines) (now : Standing)
         → now.late ≡ None → Takes (play (line_slots config) (write_whole_line ways lines line value) now)
