@@ -10,7 +10,7 @@ use Rattle.std.proofs.lemmas.List.{map-append, length-map}
 use Rattle.std.proofs.lemmas.List.Concat.{flat_map-append}
 use Rattle.asc_base.specs.declared.block.Message.{Message}
 use Rattle.run_play.specs.Slots.{Slot}
-use Rattle.run_play.specs.Play.{Play}
+use Rattle.run_play.specs.Play.{Play, after_slots}
 use Rattle.run_play.specs.Halt.{Stop, Refused, Overfull, MoveFails, AppendRefused, AppendOverfull, ending_of, end_of}
 use Rattle.run_play.specs.Halt.{before_put, after_put, part_of, cut_at, unprepared, halt}
 use Rattle.run_play.specs.PlayEvents.{PlayEvent, Starts, Draws, tags_of, chooses_of, slot_events, play_events}
@@ -31,6 +31,14 @@ halt-at levels run stop before later cut parts =
     (λ found. option_map_or (cut_at levels stop (take (length before) (before ++ cut ∷ later))) found run)
     (seam before later cut)
     ∙ ap (λ kept. cut_at levels stop kept cut) (take-append_seam before (cut ∷ later))
+
+-- where slots were done before
+pub halt-later : (levels : ℕ) (run : Play) (stop : Stop) (done before later : List Slot) (cut : Slot)
+    → run.slots ≡ before ++ cut ∷ later
+    → halt levels (after_slots done run) (suc (length (done ++ before))) stop ≡ cut_at levels stop (done ++ before) cut
+halt-later levels run stop done before later cut parts =
+    halt-at levels (after_slots done run) stop (done ++ before) later cut
+    (ap (λ l. done ++ l) parts ∙ sym (append_assoc done before (cut ∷ later)))
 
 -- a list with more than so many items
 pub record Parted (slots : List Slot) (k : ℕ) : Type 0 where

@@ -93,12 +93,17 @@ pub fn plays_are_flat()
         IsFlat machine memory config.budget run.numbers.instructions run.ending }
 {}
 
-/// A play that is cut in a slot is the slots before it and a part of that one, with the numbers that it leaves. So its
-/// starts and points are the first of the play's, and its events the first of the play's.
+/// A play that is cut in a slot is the slots before it and a part of that one, with the numbers that it leaves, also
+/// where slots were done before the play goes on. So its starts and points are the first of the play's, and its events
+/// the first of the play's.
 pub fn halts_are_prefixes()
     ensures at { (levels : ℕ) (run : Play) (stop : Stop) (before later : List Slot) (cut : Slot)
         → run.slots ≡ before ++ cut ∷ later
         → halt levels run (suc (length before)) stop ≡ cut_at levels stop before cut }
+    ensures later { (levels : ℕ) (run : Play) (stop : Stop) (done before later : List Slot) (cut : Slot)
+        → run.slots ≡ before ++ cut ∷ later
+        → halt levels (after_slots done run) (suc (length (done ++ before))) stop
+        ≡ cut_at levels stop (done ++ before) cut }
     ensures none { (levels : ℕ) (run : Play) (stop : Stop) → halt levels run 0 stop ≡ unprepared }
     ensures behind { (levels : ℕ) (run : Play) (stop : Stop) (k : ℕ) → length run.slots < k
         → halt levels run k stop ≡ run }
