@@ -7,6 +7,7 @@ pub mod Sets
 pub mod Honest
 pub mod Stored
 pub mod HonestPlays
+pub mod Accesses
 pub mod Answered
 pub mod Through
 pub mod Finished

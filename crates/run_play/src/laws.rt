@@ -1,6 +1,6 @@
 //! Laws of plays and halts. The functions do nothing: each states laws in its contract.
 
-ghost use Rattle.std.specs.Prelude.{◌≡◌, ◌<◌, ◌≤◌, ◌^◌, ◌*◌, ◌+◌, ◌⊎◌, replicate, ℕ, suc, List, [], ◌∷◌, ◌++◌};
+ghost use Rattle.std.specs.Prelude.{◌≡◌, ◌<◌, ◌≤◌, ◌^◌, ◌*◌, ◌+◌, ◌⊎◌, All, min, true, false, replicate, ℕ, suc, List, [], ◌∷◌, ◌++◌};
 ghost use Rattle.std.specs.Prelude.{length, map, take, slice_get};
 ghost use Rattle.std.specs.Prelude.{Option, Some, None};
 ghost use Rattle.asc_base.specs.Settings.{IsConfig};
@@ -17,6 +17,7 @@ ghost use Rattle.data_cache.specs.Cached.{lists_access, HasBytes};
 ghost use Rattle.data_cache.specs.CacheLists.{Lines, Requests, no_lines, requests_of, requests_along, sets_after};
 ghost use Rattle.data_cache.specs.CacheLists.{line_in, write_whole_line};
 ghost use Rattle.data_cache.specs.Lines.{LineRequest};
+ghost use Rattle.posmap_lookaside.specs.Walk.{WalkAccess, walk};
 ghost use Rattle.request_plan.specs.Plan.{Plan, through};
 ghost use Rattle.request_plan.specs.Play.{bare, play};
 ghost use Rattle.rv32_core.specs.Access.{Access, IsAccess};
@@ -25,7 +26,7 @@ ghost use Rattle.rv32_core.specs.LineList.{step_lines};
 ghost use Rattle.rv32_core.specs.Machine.{CoreState, Machine, IsCore};
 ghost use Rattle.rv32_core.specs.StepPlan.{step_plan};
 ghost use Rattle.run_play.specs.Slots.{Slot, Numbers, Pace, first_pace, passed, pace_after, slot_next, dummy_next};
-ghost use Rattle.run_play.specs.Requests.{StoredLines, Standing, followed, one_by_one, request_slots};
+ghost use Rattle.run_play.specs.Requests.{StoredLines, Standing, access_slot, request_done, requested, take_slot, value_of, walk_sizes, followed, one_by_one, request_slots};
 ghost use Rattle.run_play.specs.Play.{Play, Budget, after_slots, access_turn, instruction, comes_to, times_out};
 ghost use Rattle.run_play.specs.Play.{after_requests, image_use, play_from, play_of};
 ghost use Rattle.run_play.specs.Halt.{Stop, ending_of, end_of, cut_at, unprepared, halt};
@@ -130,6 +131,35 @@ pub fn dummies_pass()
         passed p numbers time pace ≡ record { slots = dummy_next p pace numbers ∷ more.slots; pace = more.pace } }
     ensures far { (p : Public) (numbers : Numbers) (time : ℕ) (pace : Pace)
         → time ≤ (passed p numbers time pace).pace.beat.next }
+{}
+
+/// An access takes the first slot that starts at or after the clock, where it starts before the time of the settings, and
+/// is too late else; the slots that pass before it start before the clock. Accesses one after another are the first of
+/// them, and then, unless a slot came too late, the others; and what is answered to a request is answered after them.
+pub fn accesses_take_slots()
+    ensures early { (config : Config) (value : Option (List ℕ)) (now : Standing) (access : WalkAccess)
+        → let before = passed (public_of config) now.numbers (min now.clock config.time) now.pace in
+        before.pace.beat.next < config.time
+        → (access_slot config value now access ≡ take_slot config value now access before true)
+        × (now.clock ≤ before.pace.beat.next) }
+    ensures late { (config : Config) (value : Option (List ℕ)) (now : Standing) (access : WalkAccess)
+        → let before = passed (public_of config) now.numbers (min now.clock config.time) now.pace in
+        config.time ≤ before.pace.beat.next
+        → access_slot config value now access ≡ take_slot config value now access before false }
+    ensures passed { (p : Public) (numbers : Numbers) (time : ℕ) (pace : Pace)
+        → All (λ start. start < time) (starts_in (passed p numbers time pace).slots) }
+    ensures accesses { (config : Config) (value : Option (List ℕ)) (first others : List WalkAccess) (now : Standing)
+        → now.late ≡ None
+        → one_by_one (access_slot config value) (first ++ others) now
+        ≡ (let taken = one_by_one (access_slot config value) first now in
+        followed taken (one_by_one (access_slot config value) others) taken.standing.late) }
+    ensures answered { (config : Config) (now : Standing) (request : LineRequest)
+        → let walked = walk (walk_sizes config) now.chip (requested request) in
+        let taken = one_by_one (access_slot config (value_of request)) walked.accesses now in
+        taken.standing.late ≡ None
+        → ((request_slots config now request).slots ≡ taken.slots)
+        × ((request_slots config now request).standing
+        ≡ request_done request (record taken.standing { chip = walked.chip })) }
 {}
 
 /// Where a pace is that after some slots, it is so after a slot more, after dummies, and after the slots of requests:
