@@ -1,5 +1,6 @@
 -- The slot of an access, and those that pass before it.
-use Rattle.std.proofs.Common.{◌≡◌, ◌<◌, ◌≤◌, ℕ, zero, suc, Bool, true, false, List, [], ◌∷◌, ◌++◌, Option, Some, None, refl, sym, ap, ◌∙◌, arith, append-nil}
+use Rattle.std.proofs.Common.{◌≡◌, ◌<◌, ◌≤◌, ℕ, zero, suc, Bool, true, false, List, Option, Some, None, refl, ap}
+use Rattle.std.proofs.Common.{arith, append-nil}
 use Rattle.std.specs.Prelude.{min, nat_lt}
 use Rattle.std.specs.List.{All}
 use Rattle.std.proofs.lemmas.Bool.{le-ltb, lt-ltb, ltb-true}
@@ -9,7 +10,8 @@ use Rattle.bus_schedule.specs.Timetable.{Public, public_of}
 use Rattle.data_cache.specs.Lines.{LineRequest}
 use Rattle.posmap_lookaside.specs.Walk.{WalkAccess, walk}
 use Rattle.run_play.specs.PlayEvents.{starts_in}
-use Rattle.run_play.specs.Requests.{Standing, Taken, none_taken, followed, one_by_one, request_done, requested, value_of}
+use Rattle.run_play.specs.Requests.{Standing, Taken, none_taken, followed, one_by_one, request_done, requested}
+use Rattle.run_play.specs.Requests.{value_of}
 use Rattle.run_play.specs.Requests.{take_slot, access_slot, walk_sizes, request_slots}
 use Rattle.run_play.specs.Slots.{Pace, Numbers, Passed, pass_one, pass_up_to, passed, pace_after}
 use Rattle.run_play.proofs.Keeping.{passed-far}

@@ -26,6 +26,14 @@ load_words = 0x04002283 ∷ exit_words
 abbrev pub jump_words : List ℕ
 jump_words = 0x0000006f ∷ []
 
+-- `lw x5, 64(x0); jal x0, -4`
+abbrev pub swing_words : List ℕ
+swing_words = 0x04002283 ∷ 0xffdff06f ∷ []
+
+-- `lw x5, 64(x0)`, thirteen times `div x6, x5, x5`, and `jal x0, -56`
+abbrev pub divide_words : List ℕ
+divide_words = 0x04002283 ∷ replicate 13 0x0252c333 ++ 0xfc9ff06f ∷ []
+
 -- `addi x5, x0, 2; jalr x0, 0(x5)`
 abbrev pub misaligned_words : List ℕ
 misaligned_words = 0x00200293 ∷ 0x00028067 ∷ []

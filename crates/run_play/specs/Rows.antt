@@ -103,3 +103,17 @@ one_held = record small {
     buckets = 63;
   };
 }
+
+-- own counts of two bits, the second rate, and one choice
+abbrev pub few_counts : Config
+few_counts = record small { ic = 2; leak = 2; first = 1; epoch = 32768; time = 50000 }
+
+-- four rates, of which the greatest is the first, and two choices, at the first ends from 4,096 and from 12,288 on
+abbrev pub two_choices : Config
+two_choices = record small {
+  leak = 4;
+  rates = record { list = 64 ∷ 128 ∷ 256 ∷ 1024 ∷ replicate 12 0; count = 4 };
+  first = 3;
+  epoch = 4096;
+  time = 14000;
+}

@@ -1,6 +1,7 @@
 //! Laws of plays and halts. The functions do nothing: each states laws in its contract.
 
-ghost use Rattle.std.specs.Prelude.{◌≡◌, ◌<◌, ◌≤◌, ◌^◌, ◌*◌, ◌+◌, ◌⊎◌, All, min, true, false, replicate, ℕ, suc, List, [], ◌∷◌, ◌++◌};
+ghost use Rattle.std.specs.Prelude.{◌≡◌, ◌<◌, ◌≤◌, ◌^◌, ◌*◌, ◌+◌, ◌⊎◌, All, min, true, false, replicate, ℕ, suc};
+ghost use Rattle.std.specs.Prelude.{List, [], ◌∷◌, ◌++◌};
 ghost use Rattle.std.specs.Prelude.{length, map, take, slice_get};
 ghost use Rattle.std.specs.Prelude.{Option, Some, None};
 ghost use Rattle.asc_base.specs.Settings.{IsConfig};
@@ -26,7 +27,8 @@ ghost use Rattle.rv32_core.specs.LineList.{step_lines};
 ghost use Rattle.rv32_core.specs.Machine.{CoreState, Machine, IsCore};
 ghost use Rattle.rv32_core.specs.StepPlan.{step_plan};
 ghost use Rattle.run_play.specs.Slots.{Slot, Numbers, Pace, first_pace, passed, pace_after, slot_next, dummy_next};
-ghost use Rattle.run_play.specs.Requests.{StoredLines, Standing, access_slot, request_done, requested, take_slot, value_of, walk_sizes, followed, one_by_one, request_slots};
+ghost use Rattle.run_play.specs.Requests.{StoredLines, Standing, access_slot, request_done, requested, take_slot};
+ghost use Rattle.run_play.specs.Requests.{value_of, walk_sizes, followed, one_by_one, request_slots};
 ghost use Rattle.run_play.specs.Play.{Play, Budget, after_slots, access_turn, instruction, comes_to, times_out};
 ghost use Rattle.run_play.specs.Play.{after_requests, image_use, play_from, play_of};
 ghost use Rattle.run_play.specs.Halt.{Stop, ending_of, end_of, cut_at, unprepared, halt};
@@ -133,9 +135,10 @@ pub fn dummies_pass()
         → time ≤ (passed p numbers time pace).pace.beat.next }
 {}
 
-/// An access takes the first slot that starts at or after the clock, where it starts before the time of the settings, and
-/// is too late else; the slots that pass before it start before the clock. Accesses one after another are the first of
-/// them, and then, unless a slot came too late, the others; and what is answered to a request is answered after them.
+/// An access takes the first slot that starts at or after the clock, where it starts before the time of the settings,
+/// and is too late else; the slots that pass before it start before the clock. Accesses one after another are the first
+/// of them, and then, unless a slot came too late, the others; and what is answered to a request is answered after
+/// them.
 pub fn accesses_take_slots()
     ensures early { (config : Config) (value : Option (List ℕ)) (now : Standing) (access : WalkAccess)
         → let before = passed (public_of config) now.numbers (min now.clock config.time) now.pace in

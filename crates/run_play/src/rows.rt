@@ -1,6 +1,6 @@
 //! Plays and halts in numbers. The functions do nothing: each states laws in its contract.
 
-ghost use Rattle.std.specs.Prelude.{◌≡◌, ℕ, [], ◌∷◌, ◌++◌, map, replicate, slice_index, Some};
+ghost use Rattle.std.specs.Prelude.{◌≡◌, ◌+◌, ◌*◌, ℕ, [], ◌∷◌, ◌++◌, map, replicate, slice_get, slice_index, Some};
 ghost use Rattle.std.specs.List.{range_with_len};
 ghost use Rattle.asc_base.specs.Settings.{config_of};
 ghost use Rattle.asc_base.specs.declared.block.Point.TheVariants.{Dummy};
@@ -8,9 +8,11 @@ ghost use Rattle.bus_schedule.specs.Timetable.{public_of};
 ghost use Rattle.rv32_core.specs.declared.outcome.TrapKind.TheVariants.{FetchMisaligned};
 ghost use Rattle.run_play.specs.Play.{Exited, Trapped, Budget, TimeUp, StashFull, Device};
 ghost use Rattle.run_play.specs.Halt.{Overfull, MoveFails, AppendOverfull, halt};
-ghost use Rattle.run_play.specs.PlayEvents.{Starts, Draws, play_events, starts_in, points_in, report_of};
+ghost use Rattle.run_play.specs.PlayEvents.{Starts, Draws, play_events, starts_in, points_in, indices_in, report_of};
 ghost use Rattle.run_play.specs.Rows.{default_settings, small_settings, default_config, small, no_budget, no_time};
 ghost use Rattle.run_play.specs.Rows.{one_rate, short_time, one_choice, one_held};
+ghost use Rattle.run_play.specs.Rows.{few_counts, two_choices};
+ghost use Rattle.run_play.specs.Programs.{swing_words, divide_words};
 ghost use Rattle.run_play.specs.Programs.{exit_words, hello_words};
 ghost use Rattle.run_play.specs.Programs.{load_words};
 ghost use Rattle.run_play.specs.Programs.{jump_words, misaligned_words, memory_with, play_at, real, tags};
@@ -173,6 +175,51 @@ pub fn jumps_have_rows()
         } }
     ensures slower { slice_index (starts_in (play_at one_choice 0 jump_words).slots) 44 ≡ 49472 }
     ensures last { slice_index (starts_in (play_at one_choice 0 jump_words).slots) 52 ≡ 184512 }
+{}
+
+/// A program that loads line 1 and jumps back to line 0, where own counts have two bits: the third fetch of line 0
+/// after its store moves all 32 children of its group first, from 11,664 on. At the first end from 32,768 on, in the
+/// move, the learner chooses the least rate, since no cycle was idle. The time is up in an instruction.
+pub fn moves_have_rows()
+    ensures report { report_of (public_of few_counts) (play_at few_counts 0 swing_words)
+        ≡ record {
+          ending = TimeUp 50240;
+          instructions = 10;
+          cycles = 49986;
+          last = 50000;
+          fetches = 10;
+          real = 44;
+          dummies = 0;
+          choices = 1;
+          code = 0;
+        } }
+    ensures starts { starts_in (play_at few_counts 0 swing_words).slots
+        ≡ map (λ k. 1024 + 1520 * k) (range_with_len 0 22) ++ map (λ k. 33696 + 752 * k) (range_with_len 0 22) }
+    ensures points { points_in (play_at few_counts 0 swing_words).slots
+        ≡ real 64 0 0 ∷ real 0 0 0 ∷ real 1 0 0 ∷ real 0 0 1 ∷ real 1 0 1 ∷ real 0 0 2 ∷ real 1 0 2
+        ∷ real 0 0 3 ∷ real 1 0 3 ∷ map (λ child. real child 0 0) (range_with_len 2 30)
+        ++ real 0 1 0 ∷ real 1 1 0 ∷ real 0 1 1 ∷ real 1 1 1 ∷ real 0 1 2 ∷ [] }
+{}
+
+/// A program that divides between its loads, so that dummies pass between real slots. Of four rates the learner chooses
+/// the least after three slots, and the third after 14 more, of which five are dummies.
+pub fn choices_have_rows()
+    ensures report { report_of (public_of two_choices) (play_at two_choices 0 divide_words)
+        ≡ record {
+          ending = TimeUp 14006;
+          instructions = 79;
+          cycles = 14006;
+          last = 14000;
+          fetches = 12;
+          real = 14;
+          dummies = 5;
+          choices = 2;
+          code = 8;
+        } }
+    ensures starts { starts_in (play_at two_choices 0 divide_words).slots
+        ≡ 1024 ∷ 2544 ∷ 4064 ∷ map (λ k. 4624 + 560 * k) (range_with_len 0 14) ++ 12656 ∷ 13408 ∷ [] }
+    ensures indices { indices_in (play_at two_choices 0 divide_words).slots ≡ 0 ∷ 2 ∷ [] }
+    ensures dummies { slice_get (points_in (play_at two_choices 0 divide_words).slots) 16 ≡ Some (Dummy 4) }
 {}
 
 /// The load's play, cut: where the third read of its first slot fails; where the third write of its third slot fails,
