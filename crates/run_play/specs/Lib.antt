@@ -1,0 +1,11 @@
+pub mod Slots
+pub mod Requests
+pub mod Play
+pub mod Halt
+pub mod PlayEvents
+pub mod OnTime
+pub mod Turns
+pub mod Flat
+pub mod Honest
+pub mod Rows
+pub mod Programs
