@@ -12,7 +12,7 @@ import os
 import sys
 
 from bus_traces import Difference, Refused, read
-from pictures import COLOURS, NO_PICTURE, plotter
+from pictures import COLOURS, NO_PICTURE, end_with, plotter
 
 MARKERS = "ox^sdv"
 
@@ -40,7 +40,7 @@ def summary(trace):
     """What a trace shows, in a few words."""
     choices = len(trace.choices)
     return (f"{len(trace.slots)} slots, end {trace.end}, {choices} {'choice' if choices == 1 else 'choices'}, "
-            f"code {trace.code} bits {trace.bits} of {trace.header.leak}")
+            f"code {trace.code}, {trace.bits} of {trace.header.leak} bits")
 
 
 def show_differences(names, traces):
@@ -114,13 +114,14 @@ def draw_leaves(axes, names, traces):
                     borderaxespad=0.2)
 
 
-def add_legend(pyplot, figure, differs):
+def add_legend(pyplot, figure, chooses, differs):
     """The key of the picture's lines, above all."""
     line = pyplot.Line2D
     keys = [line([], [], color="0.4", linewidth=6, solid_capstyle="butt", label="slot"),
             line([], [], color="0.4", linewidth=1, label="gap before it"),
-            line([], [], color="black", linestyle=":", label="choice of a rate"),
             line([], [], color="black", linewidth=1.5, label="end")]
+    if chooses:
+        keys.append(line([], [], color="black", linestyle=":", label="choice, with its rate"))
     if differs:
         keys.append(line([], [], color="red", linestyle="--", label="times first differ"))
     figure.legend(handles=keys, loc="upper center", ncol=len(keys), fontsize=8, frameon=False, handlelength=1.6)
@@ -139,7 +140,7 @@ def draw(pyplot, path, names, traces, window):
     for row, time in itertools.product(rows, times):
         row.axvline(in_thousands(time), color="red", linestyle="--", linewidth=1.2)
     rows[0].set_xlim(in_thousands(window[0]), in_thousands(window[1]))
-    add_legend(pyplot, figure, times)
+    add_legend(pyplot, figure, any(trace.choices for trace in traces), times)
     figure.tight_layout(rect=(0, 0, 1, 0.96))
     figure.savefig(path, dpi=100, metadata={"Date": None} if path.endswith(".svg") else None)
 
@@ -186,7 +187,4 @@ def main():
 
 
 if __name__ == "__main__":
-    try:
-        sys.exit(main())
-    except BrokenPipeError:
-        sys.stderr.close()
+    end_with(main)

@@ -23,7 +23,7 @@ import tempfile
 
 from bus_traces import Difference, Refused, read
 from core_rows import Machine
-from pictures import COLOURS, NO_PICTURE, plotter
+from pictures import COLOURS, NO_PICTURE, end_with, plotter
 
 TOP = os.path.dirname(os.path.dirname(os.path.abspath(__file__)))
 ASCEND = os.path.join(TOP, "crates", "ascend", "out", "ascend")
@@ -99,7 +99,7 @@ def planned(words):
             names = (os.path.basename(words.program), os.path.basename(path), *budget, settings)
             row = dict(zip(NAMES, names))
             row["sums"] = "-".join(map(sum_of, (words.ascend, words.program, path)))
-            named = hashlib.sha256("\n".join((*names, row["sums"])).encode()).hexdigest()
+            named = hashlib.sha256("\n".join((*names, sum_of(words.program), sum_of(path))).encode()).hexdigest()
             row["trace"] = os.path.join("traces", f"{row['input']}.{named[:12]}")
             yield row, path, bytes.fromhex(named)
 
@@ -249,7 +249,7 @@ def show(rows, pairs):
     """Prints the main columns of the table, and the pairs."""
     form = "{:<18} {:>4} {:<22} {:>5} {:<14} {:>9} {:>6} {:>6} {:>7} {:>4} {:>7} {:>10}"
     titles = {"instructions_a_cycle": "a cycle", "flat_cycles": "flat cycles"}
-    columns = ("input", "leak", "rates", "first", "end", "cycles", "real", "dummies", "choices", "bits",
+    columns = ("input", "leak", "rates", "first", "end", "last", "real", "dummies", "choices", "bits",
                "instructions_a_cycle", "flat_cycles")
     print(form.format(*(titles.get(column, column) for column in columns)))
     for row in rows:
@@ -371,7 +371,4 @@ def main():
 
 
 if __name__ == "__main__":
-    try:
-        sys.exit(main())
-    except BrokenPipeError:
-        sys.stderr.close()
+    end_with(main)
