@@ -16,9 +16,10 @@ from study import ASCEND
 
 CHANGES = [("trace 1", "trace 2"), ("levels ", "levels 2"), ("levels ", "levels 0"), ("rates ", "rates  "),
            ("rates ", "rates 63 "), ("rates ", "rates 64 "), ("rates ", "rates 12345678901 "),
-           ("first ", "first 1"), ("epoch ", "epoch 9"), ("leak ", "leak 6"), ("leak ", "leak\t"), ("access ", "access 0"), ("access", "acess"),
-           (" 28\n", " 0\n"), (" 28\n", " 29\n"), (" 28\n", " 27\n"), ("end ", "end 1"),
-           ("end ", "end  "), ("end ", "ends "), ("\n", "\r\n"), ("end ", "access 1 1 1\nend ")]
+           ("first ", "first 1"), ("epoch ", "epoch 9"), ("leak ", "leak 6"), ("leak ", "leak\t"),
+           ("access ", "access 0"), ("access", "acess"), (" 28\n", " 0\n"), (" 28\n", " 29\n"), (" 28\n", " 27\n"),
+           ("end ", "end 1"), ("end ", "end  "), ("end ", "ends "), ("\n", "\r\n"),
+           ("end ", "access 1 1 1\nend ")]
 RANDOM_CHANGES = 40
 
 

@@ -354,6 +354,8 @@ def main():
     try:
         os.makedirs(os.path.join(words.into, "traces"), exist_ok=True)
         rows = study(words)
+        if not rows:
+            raise Trouble("no budget is left")
         pairs = list(compared(words, rows))
         write_table(os.path.join(words.into, "pairs.csv"), PAIRS, pairs)
     except KeyboardInterrupt:
