@@ -432,13 +432,18 @@ def compare(assembler):
     print(f"{len(code) // 4} words are the assembler's", file=sys.stderr)
 
 
-for name, rows in [("arithmetic", arithmetic), ("jumps", jumps), ("accesses", accesses), ("traps", traps), ("programs", programs)]:
-    print(f"{name}:")
-    before = ""
-    for comment, row in rows():
-        print(f"    // {comment}\n" * (comment != before) + f"    {row},")
-        before = comment
-print("calls:")
-calls()
-if sys.argv[1:2] == ["--assembler"]:
-    compare(sys.argv[2])
+def main():
+    for name, rows in [("arithmetic", arithmetic), ("jumps", jumps), ("accesses", accesses), ("traps", traps), ("programs", programs)]:
+        print(f"{name}:")
+        before = ""
+        for comment, row in rows():
+            print(f"    // {comment}\n" * (comment != before) + f"    {row},")
+            before = comment
+    print("calls:")
+    calls()
+    if sys.argv[1:2] == ["--assembler"]:
+        compare(sys.argv[2])
+
+
+if __name__ == "__main__":
+    main()
