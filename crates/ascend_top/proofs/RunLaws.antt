@@ -17,6 +17,7 @@ use Rattle.ascend_words.specs.Settings.{settings_of, text_in}
 use Rattle.ascend_words.specs.declared.table.Name.TheVariants.{Elf, Key, Output, Trace}
 use Rattle.ascend_top.specs.FlatRun.{Report, bytes_in, ending_of, file_in, flat_of, flat_report, input_in}
 use Rattle.ascend_top.specs.FlatRun.{outcome_report, report_of, run_over}
+use Rattle.secure_machine.proofs.LastMoves.{ends_with_move}
 use Rattle.ascend_top.specs.EncryptedRun.{IsRunOf, IsWantOf, Lent}
 use Rattle.ascend_top.specs.Parts.{CanRun, EndsAs, IsConfigOf, IsImageOf, IsProgramOf, program_report}
 use Rattle.ascend_top.specs.Run.{IsBegin, run_report_steps, traced}
@@ -102,6 +103,9 @@ wanting config image input key lent report is = record {
   bits = is.bits;
   tied = tied is.tied;
   faults = is.faults;
+  last_move = ends_with_move config report.last lent.tap'.log is.pace.scheduled;
+  budget = is.budget;
+  unaltered = is.unaltered;
 }
   where
     tied : IsTiedOr config (IsUnprepared report lent.tap lent.tap') lent.memory lent.memory' lent.tap'

@@ -1,17 +1,24 @@
 -- What a run over encrypted memory leaves of the memory and the tap that it was lent.
-use Rattle.std.specs.Prelude.{◌≡◌, ◌<◌, ◌≤◌, ◌^◌, ℕ, List}
+use Rattle.std.specs.Prelude.{◌≡◌, ◌<◌, ◌≤◌, ◌^◌, ◌⊎◌, ℕ, List, [], IsSome, length}
 use Rattle.std.specs.List.{count_by}
 use Rattle.asc_base.specs.declared.settings.Config.{Config}
 use Rattle.asc_outside.specs.Memory.{MemoryState}
 use Rattle.asc_outside.specs.Rose.{Rose}
+use Rattle.bucket_codec.specs.Pad.{pad_key}
 use Rattle.bus_schedule.specs.Scheduled.{log_code}
+use Rattle.bus_schedule.specs.Shown.{indices_of}
 use Rattle.bus_schedule.specs.Timetable.{public_of}
 use Rattle.bus_watch.specs.Log.{TapState}
 use Rattle.elf_loader.specs.declared.image.Image.{Image}
 use Rattle.epoch_learner.specs.Stands.{KeepsPace}
-use Rattle.rate_enforcer.specs.Counts.{is_dummy, is_real}
+use Rattle.leaf_function.specs.Leaf.{leaf, leaf_key}
+use Rattle.oram_contents.specs.Entries.{Keys}
+use Rattle.oram_contents.specs.Forgery.{Forgery}
+use Rattle.pmmac_tags.specs.Tag.{tag_key}
+use Rattle.rate_enforcer.specs.Counts.{is_answered, is_dummy, is_real}
 use Rattle.secure_machine.specs.Finish.{IsRightEnding}
-use Rattle.secure_machine.specs.Run.{IsTiedButLast, IsTiedOr, IsUnprepared}
+use Rattle.secure_machine.specs.LastMove.{EndsWithMove}
+use Rattle.secure_machine.specs.Run.{IsFlatReport, IsInBudget, IsTiedButLast, IsTiedOr, IsUnprepared, chip_keys}
 use Rattle.secure_machine.specs.declared.report.Ending.TheVariants.{Device}
 use Rattle.secure_machine.specs.declared.report.Report.{Report}
 
@@ -30,9 +37,16 @@ pub record IsIdle (lent : Lent) : Type 0 where
   pub memory : lent.memory' ≡ lent.memory
   pub tap : lent.tap' ≡ lent.tap
 
+-- the keys that a chip derives from a master key: those of pads and of tags, and its leaf function
+abbrev pub keys_from : Config → List ℕ → Keys
+keys_from config master =
+    chip_keys config (pad_key master) (tag_key master) (leaf (leaf_key master) config.shape.levels)
+
 -- A run of a program over its input, with the keys of a master key, leaves this of memory and tap, and is reported so.
--- Its log keeps the pace up to the reported end, and its choices tell no more bits than the settings allow; it starts as
--- many slots as are reported; it is tied to what the memory was asked; a failure has its cause; and the ending is right.
+-- It refines the flat run, or its log shows a forgery. Its log keeps the pace up to the reported end, and its choices
+-- tell no more bits than the settings allow; slots, choices, their code and answered lines are as reported; it is tied
+-- to what the memory was asked, and over a memory that told its buckets no reply was altered; a failure has its cause;
+-- and the ending is right.
 pub record IsRunOf (config : Config) (image : Image) (input key : List ℕ) (lent : Lent) (report : Report)
     : Type 0 where
   pub pace : KeepsPace config report.last lent.tap'.log
@@ -43,11 +57,22 @@ pub record IsRunOf (config : Config) (image : Image) (input key : List ℕ) (len
   pub faults : lent.memory.faults ≤ lent.memory'.faults
   pub device : report.ending ≡ Device → Rose lent.memory.faults lent.memory'.faults
   pub right : IsRightEnding config.budget config.time report.instructions report.cycles report.last report.ending
+  pub choices : report.choices ≡ length (indices_of lent.tap'.log.events)
+  pub code : report.code ≡ log_code (public_of config) lent.tap'.log
+  pub fetches : report.fetches ≡ count_by is_answered lent.tap'.log.events
+  pub budget : IsInBudget config lent.tap'.log
+  pub unaltered : IsSome lent.memory.told → lent.tap'.log.altered ≡ []
+  pub flat : IsSome lent.memory.told → IsFlatReport config image input report
+  pub refines : Forgery (keys_from config key) lent.tap'.log ⊎ IsFlatReport config image input report
 
--- The same of a run that found no memory, in it or for the text of its trace: up to some time the log keeps the pace.
+-- The same of a run that found no memory, in it or for the text of its trace: up to some time the log keeps the pace,
+-- and it is on time up to the cycle after its last move.
 pub record IsWantOf (config : Config) (image : Image) (input key : List ℕ) (lent : Lent) : Type 0 where
   pub end : ℕ
   pub pace : KeepsPace config end lent.tap'.log
   pub bits : log_code (public_of config) lent.tap'.log < 2 ^ config.leak
   pub tied : IsTiedButLast config lent.memory lent.memory' lent.tap lent.tap'
   pub faults : lent.memory.faults ≤ lent.memory'.faults
+  pub last_move : EndsWithMove config lent.tap'.log
+  pub budget : IsInBudget config lent.tap'.log
+  pub unaltered : IsSome lent.memory.told → lent.tap'.log.altered ≡ []

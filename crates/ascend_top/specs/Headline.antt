@@ -1,0 +1,64 @@
+-- The headline of a run over encrypted memory, word by word:
+--
+-- For every accepted program, input, key, budget and behaviour of the memory, the output and ending are those of flat
+-- RV32IM after the reported instructions, or a named stop's prefix, unless an altered reply carried a valid tag on a
+-- message never tagged; and always the bus's moves are the schedule of the drawn leaves, the rate code below two to the
+-- leakage budget, and the end time.
+use Rattle.std.specs.Prelude.{◌≡◌, ◌<◌, ◌+◌, ◌^◌, ◌⊎◌, ℕ, List, length, Option}
+use Rattle.asc_base.specs.declared.settings.Config.{Config}
+use Rattle.asc_outside.specs.Host.{Files}
+use Rattle.bus_schedule.specs.Schedule.{schedule}
+use Rattle.bus_schedule.specs.Scheduled.{log_code}
+use Rattle.bus_schedule.specs.Shown.{starts_of, leaves_of}
+use Rattle.bus_schedule.specs.Timetable.{public_of, timetable}
+use Rattle.bus_watch.specs.Log.{LogLists}
+use Rattle.oram_contents.specs.Forgery.{Forgery}
+use Rattle.secure_machine.specs.LastMove.{IsAfter}
+use Rattle.secure_machine.specs.Run.{IsFlatReport}
+use Rattle.secure_machine.specs.declared.report.Report.{Report}
+use Rattle.ascend_words.specs.Grammar.{Pair}
+use Rattle.ascend_top.specs.EncryptedRun.{IsIdle, Lent, keys_from}
+use Rattle.ascend_top.specs.Run.{IsBegin}
+use Rattle.ascend_top.specs.declared.commands.flat.Program.{Program}
+use Rattle.ascend_top.specs.declared.commands.run.Begin.{Begin}
+
+-- An altered reply carried a valid tag on a message never tagged: the log shows a forgery, under the keys of the
+-- master key.
+abbrev pub IsForged : Program → (key : List ℕ) → LogLists → Type 0
+IsForged program key log = Forgery (keys_from program.config key) log
+
+-- The output and ending are those of flat RV32IM after the reported instructions, or a named stop's prefix.
+abbrev pub IsFlatOrPrefix : Program → Report → Type 0
+IsFlatOrPrefix program report = IsFlatReport program.config program.image program.input.items report
+
+-- Always: the slots start when the timetable says, one leaf is drawn for each, and the bus's moves are the schedule of
+-- the drawn leaves, the rate code and the end time; and the rate code is below two to the leakage budget. No other move
+-- was asked of the memory.
+pub record IsAlways (config : Config) (lent : Lent) (end : ℕ) : Type 0 where
+  pub starts : starts_of lent.tap'.log.events
+      ≡ timetable (public_of config) (log_code (public_of config) lent.tap'.log) end
+  pub leaves : length (leaves_of lent.tap'.log.events)
+      ≡ length (timetable (public_of config) (log_code (public_of config) lent.tap'.log) end)
+  pub moves : lent.tap'.log.moves
+      ≡ schedule (public_of config) (log_code (public_of config) lent.tap'.log) (leaves_of lent.tap'.log.events) end
+  pub code : log_code (public_of config) lent.tap'.log < 2 ^ config.leak
+  pub asked : lent.memory'.moved ≡ lent.memory.moved + length lent.tap'.log.moves
+
+-- The headline, of an accepted program with its input, a key, and a report.
+pub record Headline (program : Program) (key : List ℕ) (lent : Lent) (report : Report) : Type 0 where
+  pub flat : IsFlatOrPrefix program report ⊎ IsForged program key lent.tap'.log
+  pub always : IsAlways program.config lent report.last
+
+-- What is left of it where memory runs out: the end time is the cycle after the last move, or 0 where there is none.
+pub record IsCutShort (program : Program) (lent : Lent) : Type 0 where
+  pub end : ℕ
+  pub after : IsAfter lent.tap'.log.moves end
+  pub always : IsAlways program.config lent end
+
+-- The command `run` carries the headline. Either nothing was asked of the memory; or the words, settings, key, program
+-- and input were accepted, and the headline holds of what was reported; or memory ran out.
+abbrev pub CarriesHeadline : List Pair → Lent → Type 0
+CarriesHeadline given lent =
+    IsIdle lent
+    ⊎ ((told : Option Files) × (begin : Begin) × IsBegin given told begin
+    × (((report : Report) × Headline begin.program begin.key lent report) ⊎ IsCutShort begin.program lent))
