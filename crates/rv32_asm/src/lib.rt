@@ -1,7 +1,7 @@
 //! An assembler for RV32IM with FENCE.I.
 //!
 //! [`assemble`] gives the ELF file of a program's text, and [`disassemble`] writes the statement that names a word's
-//! own row of the instruction table.
+//! own row of the instruction table. [`generate`] gives the file of a program that is made from a number.
 #![tactic(auto)]
 
 mod assembly;
