@@ -7,7 +7,11 @@ use Rattle.request_plan.specs.Plan.{Plan, Done, Ask}
 use Rattle.request_plan.specs.Play.{Played, play, marked}
 use Rattle.run_play.specs.Slots.{Slot}
 use Rattle.run_play.specs.Requests.{Standing, Taken, none_taken, followed, one_by_one, request_slots}
-use Rattle.run_play.specs.Turns.{unless_late, answered, line_slots, Takes}
+use Rattle.data_cache.specs.CacheLists.{Lines}
+use Rattle.rv32_core.specs.Access.{Access}
+use Rattle.rv32_core.specs.Machine.{CoreState}
+use Rattle.run_play.specs.Play.{access_turn}
+use Rattle.run_play.specs.Turns.{access_slots, unless_late, answered, line_slots, Takes}
 use Rattle.run_play.proofs.Turns.{bare-turn}
 
 module _ (config : Config) where
@@ -75,3 +79,21 @@ module _ (config : Config) where
       (followed taken (one_by_one (request_slots config) others) taken.standing.late)) (sym is)
       (goes_on left others (next answer) taken taken.standing.late refl
       (λ fresh. takes (next answer) others taken.standing (makes.1 answer) fresh)))
+
+-- ---- a server once a slot came too late
+none-late : (taken : Taken) (now : Standing) (o : Option ℕ) (late : ℕ) → o ≡ Some late
+    → ((unless_late o taken now).slots ≡ []) × ((unless_late o taken now).standing ≡ now)
+none-late taken now None late is = absurd cc
+none-late taken now (Some l) late is = (refl, refl)
+
+pub late-request : (config : Config) (now : Standing) (request : LineRequest) (late : ℕ) → now.late ≡ Some late
+    → let turn = line_slots config now request in (turn.records ≡ []) × (turn.held ≡ now)
+late-request config now request late is = none-late (request_slots config now request) now now.late late is
+
+pub late-access : (config : Config) (core : CoreState) (lines : Lines) (now : Standing) (access : Access) (late : ℕ)
+    → now.late ≡ Some late → let turn = access_slots config core (lines, now) access in
+    (turn.records ≡ []) × ((turn.held).1 ≡ now)
+late-access config core lines now access late is =
+    none-late (one_by_one (request_slots config)
+    (access_turn config.ways core lines access).records now) now now.late late
+    is

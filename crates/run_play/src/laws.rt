@@ -80,6 +80,16 @@ pub fn requests_take_slots<A, B>()
         → Takes (play (line_slots config) plan now) (one_by_one (request_slots config) requests now) }
 {}
 
+/// Once a slot came too late these servers make none any more, and what stands stays as it is.
+pub fn late_servers_are_quiet()
+    ensures request { (config : Config) (now : Standing) (request : LineRequest) (late : ℕ) → now.late ≡ Some late
+        → let turn = line_slots config now request in (turn.records ≡ []) × (turn.held ≡ now) }
+    ensures access { (config : Config) (core : CoreState) (lines : Lines) (now : Standing) (access : Access) (late : ℕ)
+        → now.late ≡ Some late
+        → let turn = access_slots config core (lines, now) access in
+        (turn.records ≡ []) × ((turn.held).1 ≡ now) }
+{}
+
 /// An instruction of a play is the flat machine's, and its requests are those that the cache's lists make of the
 /// instruction's lines in the line list. A play ends as the flat run does: an exit and a trap are the flat run's after
 /// as many instructions, at the budget all are finished, and when time is up the flat run goes on.

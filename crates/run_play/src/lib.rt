@@ -10,8 +10,8 @@ mod rows;
 
 pub use laws::{
     accesses_take_slots, dummies_pass, halts_are_prefixes, instructions_take_slots,
-    lists_take_slots, play_goes_on, plays_are_flat, plays_are_scheduled, requests_take_slots,
-    slots_keep_the_pace,
+    late_servers_are_quiet, lists_take_slots, play_goes_on, plays_are_flat, plays_are_scheduled,
+    plays_stay_honest, requests_take_slots, slots_keep_the_pace,
 };
 pub use rows::{
     appends_have_rows, choices_have_rows, halts_have_rows, jumps_have_rows, moves_have_rows,
