@@ -105,6 +105,7 @@ wanting config image input key lent report is = record {
   faults = is.faults;
   last_move = ends_with_move config report.last lent.tap'.log is.pace.scheduled;
   budget = is.budget;
+  asked = is.asked;
   unaltered = is.unaltered;
 }
   where

@@ -1,5 +1,5 @@
 -- What a run over encrypted memory leaves of the memory and the tap that it was lent.
-use Rattle.std.specs.Prelude.{◌≡◌, ◌<◌, ◌≤◌, ◌^◌, ◌⊎◌, ℕ, List, [], IsSome, length}
+use Rattle.std.specs.Prelude.{◌≡◌, ◌<◌, ◌≤◌, ◌+◌, ◌^◌, ◌⊎◌, ℕ, List, [], IsSome, length}
 use Rattle.std.specs.List.{count_by}
 use Rattle.asc_base.specs.declared.settings.Config.{Config}
 use Rattle.asc_outside.specs.Memory.{MemoryState}
@@ -61,6 +61,7 @@ pub record IsRunOf (config : Config) (image : Image) (input key : List ℕ) (len
   pub code : report.code ≡ log_code (public_of config) lent.tap'.log
   pub fetches : report.fetches ≡ count_by is_answered lent.tap'.log.events
   pub budget : IsInBudget config lent.tap'.log
+  pub asked : lent.memory'.moved ≡ lent.memory.moved + length lent.tap'.log.moves
   pub unaltered : IsSome lent.memory.told → lent.tap'.log.altered ≡ []
   pub flat : IsSome lent.memory.told → IsFlatReport config image input report
   pub refines : Forgery (keys_from config key) lent.tap'.log ⊎ IsFlatReport config image input report
@@ -75,4 +76,5 @@ pub record IsWantOf (config : Config) (image : Image) (input key : List ℕ) (le
   pub faults : lent.memory.faults ≤ lent.memory'.faults
   pub last_move : EndsWithMove config lent.tap'.log
   pub budget : IsInBudget config lent.tap'.log
+  pub asked : lent.memory'.moved ≡ lent.memory.moved + length lent.tap'.log.moves
   pub unaltered : IsSome lent.memory.told → lent.tap'.log.altered ≡ []

@@ -22,6 +22,7 @@ ghost use Rattle.ascend_words.specs.declared.table.Command.TheVariants.{Run};
 ghost use Rattle.ascend_top.specs.Command.{AreRight, CommandEnds, Completes, IsFirstRefusal, IsOfFiles, WorkEnds};
 ghost use Rattle.ascend_top.specs.Command.{Tells, end_of, steps_of};
 ghost use Rattle.ascend_top.specs.EncryptedRun.{IsIdle, lent_as};
+ghost use Rattle.ascend_top.specs.Headline.{CarriesHeadline};
 ghost use Rattle.ascend_top.specs.Made.{Made};
 ghost use Rattle.ascend_top.specs.Status.{status_of, status_of_refusal};
 ghost use Rattle.ascend_top.specs.declared.refusal.Refusal.{Refusal as WhyRefused};
@@ -79,6 +80,8 @@ pub fn ascend<H: Host, M: UntrustedMemory>(
         (H.state host.old) (H.state host.new) }
     ensures others { (read : Read) → IsWords (texts words.now) read → (read.command ≡ Run → ⊥)
         → IsIdle (lent_as (M.state memory.old) (M.state memory.new) tap.old tap.new) }
+    ensures headline { (read : Read) → IsWords (texts words.now) read → read.command ≡ Run
+        → CarriesHeadline read.given (lent_as (M.state memory.old) (M.state memory.new) tap.old tap.new) }
     ensures complete { (read : Read) (files : Files) → IsWords (texts words.now) read
         → (H.state host.old).files ≡ Some files → AreRight read files
         → ¬ Rose (H.state host.old).faults (H.state host.new).faults
