@@ -107,6 +107,7 @@ module _ (keys : Keys) (lawful : AreKeys keys) (levels : ℕ) where
     dummies = known.dummies;
     drawn = known.drawn;
     points = known.points;
+    forms = known.forms;
     home = known.home;
     bytes = known.bytes;
   }
@@ -123,6 +124,7 @@ module _ (keys : Keys) (lawful : AreKeys keys) (levels : ℕ) where
     dummies = known.dummies;
     drawn = known.drawn;
     points = known.points;
+    forms = known.forms;
     home = λ none. home_raised keys g (contents s) a c g.pend (known.sound.away a (inl held)).1 rises (known.home none);
     bytes = known.bytes;
   }

@@ -175,6 +175,7 @@ module _ (keys : Keys) (lawful : AreKeys keys) (levels : ℕ) where
     dummies = known.dummies;
     drawn = known.drawn;
     points = known.points;
+    forms = known.forms;
     home = λ none. home_used keys g (contents s) p (known.home none);
     bytes = known.bytes;
   }
