@@ -1,6 +1,6 @@
 -- Each bucket's bytes are in the form, whatever was altered: at the start, and over every slot.
-use Rattle.std.proofs.Common.{◌≡◌, ◌<◌, ◌+◌, ◌⊎◌, inl, inr, ℕ, zero, suc, List, [], get_or, replicate, length, Option, Ok}
-use Rattle.std.proofs.Common.{refl, sym, ap, ◌∙◌, subst}
+use Rattle.std.proofs.Common.{◌≡◌, ◌<◌, ◌+◌, ◌⊎◌, inl, inr, ℕ, zero, suc, List, [], length, Option, Ok}
+use Rattle.std.proofs.Common.{get_or, replicate, refl, sym, ap, ◌∙◌, subst}
 use Rattle.asc_base.specs.declared.block.Counter.{Counter}
 use Rattle.asc_base.specs.declared.block.Entry.{Entry}
 use Rattle.asc_base.specs.declared.block.Point.TheVariants.{Dummy}
@@ -41,10 +41,13 @@ zeros_at (suc n) zero = inl refl
 zeros_at (suc n) (suc b) = zeros_at n b
 
 pub start_forms : (keys : Keys) → AreInForm keys (zero_buckets keys.shape.buckets)
-start_forms keys b inside = (empty_slots, elim (zeros_at keys.shape.buckets b) [
-  | inl is ↦ ap (opened keys.pads keys.shape) is ∙ unwritten keys zero_bucket zero_seed
-  | inr is ↦ ap (opened keys.pads keys.shape) is ∙ unwritten keys [] no_bytes
-])
+start_forms keys b inside = (
+  empty_slots,
+  elim (zeros_at keys.shape.buckets b) [
+    | inl is ↦ ap (opened keys.pads keys.shape) is ∙ unwritten keys zero_bucket zero_seed
+    | inr is ↦ ap (opened keys.pads keys.shape) is ∙ unwritten keys [] no_bytes
+  ],
+)
 
 module _ (keys : Keys) (lawful : AreKeys keys) where
   pub access_forms : (old new : LogLists) (g : Ghost) (now after : Contents) (start a : ℕ) (c : Counter)
