@@ -1,3 +1,4 @@
+pub mod HonestLaws
 pub mod ImageLaws
 pub mod RefinedLaws
 pub mod StopLaws

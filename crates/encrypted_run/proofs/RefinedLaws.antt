@@ -54,7 +54,7 @@ module _ (keys : Keys) (lawful : AreKeys keys) (levels : ℕ) where
   ]
 
   -- one request
-  step_holds : (list : List (List ℕ)) (old new : OramState) (request : LineRequest) (bytes : List ℕ)
+  pub step_holds : (list : List (List ℕ)) (old new : OramState) (request : LineRequest) (bytes : List ℕ)
       → HoldsList keys levels list old → OramLine keys levels old request (Ok bytes) new
       → Forgery keys new.port.tap.log
       ⊎ ((now : List (List ℕ)) × FlatStep {E = Stop} list request (Ok bytes) now × HoldsList keys levels now new)

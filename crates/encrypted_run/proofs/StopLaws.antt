@@ -42,9 +42,9 @@ module _ (keys : Keys) (lawful : AreKeys keys) (levels : ℕ) where
   line_stop : (old new : OramState) (request : LineRequest) (stop : Stop)
       → OramLine keys levels old request (Err stop) new → Forgery keys old.port.tap.log
       → Forgery keys new.port.tap.log
-  line_stop old new (Fetch line) stop (asked, one) f =
+  line_stop old new (Fetch line) stop (below, asked, one) f =
       forgery_stop keys lawful levels old new (OramFetch asked line) stop one f
-  line_stop old new (Store line value) stop (asked, one) f =
+  line_stop old new (Store line value) stop (below, whole, asked, one) f =
       forgery_stop keys lawful levels old new (OramStore asked line (record { 0 = value })) stop one f
 
   pub plan_stop : {B A : Type 0} (plan : Plan LineRequest (List ℕ) B A) (old new : OramState) (stop : Stop) (left : B)

@@ -23,10 +23,10 @@ module _ (keys : Keys) (levels : ℕ) where
       × (asked : ℕ) × (end : ℕ)
       × OramStep keys levels old (OramStore asked line (record { 0 = value }))
       (Ok (record { line = None; end = end })) new
-  OramLine old (Fetch line) (Err stop) new =
-      (asked : ℕ) × OramStep keys levels old (OramFetch asked line) (Err stop) new
-  OramLine old (Store line value) (Err stop) new =
-      (asked : ℕ) × OramStep keys levels old (OramStore asked line (record { 0 = value })) (Err stop) new
+  OramLine old (Fetch line) (Err stop) new = (line < keys.shape.lines) × (asked : ℕ)
+      × OramStep keys levels old (OramFetch asked line) (Err stop) new
+  OramLine old (Store line value) (Err stop) new = (line < keys.shape.lines) × (length value ≡ 64) × (asked : ℕ)
+      × OramStep keys levels old (OramStore asked line (record { 0 = value })) (Err stop) new
 
   -- It holds the lines of this list.
   pub record HoldsList (list : List (List ℕ)) (o : OramState) : Type 0 where

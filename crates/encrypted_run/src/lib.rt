@@ -3,12 +3,14 @@
 //! The crate has laws alone; the calls do nothing.
 #![tactic(auto)]
 
-ghost use Rattle.std.specs.Prelude.{◌≡◌, ◌<◌, ◌+◌, ◌*◌, ◌⊎◌, ℕ, List, All, Ok, length, replicate};
+ghost use Rattle.std.specs.Prelude.{◌≡◌, ◌<◌, ◌+◌, ◌*◌, ◌⊎◌, ℕ, List, [], All, None, Ok, Err, length, replicate};
 ghost use Rattle.asc_base.specs.Has.{Has};
 ghost use Rattle.asc_base.specs.Settings.{IsConfig};
 ghost use Rattle.asc_base.specs.declared.block.Line.{Line};
 ghost use Rattle.asc_base.specs.declared.settings.Config.{Config};
+ghost use Rattle.asc_base.specs.declared.stop.Evidence.{Evidence};
 ghost use Rattle.asc_base.specs.declared.stop.Stop.{Stop};
+ghost use Rattle.asc_base.specs.declared.stop.Stop.TheVariants.{Integrity};
 ghost use Rattle.data_cache.specs.Cached.{cache_access};
 ghost use Rattle.data_cache.specs.CacheLists.{line_in};
 ghost use Rattle.data_cache.specs.Contents.{Contents, write_line_plan};
@@ -115,4 +117,33 @@ pub fn stopped_runs_are_prefixes()
     ensures forged { (keys : Keys) → AreKeys keys → (levels : ℕ) (plan : Plan LineRequest (List ℕ) Contents Contents)
         (old new : OramState) (stop : Stop) (left : Contents) → Stops (OramLine keys levels) plan old new stop left
         → Forgery keys old.port.tap.log → Forgery keys new.port.tap.log }
+{}
+
+/// Where no reply was altered, and the encrypted memory hasn't stopped before, none of these is stopped by evidence: a
+/// line that is written whole, an instruction, a run, a whole run over a new encrypted memory, and dummies up to a time.
+pub fn honest_runs_are_not_blamed()
+    ensures line { (keys : Keys) → AreKeys keys → (levels line : ℕ) (value : Line) (memory : List ℕ)
+        (old new : OramState) (cache left : Contents) (evidence : Evidence) → Computes keys levels cache memory old
+        → old.stop ≡ None
+        → Stops (OramLine keys levels) (write_line_plan cache line value) old new (Integrity evidence) left
+        → new.port.tap.log.altered ≡ [] → ⊥ }
+    ensures instruction { (keys : Keys) → AreKeys keys → (levels : ℕ) (machine : Machine) (base : ℕ) (memory : List ℕ)
+        (old new : OramState) (cache : Contents) (left : Contents × Machine) (evidence : Evidence)
+        → Computes keys levels cache memory old → old.stop ≡ None
+        → Stops (OramLine keys levels) (through (cache_access base) (step_plan machine) cache) old new
+        (Integrity evidence) left → new.port.tap.log.altered ≡ [] → ⊥ }
+    ensures run { (keys : Keys) → AreKeys keys → (levels n before base : ℕ) (machine : Machine) (memory : List ℕ)
+        (old new : OramState) (cache : Contents) (left : Contents × (ℕ × Machine)) (evidence : Evidence)
+        → Computes keys levels cache memory old → old.stop ≡ None
+        → Stops (OramLine keys levels) (through (cache_access base) (run_plan n before machine) cache) old new
+        (Integrity evidence) left → new.port.tap.log.altered ≡ [] → ⊥ }
+    ensures whole { (keys : Keys) → AreKeys keys → (levels : ℕ) (config : Config) (image marked : List ℕ)
+        (machine : Machine) (sets ways n : ℕ) → IsConfig config → 0 < sets → 0 < ways → (old new : OramState)
+        (left : Contents × (ℕ × Machine)) (evidence : Evidence) → IsNew keys config levels old → old.stop ≡ None
+        → Stops (OramLine keys levels) (cache_run image marked n machine (empty_cache sets ways)) old new
+        (Integrity evidence) left → new.port.tap.log.altered ≡ [] → ⊥ }
+    ensures wait { (keys : Keys) → AreKeys keys → (levels : ℕ) (memory : List ℕ) (cache : Contents)
+        (old new : OramState) (time : ℕ) (evidence : Evidence) → Computes keys levels cache memory old
+        → old.stop ≡ None → OramStep keys levels old (Wait time) (Err (Integrity evidence)) new
+        → new.port.tap.log.altered ≡ [] → ⊥ }
 {}

@@ -11,6 +11,7 @@ use Rattle.asc_base.specs.declared.stop.Evidence.TheVariants.{Doubled}
 use Rattle.asc_base.specs.declared.stop.Stop.{Stop}
 use Rattle.asc_base.specs.declared.stop.Stop.TheVariants.{Integrity}
 use Rattle.bus_watch.specs.declared.log.Event.TheVariants.{Tagged, Answered}
+use Rattle.oram_contents.specs.Contents.{Contents}
 use Rattle.oram_contents.specs.Counts.{Ghost, line_at}
 use Rattle.oram_contents.specs.Decided.{draws}
 use Rattle.oram_contents.specs.Entries.{Keys, AreKeys}
@@ -22,7 +23,7 @@ use Rattle.oram_contents.proofs.Access.{put_sound, put_always, always_adds}
 use Rattle.oram_contents.proofs.Passes.{insert_sound}
 use Rattle.oram_contents.proofs.HomeSteps.{home_put, home_insert}
 use Rattle.oram_contents.specs.Fold.{tagged_entry}
-use Rattle.oram_contents.specs.Home.{Home}
+use Rattle.oram_contents.specs.Home.{Home, AreInForm}
 use Rattle.oram_contents.proofs.Steps.{sound_log, came_more}
 use Rattle.oram_stash.proofs.Held.{held-none}
 use Rattle.oram_stash.specs.Entries.{held}
@@ -68,6 +69,7 @@ module _ (keys : Keys) (lawful : AreKeys keys) where
         omega (arith, is, both, none, known.drawn, ap (λ c. c.dummies) x.clock, ap (λ c. c.real) x.clock);
     points = subst DrawnOnce (sym x.events) (once_silent old.tap.log.events (Tagged m ∷ []) known.points
         (silent_by (Tagged m ∷ []) (count_by-cons draws (Tagged m) [])));
+    forms = subst (λ (c : Contents). AreInForm keys c.mirror) (sym x.contents_are) known.forms;
     home = λ none. subst (λ c. Home keys (landed g) c) (sym x.contents_are)
         (home_put keys g (contents old) m.address.0 (tagged_entry keys m) refl flying
         (known.home (sym x.altered ∙ none)));
@@ -108,6 +110,7 @@ module _ (keys : Keys) (lawful : AreKeys keys) where
         omega (arith, is, both, none, known.drawn, ap (λ c. c.dummies) x.clock, ap (λ c. c.real) x.clock);
     points = subst DrawnOnce (sym x.events) (once_silent old.tap.log.events (Answered line value ∷ []) known.points
         (silent_by (Answered line value ∷ []) (count_by-cons draws (Answered line value) [])));
+    forms = subst (λ (c : Contents). AreInForm keys c.mirror) (sym x.contents_are) known.forms;
     home = λ none. subst (λ c. Home keys g c) (sym x.contents_are) (known.home (sym x.altered ∙ none));
     bytes = known.bytes;
   }
@@ -126,6 +129,7 @@ module _ (keys : Keys) (lawful : AreKeys keys) where
     dummies = known.dummies;
     drawn = known.drawn;
     points = known.points;
+    forms = known.forms;
     home = λ none. home_insert keys g (contents s) plb a flying few (known.home none);
     bytes = known.bytes;
   }

@@ -57,7 +57,7 @@ module _ (keys : Keys) (lawful : AreKeys keys) (levels : ℕ) where
       ]
 
   -- no block has more layers above it than there are
-  under : (above a : ℕ) → a < layer_first keys.shape.lines keys.shape.layers
+  pub under : (above a : ℕ) → a < layer_first keys.shape.lines keys.shape.layers
       → keys.shape.layers ≤ layer_of keys.shape.lines keys.shape.layers a + 1 + above
       → IsUnder keys lawful levels above a
   under zero a inside high =
@@ -68,7 +68,7 @@ module _ (keys : Keys) (lawful : AreKeys keys) (levels : ℕ) where
       (omega (arith, parent_layer a p inside up))
 
   -- a data line's layer is the lowest
-  data_layer : (line : ℕ) → line < keys.shape.lines → layer_of keys.shape.lines keys.shape.layers line ≡ 0
+  pub data_layer : (line : ℕ) → line < keys.shape.lines → layer_of keys.shape.lines keys.shape.layers line ≡ 0
   data_layer line below =
       let first = layer_first-next keys.shape.lines 0 in
       let zeroth = layer_first-zero keys.shape.lines in
@@ -80,7 +80,7 @@ module _ (keys : Keys) (lawful : AreKeys keys) (levels : ℕ) where
   data_leaf line below =
       children_of-line keys.shape.lines keys.shape.layers line 0 (sym (data_layer line below)) refl
 
-  data_inside : (line : ℕ) → line < keys.shape.lines → line < keys.shape.total
+  pub data_inside : (line : ℕ) → line < keys.shape.lines → line < keys.shape.total
   data_inside line below =
       let first = layer_first-next keys.shape.lines 0 in
       let zeroth = layer_first-zero keys.shape.lines in

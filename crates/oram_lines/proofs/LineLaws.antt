@@ -17,7 +17,7 @@ use Rattle.oram_contents.specs.Provenance.{Sound, Always}
 use Rattle.oram_contents.specs.Slots.{ArePasses, passed_by}
 use Rattle.oram_contents.specs.Starts.{empty_log, first_ghost}
 use Rattle.oram_contents.proofs.HomeSlots.{passes_home}
-use Rattle.oram_contents.specs.Home.{Home}
+use Rattle.oram_contents.specs.Home.{Home, AreInForm}
 use Rattle.oram_contents.proofs.Passes.{passes_keep}
 use Rattle.oram_contents.proofs.SmallLaws.{small_more, small_start}
 use Rattle.oram_contents.proofs.StartLaws.{start_sound, start_always, start_home}
@@ -30,6 +30,7 @@ use Rattle.rate_enforcer.specs.PortStep.{PortState, HasIdled, Idle, contents}
 use Rattle.oram_lines.specs.Lines.{Lines, IsNew, HoldsLines, IsRequest, lines_after, IsLineOf, Calls, Answered}
 use Rattle.oram_lines.specs.Lines.{AreRequests, AreLinesOf, lines_by}
 use Rattle.oram_lines.specs.Standing.{DrawnOnce, IsKnown, IsShown, StandsFor, later}
+use Rattle.oram_lines.proofs.FormLaws.{start_forms, passes_forms}
 use Rattle.oram_lines.proofs.FetchLaws.{fetch_comes, store_comes, put_alike, data_leaf}
 use Rattle.oram_lines.proofs.GrowLaws.{forgery_port, forgery_walk, forgery_halt, forgery_walk_stop, counted_walk}
 use Rattle.oram_lines.proofs.PointLaws.{passes_once}
@@ -71,6 +72,8 @@ module _ (keys : Keys) (lawful : AreKeys keys) (levels : ℕ) where
       );
       points = (passes_once keys k s.tap.log t.tap.log (contents s) (contents t) s.clock.dummies passes known.points
           (λ m x has. let less = known.sound.dummies m x has in omega (arith, less, known.dummies))).0;
+      forms = (passes_forms keys lawful k s.tap.log t.tap.log g (contents s) (contents t) s.clock.dummies passes
+          known.always known.forms).1;
       home = λ none. subst (λ (x : Ghost). Home keys x (contents t)) (passed_is g k known.closed)
           (passes_home keys lawful k s.tap.log t.tap.log g (contents s) (contents t) s.clock.dummies passes none
           known.closed known.always (known.home (none_before s.tap.log.altered h.used.made.replies.altered
@@ -122,6 +125,7 @@ module _ (keys : Keys) (lawful : AreKeys keys) (levels : ℕ) where
         drawn = let none = ap (λ (l : LogLists). count_by draws l.events) new.log in
             omega (arith, new.dummies, new.real);
         points = subst DrawnOnce (sym (ap (λ (l : LogLists). l.events) new.log)) tt;
+        forms = subst (λ (c : Contents). AreInForm keys c.mirror) (sym new.contents_are) (start_forms keys);
         home = λ none. subst (λ (c : Contents). Home keys first_ghost c) (sym new.contents_are) (start_home keys);
         bytes = λ a. zero_whole;
       };

@@ -107,6 +107,7 @@ module _ (keys : Keys) (lawful : AreKeys keys) (levels : ℕ) where
     dummies = known.dummies;
     drawn = known.drawn;
     points = known.points;
+    forms = known.forms;
     home = known.home;
     bytes = known.bytes;
   }
@@ -123,6 +124,7 @@ module _ (keys : Keys) (lawful : AreKeys keys) (levels : ℕ) where
     dummies = known.dummies;
     drawn = known.drawn;
     points = known.points;
+    forms = known.forms;
     home = λ none. home_raised keys g (contents s) a c g.pend (known.sound.away a (inl held)).1 rises (known.home none);
     bytes = known.bytes;
   }
@@ -269,7 +271,7 @@ module _ (keys : Keys) (lawful : AreKeys keys) (levels : ℕ) where
         ]
 
     -- A child's part of the move.
-    child_comes : (front : FrontState) (g : Ghost) (s : PortState) (asked child : ℕ)
+    pub child_comes : (front : FrontState) (g : Ghost) (s : PortState) (asked child : ℕ)
         → StandsFor keys levels 0 front g s → IsMoving g p.0 child → IsFirst front p group → child < number
         → Comes keys lawful levels (child_plan front asked (record { 0 = first + child }) (child_counter group child)
         (next_group (child_counter group child))) s
@@ -341,7 +343,7 @@ module _ (keys : Keys) (lawful : AreKeys keys) (levels : ℕ) where
     }
 
     -- The children from one on.
-    children_come : (left child : ℕ) → child + left ≡ number → (front : FrontState) (g : Ghost) (s : PortState)
+    pub children_come : (left child : ℕ) → child + left ≡ number → (front : FrontState) (g : Ghost) (s : PortState)
         (asked : ℕ) → StandsFor keys levels 0 front g s → IsMoving g p.0 child → IsFirst front p group
         → Comes keys lawful levels (children_plan group first child left front asked) s
         (λ later_front end t. MovesOn front g p group number later_front t)
@@ -383,6 +385,18 @@ module _ (keys : Keys) (lawful : AreKeys keys) (levels : ℕ) where
     pub lines : SameData keys g h
     pub front_is : SameFront front later_front
 
+  -- where a group move begins
+  pub move_begun : (front : FrontState) (g : Ghost) (s : PortState) (a p : Address) (group : GroupState)
+      → StandsFor keys levels 0 front g s → IsCalm g → IsFull keys front a p group
+      → StandsFor keys levels 0 front (record g { move = Some (p.0, 0) }) s
+  move_begun front g s a p group st calm full = record {
+    known = move_known g s (Some (p.0, 0)) st.known;
+    shown = move_begins keys lawful front g p group full.first full.number st.shown full.first_is full.children
+        calm.move;
+    small = st.small;
+    rests = st.rests;
+  }
+
   pub move_comes : (front : FrontState) (g : Ghost) (s : PortState) (asked : ℕ) (a p : Address) (group : GroupState)
       → StandsFor keys levels 0 front g s → IsCalm g → (full : IsFull keys front a p group) → p.0 < keys.shape.total
       → Comes keys lawful levels (move_plan front asked p group) s
@@ -403,13 +417,7 @@ module _ (keys : Keys) (lawful : AreKeys keys) (levels : ℕ) where
       begun = record g { move = Some (p.0, 0) }
 
       start : StandsFor keys levels 0 front begun s
-      start = record {
-        known = move_known g s (Some (p.0, 0)) st.known;
-        shown = move_begins keys lawful front g p group full.first full.number st.shown full.first_is full.children
-            calm.move;
-        small = st.small;
-        rests = st.rests;
-      }
+      start = move_begun front g s a p group st calm full
 
       ended : (now : FrontState) (end : ℕ) (m : PortState) → MovesOn front begun p group full.number now m
           → Comes keys lawful levels (Done (with_held now (changed (with_group (moved_group group)) now.held p), end))

@@ -34,7 +34,7 @@ use Rattle.oram_lines.proofs.WalkTriples.{Visited, visit_comes, parent_as, front
 
 module _ (keys : Keys) (lawful : AreKeys keys) (levels : ℕ) where
   -- a block's own counter isn't in its line
-  own_line : (g : Ghost) (a : ℕ) (access_next : Rattle.asc_base.specs.declared.block.Counter.Counter)
+  pub own_line : (g : Ghost) (a : ℕ) (access_next : Rattle.asc_base.specs.declared.block.Counter.Counter)
       → a < keys.shape.total
       → line_at keys.shape (taken_out g a access_next) a ≡ line_at keys.shape g a
   own_line g a c inside = line_same keys.shape g.count a c (g.data_lines a) a lawful.shape inside other
@@ -45,8 +45,17 @@ module _ (keys : Keys) (lawful : AreKeys keys) (levels : ℕ) where
           (omega (arith, inside, (shape_layered keys.shape lawful.shape).total)) up in
           absurd (omega (arith, above.0))
 
+  -- a block was taken out, to be held
+  pub taken_stands : (front : FrontState) (g : Ghost) (a : Address) (now : FrontState) (seen : Seen) (m : PortState)
+      → (x : Visited keys lawful levels front g a Refill now seen m)
+      → StandsFor keys levels 1 now (taken_out x.h a.0 (counter_in now a)) m
+  taken_stands front g a now seen m x =
+      subst (λ c. StandsFor keys levels 1 now (taken_out x.h a.0 c) m) x.next
+      (subst (λ (b : Address). StandsFor keys levels 1 now (taken_out x.h b.0 x.access.next) m) x.address
+      x.stands)
+
   -- A refill.
-  refill_comes : (front : FrontState) (g : Ghost) (s : PortState) (asked : ℕ) (a : Address) (family : ℕ × ℕ)
+  pub refill_comes : (front : FrontState) (g : Ghost) (s : PortState) (asked : ℕ) (a : Address) (family : ℕ × ℕ)
       → StandsFor keys levels 0 front g s → IsCalm g → ParentFirst keys g a.0 → a.0 < keys.shape.total
       → (Has a.0 g.held → ⊥) → children_of keys.shape.lines keys.shape.layers a.0 ≡ Some family
       → Comes keys lawful levels (refill_plan front asked a) s
@@ -81,10 +90,7 @@ module _ (keys : Keys) (lawful : AreKeys keys) (levels : ℕ) where
           (λ later_front end t. NowHeld keys lawful levels front g a later_front t)
       held_then now seen m x =
           let g2 = taken_out x.h a.0 (counter_in now a) in
-          let stands : StandsFor keys levels 1 now g2 m =
-          subst (λ c. StandsFor keys levels 1 now (taken_out x.h a.0 c) m) x.next
-          (subst (λ (b : Address). StandsFor keys levels 1 now (taken_out x.h b.0 x.access.next) m) x.address
-          x.stands) in
+          let stands = taken_stands front g a now seen m x in
           comes_on keys lawful levels (hold_plan now (refilled now a seen.line)) (λ last _. Done (last, seen.end)) m
           (λ later_front _ t. NowHeld keys lawful levels now g2 a later_front t)
           (λ later_front end t. NowHeld keys lawful levels front g a later_front t)
@@ -175,6 +181,7 @@ module _ (keys : Keys) (lawful : AreKeys keys) (levels : ℕ) where
     dummies = known.dummies;
     drawn = known.drawn;
     points = known.points;
+    forms = known.forms;
     home = λ none. home_used keys g (contents s) p (known.home none);
     bytes = known.bytes;
   }

@@ -84,6 +84,7 @@ module _ (keys : Keys) (lawful : AreKeys keys) (levels : ℕ) where
     dummies = known.dummies;
     drawn = known.drawn;
     points = known.points;
+    forms = known.forms;
     home = known.home;
     bytes = known.bytes;
   }

@@ -37,7 +37,7 @@ module _ (keys : Keys) (lawful : AreKeys keys) (levels : ℕ) where
           is ∙ ap (λ (x : Address). Some x.0) same
 
   -- A group move where one must come.
-  group_comes : (front : FrontState) (g : Ghost) (s : PortState) (asked : ℕ) (a : Address)
+  pub group_comes : (front : FrontState) (g : Ghost) (s : PortState) (asked : ℕ) (a : Address)
       → StandsFor keys levels 0 front g s → IsCalm g → ParentFirst keys g a.0 → a.0 < keys.shape.total
       → Comes keys lawful levels (group_plan front asked a) s
       (λ later_front end t. HasRoom keys lawful levels front g a later_front t)

@@ -16,7 +16,7 @@ use Rattle.oram_walk.specs.declared.slots.Purpose.TheVariants.{Refill, Keep, Rep
 use Rattle.oram_contents.specs.Decided.{draws}
 use Rattle.oram_contents.specs.Entries.{Keys}
 use Rattle.oram_contents.specs.Groups.{AreCounters, AreSmall}
-use Rattle.oram_contents.specs.Home.{Home}
+use Rattle.oram_contents.specs.Home.{Home, AreInForm}
 use Rattle.oram_contents.specs.Provenance.{Sound, Always}
 use Rattle.oram_walk.specs.Front.{FrontState, IsFront}
 use Rattle.posmap_lookaside.specs.declared.held.Held.{Held}
@@ -33,8 +33,8 @@ DrawnOnce [] = Unit {0}
 DrawnOnce (e ∷ later) = ((p : Point) (x : Leaf) → e ≡ Drawn p x → Undrawn later p) × DrawnOnce later
 
 -- What log and contents are known to be between slots, where a ghost record says what the blocks' counters and lines
--- are: the invariant behind refinement or forgery, how many points were drawn and none twice, and, where no
--- reply was altered, that each block has one place.
+-- are: the invariant behind refinement or forgery, how many points were drawn and none twice, that each bucket that
+-- was written is in the form, and, where no reply was altered, that each block has one place.
 pub record IsKnown (keys : Keys) (g : Ghost) (s : PortState) : Type 0 where
   pub fits : FitKeys keys s
   pub sound : Sound keys s.tap.log g (contents s)
@@ -43,6 +43,7 @@ pub record IsKnown (keys : Keys) (g : Ghost) (s : PortState) : Type 0 where
   pub dummies : s.clock.dummies ≡ g.dummies
   pub drawn : count_by draws s.tap.log.events ≡ s.clock.dummies + s.clock.real
   pub points : DrawnOnce s.tap.log.events
+  pub forms : AreInForm keys s.tap.mirror
   pub home : s.tap.log.altered ≡ [] → Home keys g (contents s)
   pub bytes : (a : ℕ) → length (g.data_lines a) ≡ 64
 

@@ -8,5 +8,5 @@ mod shown;
 
 pub use fetches::lines_are_kept;
 pub use laws::{known_between, known_requests};
-pub use lines::encrypted_memory_holds_lines;
+pub use lines::{encrypted_memory_holds_lines, honest_memories_are_not_blamed};
 pub use shown::{chip_shows, chip_shows_group_moves};

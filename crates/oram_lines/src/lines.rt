@@ -1,9 +1,11 @@
 //! What an encrypted memory holds. The functions do nothing: each states laws in its contract.
 
-ghost use Rattle.std.specs.Prelude.{◌≡◌, ◌⊎◌, ℕ, [], Ok, Err};
+ghost use Rattle.std.specs.Prelude.{◌≡◌, ◌⊎◌, ℕ, [], None, Ok, Err};
 ghost use Rattle.asc_base.specs.Settings.{IsConfig};
 ghost use Rattle.asc_base.specs.declared.settings.Config.{Config};
+ghost use Rattle.asc_base.specs.declared.stop.Evidence.{Evidence};
 ghost use Rattle.asc_base.specs.declared.stop.Stop.{Stop};
+ghost use Rattle.asc_base.specs.declared.stop.Stop.TheVariants.{Integrity};
 ghost use Rattle.oram_contents.specs.Counts.{zero_line};
 ghost use Rattle.oram_contents.specs.Entries.{Keys, AreKeys};
 ghost use Rattle.oram_contents.specs.Forgery.{Forgery};
@@ -16,8 +18,9 @@ ghost use Rattle.oram_lines.specs.Lines.{AreRequests, AreLinesOf, lines_by};
 
 /// A new encrypted memory holds zeros. Over each call that is answered it goes on holding its lines, or those with the
 /// one that was stored, and a fetch is answered with its line; or the log shows a forgery. So it is over any number of
-/// calls. While it holds lines, no leaf was drawn twice for one point, and, where no
-/// reply was altered, each block that was accessed has one place: at hand, in the tree, or on chip. A forgery that a log shows, it goes on showing, also over a call that is stopped.
+/// calls. While it holds lines, no leaf was drawn twice for one point, and, where no reply was altered, each block that
+/// was accessed has one place: at hand, in the tree, or on chip. A forgery that a log shows, it goes on showing, also
+/// over a call that is stopped.
 pub fn encrypted_memory_holds_lines()
     ensures start { (keys : Keys) → AreKeys keys → (levels : ℕ) (config : Config) (o : OramState) → IsConfig config
         → IsNew keys config levels o → HoldsLines keys levels (λ line. zero_line) o }
@@ -41,4 +44,19 @@ pub fn encrypted_memory_holds_lines()
     ensures forged_stop { (keys : Keys) → AreKeys keys → (levels : ℕ) (old new : OramState) (request : OramRequest)
         (stop : Stop) → OramStep keys levels old request (Err stop) new → Forgery keys old.port.tap.log
         → Forgery keys new.port.tap.log }
+{}
+
+/// Where no reply was altered no call of an encrypted memory that holds lines is stopped by evidence, also behind any
+/// number of answered ones: neither by that of a path that was read, nor by that of a block that was found, nor by that
+/// of a displaced one that is at hand already. One that was stopped before answers that stop.
+pub fn honest_memories_are_not_blamed()
+    ensures call { (keys : Keys) → AreKeys keys → (levels : ℕ) (lines : Lines) (old new : OramState)
+        (request : OramRequest) (evidence : Evidence) → HoldsLines keys levels lines old
+        → IsRequest keys.shape.lines request → old.stop ≡ None
+        → OramStep keys levels old request (Err (Integrity evidence)) new → new.port.tap.log.altered ≡ [] → ⊥ }
+    ensures calls { (keys : Keys) → AreKeys keys → (levels : ℕ) (lines : Lines) (old mid new : OramState)
+        (calls : Calls) (request : OramRequest) (evidence : Evidence) → HoldsLines keys levels lines old
+        → AreRequests keys.shape.lines calls → IsRequest keys.shape.lines request → old.stop ≡ None
+        → Answered keys levels old calls mid → OramStep keys levels mid request (Err (Integrity evidence)) new
+        → new.port.tap.log.altered ≡ [] → ⊥ }
 {}
