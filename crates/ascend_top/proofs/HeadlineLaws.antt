@@ -18,6 +18,7 @@ headline_of : (program : Program) (key : List ℕ) (lent : Lent) (report : Repor
     → IsRunOf program.config program.image program.input.items key lent report → Headline program key lent report
 headline_of program key lent report is = record {
   flat = turned is.refines;
+  honest = λ told. is.flat (is.unaltered told);
   always = record {
     starts = is.pace.scheduled.starts;
     leaves = is.pace.scheduled.leaves;

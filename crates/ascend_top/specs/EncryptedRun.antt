@@ -2,6 +2,7 @@
 use Rattle.std.specs.Prelude.{◌≡◌, ◌<◌, ◌≤◌, ◌+◌, ◌^◌, ◌⊎◌, ℕ, List, [], IsSome, length}
 use Rattle.std.specs.List.{count_by}
 use Rattle.asc_base.specs.declared.settings.Config.{Config}
+use Rattle.asc_base.specs.declared.stop.Evidence.{Evidence}
 use Rattle.asc_outside.specs.Memory.{MemoryState}
 use Rattle.asc_outside.specs.Rose.{Rose}
 use Rattle.bucket_codec.specs.Pad.{pad_key}
@@ -19,7 +20,7 @@ use Rattle.rate_enforcer.specs.Counts.{is_answered, is_dummy, is_real}
 use Rattle.secure_machine.specs.Finish.{IsRightEnding}
 use Rattle.secure_machine.specs.LastMove.{EndsWithMove}
 use Rattle.secure_machine.specs.Run.{IsFlatReport, IsInBudget, IsTiedButLast, IsTiedOr, IsUnprepared, chip_keys}
-use Rattle.secure_machine.specs.declared.report.Ending.TheVariants.{Device}
+use Rattle.secure_machine.specs.declared.report.Ending.TheVariants.{Device, Integrity}
 use Rattle.secure_machine.specs.declared.report.Report.{Report}
 
 -- the memory and the tap that a command is lent, before it and after it
@@ -45,8 +46,8 @@ keys_from config master =
 -- A run of a program over its input, with the keys of a master key, leaves this of memory and tap, and is reported so.
 -- It refines the flat run, or its log shows a forgery. Its log keeps the pace up to the reported end, and its choices
 -- tell no more bits than the settings allow; slots, choices, their code and answered lines are as reported; it is tied
--- to what the memory was asked, and over a memory that told its buckets no reply was altered; a failure has its cause;
--- and the ending is right.
+-- to what the memory was asked, and over a memory that told its buckets no reply was altered; where none was, the report
+-- is the flat run's, and the run doesn't end by evidence; a failure has its cause; and the ending is right.
 pub record IsRunOf (config : Config) (image : Image) (input key : List ℕ) (lent : Lent) (report : Report)
     : Type 0 where
   pub pace : KeepsPace config report.last lent.tap'.log
@@ -63,7 +64,8 @@ pub record IsRunOf (config : Config) (image : Image) (input key : List ℕ) (len
   pub budget : IsInBudget config lent.tap'.log
   pub asked : lent.memory'.moved ≡ lent.memory.moved + length lent.tap'.log.moves
   pub unaltered : IsSome lent.memory.told → lent.tap'.log.altered ≡ []
-  pub flat : IsSome lent.memory.told → IsFlatReport config image input report
+  pub flat : lent.tap'.log.altered ≡ [] → IsFlatReport config image input report
+  pub honest : lent.tap'.log.altered ≡ [] → (evidence : Evidence) → report.ending ≡ Integrity evidence → ⊥
   pub refines : Forgery (keys_from config key) lent.tap'.log ⊎ IsFlatReport config image input report
 
 -- The same of a run that found no memory, in it or for the text of its trace: up to some time the log keeps the pace,

@@ -4,7 +4,7 @@
 -- RV32IM after the reported instructions, or a named stop's prefix, unless an altered reply carried a valid tag on a
 -- message never tagged; and always the bus's moves are the schedule of the drawn leaves, the rate code below two to the
 -- leakage budget, and the end time.
-use Rattle.std.specs.Prelude.{◌≡◌, ◌<◌, ◌+◌, ◌^◌, ◌⊎◌, ℕ, List, length, Option}
+use Rattle.std.specs.Prelude.{◌≡◌, ◌<◌, ◌+◌, ◌^◌, ◌⊎◌, ℕ, List, length, Option, IsSome}
 use Rattle.asc_base.specs.declared.settings.Config.{Config}
 use Rattle.asc_outside.specs.Host.{Files}
 use Rattle.bus_schedule.specs.Schedule.{schedule}
@@ -44,9 +44,11 @@ pub record IsAlways (config : Config) (lent : Lent) (end : ℕ) : Type 0 where
   pub code : log_code (public_of config) lent.tap'.log < 2 ^ config.leak
   pub asked : lent.memory'.moved ≡ lent.memory.moved + length lent.tap'.log.moves
 
--- The headline, of an accepted program with its input, a key, and a report.
+-- The headline, of an accepted program with its input, a key, and a report. Over a memory that tells its buckets there
+-- is no forgery.
 pub record Headline (program : Program) (key : List ℕ) (lent : Lent) (report : Report) : Type 0 where
   pub flat : IsFlatOrPrefix program report ⊎ IsForged program key lent.tap'.log
+  pub honest : IsSome lent.memory.told → IsFlatOrPrefix program report
   pub always : IsAlways program.config lent report.last
 
 -- What is left of it where memory runs out: the end time is the cycle after the last move, or 0 where there is none.
