@@ -1,4 +1,5 @@
--- What stays over the steps of a port and of its slots: a forgery that a log shows, and that a clock counts its starts.
+-- What stays over the steps of a port and of its slots: a forgery that a log shows, and that a clock counts what a log
+-- notes.
 use Rattle.std.proofs.Common.{◌≡◌, ℕ, List, Ok, Err, inl, inr, sym, ap, subst}
 use Rattle.request_plan.specs.Plan.{Plan, Done, Ask, Ends, Stops}
 use Rattle.asc_base.specs.declared.block.Point.{Point}
@@ -42,7 +43,7 @@ module _ (keys : Keys) where
   forgery_port leaf_of levels s t (Join entry) x h f = same_tap s.tap t.tap h.1.others.tap f
   forgery_port leaf_of levels s t (Idle time) x h f = forgery_made h.1.used.made f
 
--- the clock still counts the starts
+-- the clock still counts starts and choices
 counted_same : (s t : PortState) → t.clock ≡ s.clock → t.tap ≡ s.tap → IsCounted s.clock s.tap.log
     → IsCounted t.clock t.tap.log
 counted_same s t clock tap c =

@@ -109,7 +109,7 @@ pub record InSlot (notes levels leaf : ℕ) (s : PortState) : Type 0 where
   pub opens : Opens notes s.clock slot s.tree levels s.memory s.tap
   pub leaf_is : slot.leaf.0 ≡ leaf
 
--- The clock still counts the starts that the log notes.
+-- The clock still counts the starts and the choices that the log notes.
 abbrev pub KeepsCount : PortState → PortState → Type 0
 KeepsCount old new = IsCounted old.clock old.tap.log → IsCounted new.clock new.tap.log
 

@@ -18,9 +18,9 @@ has_or_not n [] = inr (λ (k, below, is). absurd (omega (arith, below)))
 has_or_not n (x ∷ xs) = elim (cases_eq n x) [
   | inl is ↦ inl (inl is)
   | inr other ↦ elim (has_or_not n xs) [
-      | inl has ↦ inl (inr has)
-      | inr none ↦ inr (λ (k, below, is). later k below is other none)
-    ]
+    | inl has ↦ inl (inr has)
+    | inr none ↦ inr (λ (k, below, is). later k below is other none)
+  ]
 ]
   where
     later : (k : ℕ) → k < length (x ∷ xs) → get_or (x ∷ xs) k n ≡ n → (n ≡ x → ⊥) → (¬ Contains xs n) → ⊥

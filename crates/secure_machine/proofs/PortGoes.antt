@@ -1,6 +1,7 @@
 -- What a port's calls leave, however many there were.
-use Rattle.std.proofs.Common.{◌≡◌, ◌≤◌, ◌∙◌, ℕ, List, [], Ok, refl, sym, ap, subst, inl, inr, arith}
+use Rattle.std.proofs.Common.{◌≡◌, ◌+◌, ◌≤◌, ◌∙◌, ℕ, List, [], Ok, length, refl, sym, ap, subst, inl, inr, arith}
 use Rattle.request_plan.specs.Plan.{Plan, Done, Ask, Ends}
+use Rattle.std.proofs.lemmas.List.{length-append}
 use Rattle.asc_base.specs.declared.block.Point.{Point}
 use Rattle.asc_base.specs.declared.settings.Config.{Config}
 use Rattle.asc_base.specs.declared.stop.Stop.{Stop}
@@ -8,7 +9,11 @@ use Rattle.asc_base.specs.declared.stop.Stop.TheVariants.{Integrity, StashFull, 
 use Rattle.asc_outside.proofs.RoseLaws.{rose_since}
 use Rattle.asc_outside.specs.Memory.{MemoryState}
 use Rattle.asc_outside.specs.Rose.{Rose}
+use Rattle.bus_watch.specs.Honest.{TellsMirror}
 use Rattle.bus_watch.specs.Log.{TapState}
+use Rattle.bus_watch.specs.Made.{Made}
+use Rattle.bus_watch.specs.declared.log.Move.{Move}
+use Rattle.bus_watch.specs.declared.log.Event.{Event}
 use Rattle.bus_watch.specs.RunEnd.{RunEnd, Whole}
 use Rattle.bus_watch.specs.Tied.{Tied}
 use Rattle.epoch_learner.proofs.StandLaws.{stands_pace, stands_next}
@@ -20,7 +25,22 @@ use Rattle.rate_enforcer.specs.PortStep.{Idle, Said, Used, KeepsCount, Resting, 
 use Rattle.rate_enforcer.specs.PortStep.{OpenStopped, CloseStopped, IdleStopped, Aborted}
 use Rattle.rate_enforcer.specs.Stops.{IsEndOf}
 use Rattle.rate_enforcer.specs.declared.clock.Clock.{Clock}
-use Rattle.secure_machine.specs.Goes.{Goes, Breaks, PaceAt, TiedAfter}
+use Rattle.secure_machine.specs.Goes.{Goes, Breaks, PaceAt, TiedAfter, AsksMoves, Asks}
+
+-- the moves of a run of bus calls were asked of the memory
+made_asked : {end : RunEnd} {moves : List Move} {events : List Event} {m m' : MemoryState} {t t' : TapState}
+    → Made end moves events m m' t t' → AsksMoves m m' t t'
+made_asked {end} {moves} {events} {m} {m'} {t} {t'} made =
+    let more : length t'.log.moves ≡ length t.log.moves + length moves =
+    ap length made.moves_are ∙ length-append t.log.moves moves in
+    omega (arith, made.asked, more)
+
+-- where memory and tap are as they were, nothing was
+pub still_asked : (old new : PortState) → new.memory ≡ old.memory → new.tap ≡ old.tap → Asks old new
+still_asked old new memory tap =
+    let moved : new.memory.moved ≡ old.memory.moved = ap (λ (m : MemoryState). m.moved) memory in
+    let moves : length new.tap.log.moves ≡ length old.tap.log.moves = ap (λ (t : TapState). length t.log.moves) tap in
+    omega (arith, moved, moves)
 
 -- nothing was asked
 pub goes_none : (s : PortState) → Goes s s
@@ -30,6 +50,9 @@ goes_none s = record {
   tied = λ start buckets tied. tied;
   later = omega arith;
   real = omega arith;
+  unaltered = λ tells. refl;
+  tells = λ tells. tells;
+  asked = refl;
 }
 
 -- some requests, and then others
@@ -40,6 +63,9 @@ goes_then one two = record {
   tied = λ start buckets tied. two.tied start buckets (one.tied start buckets tied);
   later = omega (arith, one.later, two.later);
   real = omega (arith, one.real, two.real);
+  unaltered = λ tells. two.unaltered (one.tells tells) ∙ one.unaltered tells;
+  tells = λ tells. two.tells (one.tells tells);
+  asked = omega (arith, one.asked, two.asked);
 }
 
 -- some requests, and then one that is stopped
@@ -51,6 +77,8 @@ breaks_then {stop} {a} {b} {c} one two = record {
   later = omega (arith, one.later, two.later);
   cause = λ is. rose_since a.memory.faults b.memory.faults c.memory.faults one.later (two.cause is);
   pace = subst (λ (config : Config). PaceAt config stop c) one.config two.pace;
+  unaltered = λ tells. two.unaltered (one.tells tells) ∙ one.unaltered tells;
+  asked = omega (arith, one.asked, two.asked);
 }
 
 -- the hand alone changes
@@ -64,6 +92,10 @@ hand_goes {leaf_of} {levels} {old} {new} h = record {
   later = let same : new.memory.faults ≡ old.memory.faults = ap (λ (m : MemoryState). m.faults) h.memory in
       omega (arith, same);
   real = let same : new.clock.real ≡ old.clock.real = ap (λ (c : Clock). c.real) h.clock in omega (arith, same);
+  unaltered = λ tells. ap (λ (t : TapState). t.log.altered) h.tap;
+  tells = λ tells. subst (λ (t : TapState). TellsMirror new.memory t) (sym h.tap)
+      (subst (λ (m : MemoryState). TellsMirror m old.tap) (sym h.memory) tells);
+  asked = still_asked old new h.memory h.tap;
 }
 
 -- a bus that was used, of a port that is the same
@@ -75,6 +107,9 @@ used_goes used config counts real = record {
   tied = λ start buckets tied. used.made.tied start buckets tied;
   later = used.made.later;
   real = real;
+  unaltered = used.made.honest.unaltered;
+  tells = used.made.honest.whole refl;
+  asked = made_asked used.made;
 }
 
 -- an aborted slot
@@ -93,6 +128,10 @@ abort_goes {leaf_of} {levels} {end} {stop} {old} {new} h =
       later = let same : new.memory.faults ≡ old.memory.faults = ap (λ (m : MemoryState). m.faults) h.memory in
           omega (arith, same);
       real = omega (arith, real);
+      unaltered = λ tells. ap (λ (t : TapState). t.log.altered) h.tap;
+      tells = λ tells. subst (λ (t : TapState). TellsMirror new.memory t) (sym h.tap)
+          (subst (λ (m : MemoryState). TellsMirror m old.tap) (sym h.memory) tells);
+      asked = still_asked old new h.memory h.tap;
     }
 
 -- each answered call
@@ -109,6 +148,9 @@ step_goes leaf_of levels old (Note event) said new h =
       tied = λ start buckets tied. h.1.made.tied start buckets tied;
       later = h.1.made.later;
       real = omega (arith, real);
+      unaltered = h.1.made.honest.unaltered;
+      tells = h.1.made.honest.whole refl;
+      asked = made_asked h.1.made;
     }
 step_goes leaf_of levels old (Put entry) said new h = hand_goes h.1.others
 step_goes leaf_of levels old Close said new h =
@@ -158,6 +200,8 @@ module _ (leaf_of : Point → ℕ) (levels : ℕ) where
     later = h.used.made.later;
     cause = stop_cause stop h.end h.is_end h.used;
     pace = open_pace asked point stop old new h;
+    unaltered = h.used.made.honest.unaltered;
+    asked = made_asked h.used.made;
   }
 
   close_pace : (stop : Stop) (old new : PortState) → CloseStopped leaf_of levels stop old new
@@ -177,6 +221,8 @@ module _ (leaf_of : Point → ℕ) (levels : ℕ) where
     later = h.used.made.later;
     cause = stop_cause stop h.end h.is_end h.used;
     pace = close_pace stop old new h;
+    unaltered = h.used.made.honest.unaltered;
+    asked = made_asked h.used.made;
   }
 
   idle_pace : (stop : Stop) (old new : PortState) → IdleStopped leaf_of levels stop old new
@@ -199,6 +245,8 @@ module _ (leaf_of : Point → ℕ) (levels : ℕ) where
     later = h.used.made.later;
     cause = stop_cause stop h.end h.is_end h.used;
     pace = idle_pace stop old new h;
+    unaltered = h.used.made.honest.unaltered;
+    asked = made_asked h.used.made;
   }
 
 -- between two slots the log keeps the pace up to the last end

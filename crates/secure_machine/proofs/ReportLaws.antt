@@ -66,6 +66,8 @@ reported_of config report instructions cycles last ending old new same counted s
       tied = s.tied;
       later = s.later;
       cause = λ failed. s.cause (sym ends ∙ failed);
+      unaltered = s.unaltered;
+      asked = s.asked;
       right = subst (λ (c : Config). IsRightEnding config.budget c.time report.instructions report.cycles report.last
           report.ending) same
           (subst (λ n. IsRightEnding config.budget old.clock.config.time n report.cycles report.last report.ending)

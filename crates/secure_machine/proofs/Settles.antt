@@ -45,6 +45,8 @@ idle_settles budget instructions cycles until last ending old mid new one two pa
   cause = λ is. absurd (own_none budget old.clock.config.time instructions cycles until ending own is);
   pace = subst (λ (config : Config). KeepsPace config last new.tap.log) one.config pace;
   right = own_right budget old.clock.config.time instructions cycles until last ending own after;
+  unaltered = λ tells. two.unaltered (one.tells tells) ∙ one.unaltered tells;
+  asked = omega (arith, one.asked, two.asked);
 }
 
 module _ (budget instructions cycles : ℕ) (old new : PortState) where
@@ -64,6 +66,8 @@ module _ (budget instructions cycles : ℕ) (old new : PortState) where
     cause = λ is. cc;
     pace = h.pace;
     right = tt;
+    unaltered = h.unaltered;
+    asked = h.asked;
   }
 
   pub full_settles : (held : ℕ) → Breaks (stop.StashFull held) old new
@@ -77,6 +81,8 @@ module _ (budget instructions cycles : ℕ) (old new : PortState) where
     cause = λ is. cc;
     pace = h.pace;
     right = tt;
+    unaltered = h.unaltered;
+    asked = h.asked;
   }
 
   pub time_settles : (at last : ℕ) → Breaks (stop.TimeUp at) old new
@@ -91,6 +97,8 @@ module _ (budget instructions cycles : ℕ) (old new : PortState) where
     cause = λ is. cc;
     pace = h.pace.2 last (omega (arith, is)) (omega (arith, is, h.pace.0, h.pace.1));
     right = (h.pace.0, omega (arith, is));
+    unaltered = h.unaltered;
+    asked = h.asked;
   }
 
   pub device_settles : Breaks stop.Device old new → Settled budget instructions cycles Device new.clock.last old new
@@ -104,6 +112,8 @@ module _ (budget instructions cycles : ℕ) (old new : PortState) where
     cause = λ is. h.cause refl;
     pace = h.pace;
     right = tt;
+    unaltered = h.unaltered;
+    asked = h.asked;
   }
 
   -- the ends that want of memory leaves
@@ -121,4 +131,6 @@ module _ (budget instructions cycles : ℕ) (old new : PortState) where
     later = h.later;
     end = new.clock.last;
     pace = h.pace;
+    unaltered = h.unaltered;
+    asked = h.asked;
   }

@@ -33,7 +33,7 @@ use Rattle.rate_enforcer.proofs.Counted.{counted_still}
 use Rattle.rate_enforcer.specs.Stops.{IsEndOf}
 use Rattle.rate_enforcer.specs.declared.clock.Clock.{Clock}
 use Rattle.secure_machine.specs.Goes.{Breaks, PaceAt}
-use Rattle.secure_machine.proofs.PortGoes.{goes_then, breaks_then, step_goes, plan_goes, open_breaks, close_breaks}
+use Rattle.secure_machine.proofs.PortGoes.{still_asked, goes_then, breaks_then, step_goes, plan_goes, open_breaks, close_breaks}
 use Rattle.secure_machine.proofs.PortGoes.{resting_pace}
 
 -- a port of which only the clock's stop and end are set
@@ -57,6 +57,8 @@ module _ {stop : Stop} {old new : PortState} (memory : new.memory ≡ old.memory
         omega (arith, same);
     cause = λ bad. absurd (device bad);
     pace = pace;
+    unaltered = λ tells. ap (λ (t : TapState). t.log.altered) tap;
+    asked = still_asked old new memory tap;
   }
 
 module _ (keys : Keys) (levels : ℕ) where
@@ -223,4 +225,6 @@ module _ (keys : Keys) (levels : ℕ) where
     later = omega arith;
     cause = λ bad. cc;
     pace = resting_pace s rests;
+    unaltered = λ tells. refl;
+    asked = refl;
   }

@@ -1,5 +1,5 @@
 -- Before the first slot.
-use Rattle.std.proofs.Common.{◌≡◌, ◌≤◌, ◌<◌, ◌+◌, ◌*◌, ◌^◌, ◌∙◌, ℕ, List, [], None, Result, Ok, Err, IfOk, OnErr, refl, sym}
+use Rattle.std.proofs.Common.{◌≡◌, ◌≤◌, ◌<◌, ◌+◌, ◌*◌, ◌^◌, ◌∙◌, ℕ, List, [], Option, None, Some, IsSome, option_map, Result, Ok, Err, IfOk, OnErr, length, refl, sym}
 use Rattle.std.proofs.Common.{ap, subst, arith}
 use Rattle.std.proofs.lemmas.Nat.{mul-le}
 use Rattle.asc_base.proofs.ShapeFacts.{shape_layered}
@@ -18,14 +18,18 @@ use Rattle.bus_schedule.specs.Shown.{indices_of, code_of}
 use Rattle.bus_watch.proofs.TiedLaws.{tied_start}
 use Rattle.bus_watch.specs.declared.bus.BusStop.{BusStop}
 use Rattle.bus_watch.specs.declared.bus.BusStop.TheVariants.{Device, NoMemory}
+use Rattle.asc_base.specs.Has.{Has}
+use Rattle.bus_watch.specs.Honest.{TellsMirror}
 use Rattle.bus_watch.specs.Log.{TapState, LogLists}
+use Rattle.bus_watch.specs.declared.log.Altered.{Altered}
+use Rattle.oram_contents.specs.Forgery.{Forgery}
 use Rattle.bus_watch.specs.Prepared.{IsPrepared}
 use Rattle.bus_watch.specs.Ready.{IsReady}
 use Rattle.bus_watch.specs.Tied.{Tied}
 use Rattle.epoch_learner.proofs.StandLaws.{stands_first, stands_pace}
 use Rattle.epoch_learner.specs.Stands.{KeepsPace}
 use Rattle.leaf_function.specs.Leaf.{AreLeaves}
-use Rattle.oram_contents.specs.Entries.{AreKeys}
+use Rattle.oram_contents.specs.Entries.{Keys, AreKeys}
 use Rattle.oram_contents.specs.Starts.{empty_log}
 use Rattle.oram_frontend.specs.Oram.{oram_of}
 use Rattle.oram_lines.specs.Lines.{IsNew}
@@ -37,6 +41,7 @@ use Rattle.oram_walk.specs.Front.{FrontState, first_front}
 use Rattle.rate_enforcer.specs.Counts.{IsCounted}
 use Rattle.rate_enforcer.specs.State.{Rests}
 use Rattle.rate_enforcer.specs.declared.port.Port.{Port}
+use Rattle.secure_machine.specs.Goes.{AsksMoves}
 use Rattle.secure_machine.specs.LastMove.{EndsWithMove}
 use Rattle.secure_machine.specs.Run.{IsInBudget}
 use Rattle.secure_machine.specs.Timed.{Serving}
@@ -222,3 +227,25 @@ prepared_room config slots m m' t t' is few moved prepared =
 -- a log is empty where its lists are
 pub log_empty : (log : LogLists) → log.events ≡ [] → log.moves ≡ [] → log.altered ≡ [] → log ≡ empty_log
 log_empty log events moves altered = λ i. record { moves = moves i; events = events i; altered = altered i }
+
+-- A prepared memory that told its buckets tells the mirror's, which are of zeros.
+pub prepared_tells : (buckets levels accesses : ℕ) (m m' : MemoryState) (t t' : TapState) → IsSome m.told
+    → IsPrepared (Ok tt) buckets levels accesses m m' t t' → TellsMirror m' t'
+prepared_tells buckets levels accesses m m' t t' some prepared =
+    told m.told some prepared.by_answer.told ∙ ap (λ (l : List (List ℕ)). Some l) (sym prepared.by_answer.mirror)
+  where
+    told : (told : Option (List (List ℕ))) → IsSome told → m'.told ≡ option_map (λ _. zero_buckets buckets) told
+        → m'.told ≡ Some (zero_buckets buckets)
+    told (Some all) some is = is
+    told None some is = absurd cc
+
+-- where no reply was altered there is no forgery
+pub none_forged : (keys : Keys) (log : LogLists) → log.altered ≡ [] → Forgery keys log → ⊥
+none_forged keys log none forged = subst (λ (l : List Altered). Has forged.reply l) none forged.altered
+
+-- The moves of a run are all that was asked of the memory, where its log was empty.
+pub all_asked : (m m' m2 : MemoryState) (t t' t2 : TapState) → t.log.moves ≡ [] → m'.moved ≡ m.moved
+    → t'.log ≡ t.log → AsksMoves m' m2 t' t2 → m2.moved ≡ m.moved + length t2.log.moves
+all_asked m m' m2 t t' t2 none moved log asked =
+    let first : length t'.log.moves ≡ 0 = ap (λ (l : LogLists). length l.moves) log ∙ ap length none in
+    omega (arith, first, moved, asked)

@@ -7,7 +7,7 @@ use Rattle.bus_watch.specs.Tied.{Tied, TiedAt}
 use Rattle.epoch_learner.specs.Stands.{KeepsPace}
 use Rattle.oram_frontend.specs.Oram.{OramState}
 use Rattle.rate_enforcer.specs.PortStep.{PortState, KeepsCount}
-use Rattle.secure_machine.specs.Goes.{Goes, Breaks}
+use Rattle.secure_machine.specs.Goes.{Goes, Breaks, Unaltered, Asks}
 use Rattle.secure_machine.specs.Timed.{Serving}
 use Rattle.secure_machine.specs.declared.machine.Cause.{Cause}
 use Rattle.secure_machine.specs.declared.machine.Cause.TheVariants.{Ends, Stops}
@@ -61,6 +61,8 @@ pub record Settled (budget instructions cycles : ℕ) (ending : Ending) (last : 
   pub cause : ending ≡ Device → Rose old.memory.faults new.memory.faults
   pub pace : KeepsPace old.clock.config last new.tap.log
   pub right : IsRightEnding budget old.clock.config.time instructions cycles last ending
+  pub unaltered : Unaltered old new
+  pub asked : Asks old new
 
 -- What want of memory leaves: up to some time the log keeps the pace, and all is tied, but what the last move left.
 pub record Short (old new : PortState) : Type 0 where
@@ -70,3 +72,5 @@ pub record Short (old new : PortState) : Type 0 where
   pub later : old.memory.faults ≤ new.memory.faults
   pub end : ℕ
   pub pace : KeepsPace old.clock.config end new.tap.log
+  pub unaltered : Unaltered old new
+  pub asked : Asks old new

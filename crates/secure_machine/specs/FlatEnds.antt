@@ -62,9 +62,9 @@ FlatEnds instructions machine memory Device = Unit {0}
 -- bytes: it finishes as many, leaves this machine, and ends so.
 pub record IsFlat (instructions : ℕ) (machine : Machine) (memory : List ℕ) (ending : Ending) (last : Machine) : Type 0
   where
-  pub finished : (flat_run instructions machine memory).instructions ≡ instructions
-  pub leaves : (flat_run instructions machine memory).machine ≡ last
-  pub ends : FlatEnds instructions machine memory ending
+    pub finished : (flat_run instructions machine memory).instructions ≡ instructions
+    pub leaves : (flat_run instructions machine memory).machine ≡ last
+    pub ends : FlatEnds instructions machine memory ending
 
 -- the same where no more instructions come, by itself or by a stop
 abbrev pub CauseRuns : (instructions : ℕ) → Machine → List ℕ → Cause → Machine → Type 0

@@ -1,15 +1,32 @@
 -- What requests leave of a port, however many there were: answered ones, and one that is stopped.
-use Rattle.std.specs.Prelude.{◌≡◌, ◌≤◌, ℕ, List}
+use Rattle.std.specs.Prelude.{◌≡◌, ◌+◌, ◌≤◌, ℕ, List, length}
 use Rattle.asc_base.specs.declared.settings.Config.{Config}
 use Rattle.asc_base.specs.declared.stop.Stop.{Stop}
 use Rattle.asc_base.specs.declared.stop.Stop.TheVariants.{Integrity, StashFull, TimeUp, Device, NoMemory}
 use Rattle.asc_outside.specs.Memory.{MemoryState}
 use Rattle.asc_outside.specs.Rose.{Rose}
+use Rattle.bus_watch.specs.Honest.{TellsMirror}
+use Rattle.bus_watch.specs.Log.{TapState}
 use Rattle.bus_watch.specs.RunEnd.{RunEnd}
 use Rattle.bus_watch.specs.Tied.{Tied, TiedAt}
 use Rattle.epoch_learner.specs.Stands.{KeepsPace}
 use Rattle.rate_enforcer.specs.PortStep.{PortState, KeepsCount}
 use Rattle.rate_enforcer.specs.Stops.{IsEndOf}
+
+-- As many moves were asked of the memory as the log has more.
+abbrev pub AsksMoves : (memory memory' : MemoryState) (tap tap' : TapState) → Type 0
+AsksMoves memory memory' tap tap' =
+    memory'.moved + length tap.log.moves ≡ memory.moved + length tap'.log.moves
+
+abbrev pub Asks : PortState → PortState → Type 0
+Asks old new = AsksMoves old.memory new.memory old.tap new.tap
+
+-- No reply was altered, where the memory tells its buckets and they are the mirror's; and it goes on telling them so.
+abbrev pub Unaltered : PortState → PortState → Type 0
+Unaltered old new = TellsMirror old.memory old.tap → new.tap.log.altered ≡ old.tap.log.altered
+
+abbrev pub TellsOn : PortState → PortState → Type 0
+TellsOn old new = TellsMirror old.memory old.tap → TellsMirror new.memory new.tap
 
 -- The configuration is the same, what was counted is counted, what was tied is tied, and faults and slots were only
 -- added to.
@@ -20,6 +37,9 @@ pub record Goes (old new : PortState) : Type 0 where
       → Tied start buckets new.memory new.tap
   pub later : old.memory.faults ≤ new.memory.faults
   pub real : old.clock.real ≤ new.clock.real
+  pub unaltered : Unaltered old new
+  pub tells : TellsOn old new
+  pub asked : Asks old new
 
 -- Up to when the log keeps the pace after a stop. Where no slot is left, it does up to each time from the last end to
 -- the start of the slot that wasn't done, which isn't before the time of the settings.
@@ -44,3 +64,5 @@ pub record Breaks (stop : Stop) (old new : PortState) : Type 0 where
   pub later : old.memory.faults ≤ new.memory.faults
   pub cause : stop ≡ Device → Rose old.memory.faults new.memory.faults
   pub pace : PaceAt old.clock.config stop new
+  pub unaltered : Unaltered old new
+  pub asked : Asks old new

@@ -7,6 +7,7 @@ use Rattle.asc_outside.specs.Rose.{Rose}
 use Rattle.bus_schedule.specs.Scheduled.{log_code}
 use Rattle.bus_schedule.specs.Shown.{indices_of}
 use Rattle.bus_schedule.specs.Timetable.{public_of, count_of}
+use Rattle.bus_watch.specs.Honest.{TellsMirror}
 use Rattle.bus_watch.specs.Log.{TapState, LogLists}
 use Rattle.bus_watch.specs.RunEnd.{RanOut}
 use Rattle.bus_watch.specs.Tied.{Tied, TiedAt}
@@ -19,11 +20,12 @@ use Rattle.rv32_core.specs.FlatRun.{flat_run, machine_at_start, output_limit}
 use Rattle.rv32_core.specs.Machine.{Machine}
 use Rattle.secure_machine.specs.Finish.{IsRightEnding}
 use Rattle.secure_machine.specs.FlatEnds.{FlatEnds}
+use Rattle.secure_machine.specs.Goes.{AsksMoves}
 use Rattle.secure_machine.specs.declared.report.Ending.TheVariants.{Device}
 use Rattle.secure_machine.specs.declared.report.Report.{Report}
 
--- The code of a log is that of some indices, as many as it has choices, and there are no more such codes than the
--- budget of bits allows.
+-- A log's code is below the number of codes with so many digits as it has choices, and these are no more than the budget
+-- of bits allows.
 pub record IsInBudget (config : Config) (log : LogLists) : Type 0 where
   pub code : log_code (public_of config) log < count_of (public_of config) ^ length (indices_of log.events)
   pub few : count_of (public_of config) ^ length (indices_of log.events) ≤ 2 ^ config.leak
@@ -44,6 +46,8 @@ pub record Reported (config : Config) (report : Report) (memory memory' : Memory
   pub cause : report.ending ≡ Device → Rose memory.faults memory'.faults
   pub right : IsRightEnding config.budget config.time report.instructions report.cycles report.last
       report.ending
+  pub unaltered : TellsMirror memory tap → tap'.log.altered ≡ tap.log.altered
+  pub asked : AsksMoves memory memory' tap tap'
 
 -- Want of memory over a prepared bus: up to some time the log keeps the pace.
 pub record Wanting (config : Config) (memory memory' : MemoryState) (tap tap' : TapState) : Type 0 where
@@ -52,6 +56,8 @@ pub record Wanting (config : Config) (memory memory' : MemoryState) (tap tap' : 
   pub tied : (start : MemoryState) (buckets : List (List ℕ)) → Tied start buckets memory tap
       → TiedAt RanOut start buckets memory' tap'
   pub later : memory.faults ≤ memory'.faults
+  pub unaltered : TellsMirror memory tap → tap'.log.altered ≡ tap.log.altered
+  pub asked : AsksMoves memory memory' tap tap'
 
 -- The memory failed before the first slot: nothing was noted, and all numbers are 0.
 pub record IsUnprepared (report : Report) (tap tap' : TapState) : Type 0 where

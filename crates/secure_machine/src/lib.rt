@@ -21,7 +21,7 @@ pub use report::{Ending, Report};
 #[cfg(test)]
 mod tests;
 
-ghost use Rattle.std.specs.Prelude.{◌≡◌, ◌⊎◌, ◌<◌, ◌≤◌, ◌+◌, ◌*◌, ◌^◌, ℕ, [], IfOk, OnErr, length};
+ghost use Rattle.std.specs.Prelude.{◌≡◌, ◌⊎◌, ◌<◌, ◌≤◌, ◌+◌, ◌*◌, ◌^◌, ℕ, [], IfOk, IsSome, OnErr, length};
 ghost use Rattle.std.specs.List.{count_by};
 ghost use Rattle.asc_base.specs.Settings.{IsConfig};
 ghost use Rattle.asc_base.specs.TreeShape.{olat_of};
@@ -253,6 +253,11 @@ pub fn run<M: UntrustedMemory, W: Watch, L: LeafFn>(
         → Rose (M.state bus.old.memory.now).faults (M.state bus.new.memory.now).faults) }
     ensures right { IfOk result (λ report.
         IsRightEnding config.now.budget config.now.time report.instructions report.cycles report.last report.ending) }
+    ensures asked { (M.state bus.new.memory.now).moved
+        ≡ (M.state bus.old.memory.now).moved + length (W.state bus.new.tap.now).log.moves }
+    ensures unaltered { IsSome (M.state bus.old.memory.now).told → (W.state bus.new.tap.now).log.altered ≡ [] }
+    ensures flat { IsSome (M.state bus.old.memory.now).told
+        → IfOk result (IsFlatReport config.now image.now input.now) }
     ensures refines { IfOk result (λ report.
         Forgery (chip_keys config.now codec tagger (L.leaf_of leaf)) (W.state bus.new.tap.now).log
         ⊎ IsFlatReport config.now image.now input.now report) }

@@ -1,9 +1,13 @@
-use Rattle.std.proofs.Common.{◌∙◌, inl, inr, refl, sym, ap, subst}
+use Rattle.std.proofs.Common.{◌+◌, ◌∙◌, inl, inr, min, refl, sym, ap, subst, arith}
+use Rattle.asc_base.specs.declared.settings.Config.{Config}
 use Rattle.rv32_core.specs.FlatMachine.{FlatStep}
 use Rattle.rv32_core.specs.StepPlan.{machine_of}
 use Rattle.secure_machine.specs.FlatEnds.{HaltsFlat}
 use Rattle.secure_machine.specs.Refines.{CauseUnblamed}
+use Rattle.secure_machine.specs.Runs.{HaltsOver}
 use Rattle.secure_machine.specs.declared.machine.Halted.{Halted}
+use Rattle.secure_machine.specs.declared.report.Ending.TheVariants.{Exit, Trap}
+use Rattle.secure_machine.proofs.LineChains.{ends_after}
 use Rattle.secure_machine.proofs.machine.instruction.Goals as goal
 
 pub returns-in-No-clause-refines : goal.returns-in-No-clause-refines
@@ -60,3 +64,24 @@ returns-in-Trap-clause-honest g c memory lawful core known =
       | inl forged ↦ (c.step.new.cache, memory, inl forged)
       | inr (now, step, stands) ↦ (c.step.new.cache, now, inr stands)
     ])
+
+pub returns-in-Exit-clause-halts : goal.returns-in-Exit-clause-halts
+returns-in-Exit-clause-halts g c =
+    let config = ap (λ (config : Config). config.time) c.in-Ok.ensures.onwards.goes.config in
+    subst (λ (h : Halted). HaltsOver g.M.UntrustedMemory.state g.W.Watch.state g.L.LeafFn.levels c.args.budget h
+    c.args.lines.now c.step.new.lines) (sym c.ended-in-Exit.ensures)
+    (ends_after g.M.UntrustedMemory.state g.W.Watch.state g.L.LeafFn.leaf_of g.L.LeafFn.levels c.args.budget
+    (c.args.before + 1) c.step.new.lines.clock c.min.result (Exit c.in-Exit.status) c.args.lines.now c.step.new.lines
+    c.in-Ok.ensures.onwards (omega (arith, c.min.ensures, c.time-time.ensures, config))
+    (c.min.ensures ∙ ap (min c.step.new.lines.clock) c.time-time.ensures))
+
+pub returns-in-Trap-clause-halts : goal.returns-in-Trap-clause-halts
+returns-in-Trap-clause-halts g c =
+    let config = ap (λ (config : Config). config.time) c.in-Ok.ensures.onwards.goes.config in
+    let start = c.args.lines.now.clock in
+    subst (λ (h : Halted). HaltsOver g.M.UntrustedMemory.state g.W.Watch.state g.L.LeafFn.levels c.args.budget h
+    c.args.lines.now c.step.new.lines) (sym c.ended-in-Trap.ensures)
+    (ends_after g.M.UntrustedMemory.state g.W.Watch.state g.L.LeafFn.leaf_of g.L.LeafFn.levels c.args.budget
+    c.args.before start start (Trap c.in-Trap.kind c.in-Trap.pc) c.args.lines.now c.step.new.lines
+    c.in-Ok.ensures.onwards (omega (arith, c.if-start-time.false, c.time-time.ensures, config))
+    (omega (arith, c.if-start-time.false, c.time-time.ensures)))
