@@ -261,6 +261,8 @@ pub fn run<M: UntrustedMemory, W: Watch, L: LeafFn>(
     ensures refines { IfOk result (λ report.
         Forgery (chip_keys config.now codec tagger (L.leaf_of leaf)) (W.state bus.new.tap.now).log
         ⊎ IsFlatReport config.now image.now input.now report) }
+    ensures flat_unaltered { (W.state bus.new.tap.now).log.altered ≡ []
+        → IfOk result (IsFlatReport config.now image.now input.now) }
     ensures honest { (W.state bus.new.tap.now).log.altered ≡ []
         → IfOk result (λ report. (evidence : Evidence) → report.ending ≡ Ending.Integrity evidence → ⊥) }
 {

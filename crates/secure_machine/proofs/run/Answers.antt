@@ -1,5 +1,4 @@
-use Rattle.std.proofs.Common.{◌≡◌, ◌≤◌, ◌<◌, ◌+◌, ◌*◌, ◌^◌, ◌∙◌, ℕ, List, [], sym, ap, subst, inl, inr, arith, length}
-use Rattle.std.proofs.lemmas.Nat.{mul-le}
+use Rattle.std.proofs.Common.{◌≡◌, ◌<◌, ◌+◌, ◌^◌, ◌∙◌, ℕ, List, [], sym, ap, subst, inl, inr, arith, length}
 use Rattle.std.proofs.lemmas.Result.{IfOk-weaker}
 use Rattle.std.proofs.Math.Pow.{pow_mono}
 use Rattle.std.specs.List.{count_by}
@@ -187,15 +186,24 @@ returns-in-Ok-clause-unaltered g c some =
     (t2.log.altered ≡ []) c.run_prepared.result c.run_prepared.ensures.reported c.run_prepared.ensures.wanting
     (λ report r. r.unaltered tells ∙ before) (λ w. w.unaltered tells ∙ before)
 
-pub returns-in-Ok-clause-flat : goal.returns-in-Ok-clause-flat
-returns-in-Ok-clause-flat g c some =
+pub returns-in-Ok-clause-flat_unaltered : goal.returns-in-Ok-clause-flat_unaltered
+returns-in-Ok-clause-flat_unaltered g c none =
     let config = c.args.config.now in
     let keys = chip_keys config c.args.codec c.args.tagger (g.L.LeafFn.leaf_of c.args.leaf) in
     let log = (g.W.Watch.state c.run_prepared.new.bus.tap.now).log in
     IfOk-weaker c.run_prepared.result _ _ (λ report known. elim known [
-      | inl forged ↦ absurd (none_forged keys log (returns-in-Ok-clause-unaltered g c some) forged)
+      | inl forged ↦ absurd (none_forged keys log none forged)
       | inr flat ↦ flat
     ]) (returns-in-Ok-clause-refines g c)
+
+pub returns-in-Ok-clause-flat : goal.returns-in-Ok-clause-flat
+returns-in-Ok-clause-flat g c some = returns-in-Ok-clause-flat_unaltered g c (returns-in-Ok-clause-unaltered g c some)
+
+pub returns-in-Err-Device-clause-flat_unaltered : goal.returns-in-Err-Device-clause-flat_unaltered
+returns-in-Err-Device-clause-flat_unaltered g c none =
+    let tap = g.W.Watch.state c.args.bus.now.tap.now in
+    unprepared_flat c.args.config.now c.args.image.now c.args.input.now c.unprepared.result tap tap
+    (c.unprepared.ensures tap)
 
 pub returns-in-Err-Device-clause-flat : goal.returns-in-Err-Device-clause-flat
 returns-in-Err-Device-clause-flat g c some =

@@ -3,7 +3,7 @@ use Rattle.std.proofs.lemmas.Result.{IfOk-weaker}
 use Rattle.asc_base.specs.declared.stop.Stop.{Stop}
 use Rattle.asc_base.specs.declared.stop.Stop.TheVariants.{TimeUp}
 use Rattle.oram_lines.proofs.LineLaws.{forgery_call, forgery_stop}
-use Rattle.secure_machine.specs.FlatEnds.{CauseRuns, ending_by}
+use Rattle.secure_machine.specs.FlatEnds.{CauseRuns}
 use Rattle.secure_machine.specs.Refines.{CauseUnblamed}
 use Rattle.secure_machine.proofs.FlatLaws.{prefix_ends, ended_stops, evidence_named}
 use Rattle.secure_machine.proofs.Refining.{forged_now, wait_unblamed}

@@ -1,8 +1,8 @@
-use Rattle.std.proofs.Common.{◌≡◌, ◌∙◌, ◌*◌, ◌⊎◌, ℕ, List, inl, inr, refl, sym, ap, subst, arith}
+use Rattle.std.proofs.Common.{◌≡◌, ◌∙◌, ◌*◌, inl, inr, refl, sym, ap, subst, arith}
 use Rattle.encrypted_run.specs.Refined.{loaded}
 use Rattle.oram_contents.specs.Entries.{AreKeys}
 use Rattle.rv32_core.specs.StepPlan.{machine_of}
-use Rattle.secure_machine.specs.FlatEnds.{HaltsFlat, HaltsRun}
+use Rattle.secure_machine.specs.FlatEnds.{HaltsFlat}
 use Rattle.secure_machine.specs.Refines.{CauseUnblamed}
 use Rattle.secure_machine.specs.declared.machine.Halted.{Halted}
 use Rattle.secure_machine.proofs.FlatLaws.{reaches_none, reaches_more, halts_run}
