@@ -13,12 +13,13 @@ use Rattle.rate_enforcer.specs.Counts.{is_dummy, is_real, is_answered}
 use Rattle.secure_machine.specs.Finish.{IsRightEnding}
 use Rattle.oram_contents.specs.Entries.{Keys, AreKeys}
 use Rattle.oram_contents.specs.Forgery.{Forgery}
+use Rattle.oram_lines.proofs.HonestTriples.{unforged}
 use Rattle.rv32_core.specs.FlatRun.{output_limit}
 use Rattle.rv32_core.specs.Machine.{FilesState}
 use Rattle.secure_machine.specs.Run.{Reported, Wanting, IsFlatReport, IsUnprepared, chip_keys, IsInBudget}
 use Rattle.secure_machine.specs.declared.report.Ending.TheVariants.{Device, Integrity}
 use Rattle.secure_machine.specs.declared.report.Report.{Report}
-use Rattle.secure_machine.proofs.Starts.{on_err_with, on_err_so, on_both, start_pace, pace_bits, zero_tied, refused_tap, prepared_room, prepared_tells, all_asked, none_forged, log_empty, chip_lawful, pace_budget, start_budget, start_ends, empty_code}
+use Rattle.secure_machine.proofs.Starts.{on_err_with, on_err_so, on_both, start_pace, pace_bits, zero_tied, refused_tap, prepared_room, prepared_tells, all_asked, log_empty, chip_lawful, pace_budget, start_budget, start_ends, empty_code}
 use Rattle.secure_machine.proofs.ReportLaws.{unprepared_flat}
 use Rattle.secure_machine.specs.LastMove.{EndsWithMove}
 use Rattle.secure_machine.proofs.LastMoves.{ends_with_move}
@@ -192,7 +193,7 @@ returns-in-Ok-clause-flat_unaltered g c none =
     let keys = chip_keys config c.args.codec c.args.tagger (g.L.LeafFn.leaf_of c.args.leaf) in
     let log = (g.W.Watch.state c.run_prepared.new.bus.tap.now).log in
     IfOk-weaker c.run_prepared.result _ _ (λ report known. elim known [
-      | inl forged ↦ absurd (none_forged keys log none forged)
+      | inl forged ↦ absurd (unforged keys log forged none)
       | inr flat ↦ flat
     ]) (returns-in-Ok-clause-refines g c)
 
