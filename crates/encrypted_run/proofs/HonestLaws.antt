@@ -44,7 +44,7 @@ module _ (keys : Keys) (lawful : AreKeys keys) (levels : ℕ) where
       evidence x.holds (below, whole) serves one none
 
   -- a plan of requests
-  plan_blameless : {B A : Type 0} (plan : Plan LineRequest (List ℕ) B A) (list : List (List ℕ)) (old new : OramState)
+  pub plan_blameless : {B A : Type 0} (plan : Plan LineRequest (List ℕ) B A) (list : List (List ℕ)) (old new : OramState)
       (evidence : Evidence) (left : B) → HoldsList keys levels list old → old.stop ≡ None
       → Stops (OramLine keys levels) plan old new (Integrity evidence) left → new.port.tap.log.altered ≡ [] → ⊥
   plan_blameless (Done x) list old new evidence left held serves stops none = stops

@@ -1,11 +1,12 @@
 -- What a run over an encrypted memory finishes is what the flat machine does, instruction by instruction.
-use Rattle.std.proofs.Common.{◌≡◌, ◌+◌, ◌⊎◌, ℕ, List, Ok, Some, None, refl, sym, ap, subst, ◌∙◌, inl, inr, arith}
+use Rattle.std.proofs.Common.{◌≡◌, ◌+◌, ℕ, List, Some, refl, sym, ap, subst, ◌∙◌, arith}
 use Rattle.std.specs.Int.{from_le_bytes, w32}
+use Rattle.asc_base.specs.declared.stop.Evidence.{Evidence}
 use Rattle.asc_base.specs.declared.stop.Stop.{Stop}
 use Rattle.asc_base.specs.declared.stop.Stop.TheVariants as why
 use Rattle.encrypted_run.specs.Refined.{IsPrefix}
 use Rattle.rv32_core.specs.FlatMachine.{FlatStep, flat_step, effected, bytes_at}
-use Rattle.rv32_core.specs.FlatRun.{FlatRun, Exited, Trapped, Budget as FlatBudget, finished_before, flat_run, run_from, gone_on}
+use Rattle.rv32_core.specs.FlatRun.{FlatRun, Budget as FlatBudget, finished_before, flat_run, run_from, gone_on}
 use Rattle.rv32_core.specs.Machine.{Machine, is_inside, cost_of_word, effect_of_word}
 use Rattle.rv32_core.specs.declared.effect.Effect.{Effect}
 use Rattle.rv32_core.specs.declared.effect.Effect.TheVariants.{Passes, Sets, Jumps, Loads, Stores, Answers, Breaks, Reads, Writes, Exits, Traps}
@@ -184,3 +185,12 @@ ended_stops n machine last memory before ending why.Device in_time is flat =
     subst (λ (e : Ending). IsFlat n machine memory e last) (let e : Device ≡ ending = cc in e)
     (record { finished = flat.finished; leaves = flat.leaves; ends = tt })
 ended_stops n machine last memory before ending why.NoMemory in_time is flat = absurd cc
+
+-- an ending by evidence is that of the stop with this evidence
+pub evidence_named : (stop : Stop) (evidence : Evidence) → ending_by stop ≡ Some (Integrity evidence)
+    → stop ≡ why.Integrity evidence
+evidence_named (why.Integrity other) evidence is = cc
+evidence_named (why.StashFull held) evidence is = absurd cc
+evidence_named (why.TimeUp at) evidence is = absurd cc
+evidence_named why.Device evidence is = absurd cc
+evidence_named why.NoMemory evidence is = absurd cc

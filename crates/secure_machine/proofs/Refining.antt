@@ -16,16 +16,20 @@ use Rattle.data_cache.specs.Lines.{LineRequest, Fetch, Store}
 use Rattle.encrypted_run.specs.Refined.{OramLine, Computes, loaded}
 use Rattle.data_cache.specs.CacheLists.{line_in}
 use Rattle.encrypted_run.proofs.RefinedLaws.{forgery_plan, instruction_refines, line_refines}
+use Rattle.encrypted_run.proofs.HonestLaws.{plan_blameless, wait_clear}
 use Rattle.encrypted_run.proofs.StopLaws.{plan_stop}
 use Rattle.oram_contents.specs.Entries.{Keys, AreKeys}
 use Rattle.oram_contents.specs.Forgery.{Forgery}
-use Rattle.oram_frontend.specs.Oram.{OramState}
+use Rattle.oram_frontend.specs.Oram.{OramState, OramStep, Wait}
+use Rattle.oram_lines.proofs.HonestTriples.{unforged}
+use Rattle.oram_lines.proofs.LineLaws.{forgery_stop}
 use Rattle.rv32_core.specs.Access.{spliced}
 use Rattle.rv32_core.specs.FlatMachine.{flat_step}
 use Rattle.rv32_core.specs.Machine.{Machine, IsCore}
 use Rattle.rv32_core.specs.StepPlan.{step_plan}
 use Rattle.rv32_core.specs.declared.outcome.Done.{Done as Finished}
-use Rattle.secure_machine.specs.Refines.{IsForged, StandFor, Knows}
+use Rattle.secure_machine.specs.Refines.{IsForged, StandFor, Knows, IsUnblamed}
+use Rattle.secure_machine.specs.Timed.{Serving}
 use Rattle.secure_machine.specs.Runs.{Ready}
 use Rattle.secure_machine.specs.Same.{IsSameLines, timed_of, keys_in, oram_over}
 use Rattle.oram_frontend.specs.declared.oram.Oram.{Oram}
@@ -83,10 +87,12 @@ module _ {M W L : Type 0} (memory_of : M → MemoryState) (tap_of : W → TapSta
       ap (λ (shape : Shape). shape.lines) (sym same.tree.shape ∙ can.serving.serves.rests.is_for.shape) ∙ can.lines in
       (omega (arith, count, below), whole, none, s.clock, t.clock, step)
 
-  line_stop : (s t : Lines) (request : LineRequest) (stop : Stop) → Step s request (Err stop) t
-      → OramLine (keys_in leaf_of s) (levels s) (oram s) request (Err stop) (oram t)
-  line_stop s t (Fetch line) stop h = (s.clock, h.1.0)
-  line_stop s t (Store line value) stop h = (s.clock, h.1.0)
+  line_stop : (s t : Lines) (request : LineRequest) (stop : Stop) → (keys_in leaf_of s).shape.lines ≡ s.count
+      → Step s request (Err stop) t → OramLine (keys_in leaf_of s) (levels s) (oram s) request (Err stop) (oram t)
+  line_stop s t (Fetch line) stop count (same, (step, fetches, clock, below)) =
+      (omega (arith, count, below), s.clock, step)
+  line_stop s t (Store line value) stop count (same, (step, fetches, clock, below, whole)) =
+      (omega (arith, count, below), whole, s.clock, step)
 
   -- requests that were answered
   pub chain_calls : {B A : Type 0} (plan : Plan LineRequest (List ℕ) B A) (s t : Lines) (a : A) (keys : Keys) (n : ℕ)
@@ -103,22 +109,24 @@ module _ {M W L : Type 0} (memory_of : M → MemoryState) (tap_of : W → TapSta
 
   -- and up to one that was stopped
   pub chain_stops : {B A : Type 0} (plan : Plan LineRequest (List ℕ) B A) (s t : Lines) (stop : Stop) (left : B)
-      (keys : Keys) (n : ℕ) → keys_in leaf_of s ≡ keys → levels s ≡ n → Stops Step plan s t stop left
+      (keys : Keys) (n : ℕ) → keys_in leaf_of s ≡ keys → levels s ≡ n → keys.shape.lines ≡ s.count
+      → Stops Step plan s t stop left
       → Stops (OramLine keys n) plan (oram s) (oram t) stop left × IsSameLines s t
-  chain_stops (Done x) s t stop left keys n is at stops = absurd stops
-  chain_stops (Ask q b k) s t stop left keys n is at (inl (one, leaves)) = (
+  chain_stops (Done x) s t stop left keys n is at count stops = absurd stops
+  chain_stops (Ask q b k) s t stop left keys n is at count (inl (one, leaves)) = (
     inl (
       subst (λ m. OramLine keys m (oram s) q (Err stop) (oram t)) at
-          (subst (λ (z : Keys). OramLine z (levels s) (oram s) q (Err stop) (oram t)) is (line_stop s t q stop one)),
+          (subst (λ (z : Keys). OramLine z (levels s) (oram s) q (Err stop) (oram t)) is
+          (line_stop s t q stop (ap (λ (z : Keys). z.shape.lines) is ∙ count) one)),
       leaves,
     ),
     one.0,
   )
-  chain_stops (Ask q b k) s t stop left keys n is at (inr (x, mid, one, rest)) =
+  chain_stops (Ask q b k) s t stop left keys n is at count (inr (x, mid, one, rest)) =
       let call = subst (λ m. OramLine keys m (oram s) q (Ok x) (oram mid)) at
       (subst (λ (z : Keys). OramLine z (levels s) (oram s) q (Ok x) (oram mid)) is (line_call s mid q x one)) in
       let (calls, same) = chain_stops (k x) mid t stop left keys n (keys_same s mid one.0 ∙ is)
-      (ap levels_of one.0.leaves ∙ at) rest in
+      (ap levels_of one.0.leaves ∙ at) (count ∙ sym one.0.count) rest in
       (inr (x, oram mid, call, calls), same_then one.0 same)
 
   -- what is known with the keys of before is known with those of now
@@ -231,12 +239,45 @@ module _ {M W L : Type 0} (memory_of : M → MemoryState) (tap_of : W → TapSta
 
   -- A forgery stays over requests of which the last was stopped.
   pub stop_forged : {B A : Type 0} (plan : Plan LineRequest (List ℕ) B A) (s t : Lines) (stop : Stop) (left : B)
-      → AreKeys (keys_in leaf_of s) → Stops Step plan s t stop left → IsForged memory_of tap_of leaf_of levels_of s
-      → IsForged memory_of tap_of leaf_of levels_of t
-  stop_forged plan s t stop left lawful stops forged =
-      let (calls, same) = chain_stops plan s t stop left (keys_in leaf_of s) (levels s) refl refl stops in
+      → AreKeys (keys_in leaf_of s) → Ready memory_of tap_of levels_of s → Stops Step plan s t stop left
+      → IsForged memory_of tap_of leaf_of levels_of s → IsForged memory_of tap_of leaf_of levels_of t
+  stop_forged plan s t stop left lawful ready stops forged =
+      let (calls, same) = chain_stops plan s t stop left (keys_in leaf_of s) (levels s) refl refl (lines_in s ready)
+      stops in
       forged_now s t same (plan_stop (keys_in leaf_of s) lawful (levels s) plan (oram s)
       (oram t) stop left calls forged)
+
+  -- Where no reply was altered no request is stopped by evidence.
+  pub stop_unblamed : {B A : Type 0} (plan : Plan LineRequest (List ℕ) B A) (s t : Lines) (stop : Stop) (left : B)
+      (cache : Contents) (memory : List ℕ) → AreKeys (keys_in leaf_of s) → Ready memory_of tap_of levels_of s
+      → Knows memory_of tap_of leaf_of levels_of cache memory s → Stops Step plan s t stop left
+      → IsUnblamed stop (oram t).port.tap.log
+  stop_unblamed plan s t stop left cache memory lawful ready known stops evidence is none =
+      let (calls, same) = chain_stops plan s t stop left (keys_in leaf_of s) (levels s) refl refl (lines_in s ready)
+      stops in
+      elim known [
+        | inl forged ↦ unforged (keys_in leaf_of s) (oram t).port.tap.log
+            (plan_stop (keys_in leaf_of s) lawful (levels s) plan (oram s) (oram t) stop left calls forged) none
+        | inr stands ↦ plan_blameless (keys_in leaf_of s) lawful (levels s) plan stands.list (oram s) (oram t) evidence
+            left stands.held ready.serving.going
+            (subst (λ (e : Stop). Stops (OramLine (keys_in leaf_of s) (levels s)) plan (oram s) (oram t) e left) is
+            calls) none
+      ]
+
+  -- nor are the slots up to a time
+  pub wait_unblamed : (s t : Lines) (time : ℕ) (stop : Stop) (cache : Contents) (memory : List ℕ)
+      → AreKeys (keys_in leaf_of s) → Serving (levels s) (oram s)
+      → Knows memory_of tap_of leaf_of levels_of cache memory s
+      → OramStep (keys_in leaf_of s) (levels s) (oram s) (Wait time) (Err stop) (oram t)
+      → IsUnblamed stop (oram t).port.tap.log
+  wait_unblamed s t time stop cache memory lawful serving known step evidence is none = elim known [
+    | inl forged ↦ unforged (keys_in leaf_of s) (oram t).port.tap.log
+        (forgery_stop (keys_in leaf_of s) lawful (levels s) (oram s) (oram t) (Wait time) stop step forged) none
+    | inr stands ↦ wait_clear (keys_in leaf_of s) lawful (levels s) memory cache (oram s) (oram t) time evidence stands
+        serving.going
+        (subst (λ (e : Stop). OramStep (keys_in leaf_of s) (levels s) (oram s) (Wait time) (Err e) (oram t)) is step)
+        none
+  ]
 
   -- what is said of parts is said of lines with these parts
   pub at_parts : (F : Oram L → M → W → Type 0) (s : Lines) (o : Oram L) (m : M) (w : W) → s.memory.now ≡ m

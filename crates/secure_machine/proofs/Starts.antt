@@ -18,18 +18,15 @@ use Rattle.bus_schedule.specs.Shown.{indices_of, code_of}
 use Rattle.bus_watch.proofs.TiedLaws.{tied_start}
 use Rattle.bus_watch.specs.declared.bus.BusStop.{BusStop}
 use Rattle.bus_watch.specs.declared.bus.BusStop.TheVariants.{Device, NoMemory}
-use Rattle.asc_base.specs.Has.{Has}
 use Rattle.bus_watch.specs.Honest.{TellsMirror}
 use Rattle.bus_watch.specs.Log.{TapState, LogLists}
-use Rattle.bus_watch.specs.declared.log.Altered.{Altered}
-use Rattle.oram_contents.specs.Forgery.{Forgery}
 use Rattle.bus_watch.specs.Prepared.{IsPrepared}
 use Rattle.bus_watch.specs.Ready.{IsReady}
 use Rattle.bus_watch.specs.Tied.{Tied}
 use Rattle.epoch_learner.proofs.StandLaws.{stands_first, stands_pace}
 use Rattle.epoch_learner.specs.Stands.{KeepsPace}
 use Rattle.leaf_function.specs.Leaf.{AreLeaves}
-use Rattle.oram_contents.specs.Entries.{Keys, AreKeys}
+use Rattle.oram_contents.specs.Entries.{AreKeys}
 use Rattle.oram_contents.specs.Starts.{empty_log}
 use Rattle.oram_frontend.specs.Oram.{oram_of}
 use Rattle.oram_lines.specs.Lines.{IsNew}
@@ -238,10 +235,6 @@ prepared_tells buckets levels accesses m m' t t' some prepared =
         → m'.told ≡ Some (zero_buckets buckets)
     told (Some all) some is = is
     told None some is = absurd cc
-
--- where no reply was altered there is no forgery
-pub none_forged : (keys : Keys) (log : LogLists) → log.altered ≡ [] → Forgery keys log → ⊥
-none_forged keys log none forged = subst (λ (l : List Altered). Has forged.reply l) none forged.altered
 
 -- The moves of a run are all that was asked of the memory, where its log was empty.
 pub all_asked : (m m' m2 : MemoryState) (t t' t2 : TapState) → t.log.moves ≡ [] → m'.moved ≡ m.moved

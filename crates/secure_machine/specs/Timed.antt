@@ -35,8 +35,7 @@ abbrev pub KeepsNoted : TimedState → TimedState → Type 0
 KeepsNoted old new = AreNoted old → AreNoted new
 
 -- A line that there is is asked for at the clock, which becomes the end of the last slot that it took. A stop leaves
--- the
--- clock.
+-- the clock.
 module _ (keys : Keys) (levels count : ℕ) where
   abbrev pub TimedStep : TimedState → LineRequest → Result (List ℕ) Stop → TimedState → Type 0
   TimedStep old (Fetch line) (Ok bytes) new =
@@ -45,14 +44,14 @@ module _ (keys : Keys) (levels count : ℕ) where
       × (new.fetches ≡ old.fetches + 1) × IsLine bytes × CanAsk levels count new × (line < count)
   TimedStep old (Fetch line) (Err stop) new =
       OramStep keys levels old.oram (OramFetch old.clock line) (Err stop) new.oram
-      × (new.fetches ≡ old.fetches) × (new.clock ≡ old.clock)
+      × (new.fetches ≡ old.fetches) × (new.clock ≡ old.clock) × (line < count)
   TimedStep old (Store line value) (Ok bytes) new =
       OramStep keys levels old.oram (OramStore old.clock line (record { 0 = value }))
       (Ok (record { line = None; end = new.clock })) new.oram
       × (new.fetches ≡ old.fetches) × (bytes ≡ []) × CanAsk levels count new × (line < count) × (length value ≡ 64)
   TimedStep old (Store line value) (Err stop) new =
       OramStep keys levels old.oram (OramStore old.clock line (record { 0 = value })) (Err stop) new.oram
-      × (new.fetches ≡ old.fetches) × (new.clock ≡ old.clock)
+      × (new.fetches ≡ old.fetches) × (new.clock ≡ old.clock) × (line < count) × (length value ≡ 64)
 
 -- a fetch answers a line, and a store nothing
 pub answers_lines : (keys : Keys) (levels count : ℕ) (old new : TimedState) (request : LineRequest) (bytes : List ℕ)

@@ -25,6 +25,7 @@ ghost use Rattle.std.specs.Prelude.{◌≡◌, ◌⊎◌, ◌<◌, ◌≤◌, �
 ghost use Rattle.std.specs.List.{count_by};
 ghost use Rattle.asc_base.specs.Settings.{IsConfig};
 ghost use Rattle.asc_base.specs.TreeShape.{olat_of};
+ghost use Rattle.asc_base.specs.declared.stop.Evidence.{Evidence};
 ghost use Rattle.asc_outside.specs.Memory.{MemoryState, zero_buckets};
 ghost use Rattle.asc_outside.specs.Rose.{Rose};
 ghost use Rattle.bus_schedule.specs.Scheduled.{log_code};
@@ -181,6 +182,9 @@ fn run_prepared<M: UntrustedMemory, W: Watch, L: LeafFn>(
     ensures refines { AreKeys (keys_of oram.port.tree oram.tagger (L.leaf_of oram.port.leaves)) → IfOk result (λ report.
         Forgery (keys_of oram.port.tree oram.tagger (L.leaf_of oram.port.leaves)) (W.state bus.new.tap.now).log
         ⊎ IsFlatReport config.now image.now files.input report) }
+    ensures honest { AreKeys (keys_of oram.port.tree oram.tagger (L.leaf_of oram.port.leaves))
+        → (W.state bus.new.tap.now).log.altered ≡ []
+        → IfOk result (λ report. (evidence : Evidence) → report.ending ≡ Ending.Integrity evidence → ⊥) }
     ensures reported { IfOk result (λ report. Reported config.now report (M.state bus.old.memory.now)
         (M.state bus.new.memory.now) (W.state bus.old.tap.now) (W.state bus.new.tap.now)) }
     ensures wanting { OnErr result (Wanting config.now (M.state bus.old.memory.now)
@@ -257,6 +261,10 @@ pub fn run<M: UntrustedMemory, W: Watch, L: LeafFn>(
     ensures refines { IfOk result (λ report.
         Forgery (chip_keys config.now codec tagger (L.leaf_of leaf)) (W.state bus.new.tap.now).log
         ⊎ IsFlatReport config.now image.now input.now report) }
+    ensures flat_unaltered { (W.state bus.new.tap.now).log.altered ≡ []
+        → IfOk result (IsFlatReport config.now image.now input.now) }
+    ensures honest { (W.state bus.new.tap.now).log.altered ≡ []
+        → IfOk result (λ report. (evidence : Evidence) → report.ending ≡ Ending.Integrity evidence → ⊥) }
 {
     leaf.gives_leaves();
     let files = Files::new(alloc, input, OUTPUT_LIMIT)?;

@@ -13,7 +13,7 @@ ghost use Rattle.rv32_core.specs.StepPlan.{machine_of};
 ghost use Rattle.rv32_core.specs.declared.outcome.Done.{Done as DoneValue};
 ghost use Rattle.rv32_core.specs.declared.outcome.Ended.TheVariants.{No};
 ghost use Rattle.secure_machine.specs.FlatEnds.{HaltsFlat, HaltsRun, IsFlat, ending_by};
-ghost use Rattle.secure_machine.specs.Refines.{IsForged, StandFor, Knows};
+ghost use Rattle.secure_machine.specs.Refines.{IsForged, StandFor, Knows, IsUnblamed, EndsUnblamed, CauseUnblamed};
 ghost use Rattle.std.specs.Prelude.{◌≡◌, ◌<◌, ◌*◌, ◌%◌, ℕ, Some, OnOk, IfOk, IfErr, MatchResult, vec_len};
 ghost use Rattle.std.specs.List.{count_by};
 ghost use Rattle.data_cache.specs.Contents.{CacheBelow};
@@ -123,6 +123,9 @@ fn load_line<M: UntrustedMemory, W: Watch, L: LeafFn>(
         (spliced memory (64 * line) (line_in image.now.bytes.items line)) lines.new)
         (λ _. IsForged M.state W.state L.leaf_of L.levels lines.old
         → IsForged M.state W.state L.leaf_of L.levels lines.new) }
+    ensures honest { (memory : List ℕ) → AreKeys (keys_in L.leaf_of lines.old)
+        → Knows M.state W.state L.leaf_of L.levels cache.old memory lines.old
+        → IfErr result (λ stop. IsUnblamed stop (timed_of M.state W.state lines.new).oram.port.tap.log) }
 {
     match cache.write_line(lines, line, &line_of(image, line)) {
         Ok(()) => {}
@@ -152,6 +155,9 @@ fn load<M: UntrustedMemory, W: Watch, L: LeafFn>(
         → Knows M.state W.state L.leaf_of L.levels cache.old memory lines.old
         → OnOk result (Knows M.state W.state L.leaf_of L.levels cache.new
         (loaded image.now.bytes.items image.now.marked.items memory) lines.new) }
+    ensures honest { (memory : List ℕ) → AreKeys (keys_in L.leaf_of lines.old)
+        → Knows M.state W.state L.leaf_of L.levels cache.old memory lines.old
+        → IfErr result (λ halted. CauseUnblamed M.state W.state L.leaf_of L.levels halted.cause lines.new) }
 {
     for at in 0..image.marked.len() {
         let start = lines.clock;
@@ -194,6 +200,9 @@ fn step<M: UntrustedMemory, W: Watch, L: LeafFn>(
         (λ _. (IsForged M.state W.state L.leaf_of L.levels lines.old
         → IsForged M.state W.state L.leaf_of L.levels lines.new)
         × (machine_of core.new files.new ≡ machine_of core.old files.old)) }
+    ensures honest { (memory : List ℕ) → AreKeys (keys_in L.leaf_of lines.old)
+        → Knows M.state W.state L.leaf_of L.levels cache.old memory lines.old
+        → IfErr result (λ stop. IsUnblamed stop (timed_of M.state W.state lines.new).oram.port.tap.log) }
 {
     let done = match step_cached(core, files, base, cache, lines) {
         Ok(done) => done,
@@ -237,6 +246,9 @@ fn instruction<M: UntrustedMemory, W: Watch, L: LeafFn>(
         × StandFor M.state W.state L.leaf_of L.levels cache.new now lines.new))
         (λ halted. IsForged M.state W.state L.leaf_of L.levels lines.new
         ⊎ HaltsFlat before (machine_of core.old files.old) memory halted (machine_of core.new files.new)) }
+    ensures honest { (memory : List ℕ) → AreKeys (keys_in L.leaf_of lines.old) → IsCore core.old
+        → Knows M.state W.state L.leaf_of L.levels cache.old memory lines.old
+        → IfErr result (λ halted. CauseUnblamed M.state W.state L.leaf_of L.levels halted.cause lines.new) }
 {
     let time = lines.time();
     let start = lines.clock;
@@ -284,6 +296,9 @@ fn play<M: UntrustedMemory, W: Watch, L: LeafFn>(
         → IsForged M.state W.state L.leaf_of L.levels lines.new
         ⊎ HaltsRun (machine_of core.old files.old) (loaded image.now.bytes.items image.now.marked.items memory) result
         (machine_of core.new files.new) }
+    ensures honest { (memory : List ℕ) → AreKeys (keys_in L.leaf_of lines.old) → IsCore core.old
+        → Knows M.state W.state L.leaf_of L.levels cache.old memory lines.old
+        → CauseUnblamed M.state W.state L.leaf_of L.levels result.cause lines.new }
 {
     match load(image, cache, lines, base, budget) {
         Ok(()) => {}
@@ -341,6 +356,9 @@ fn finish<M: UntrustedMemory, W: Watch, L: LeafFn>(
         → IsForged M.state W.state L.leaf_of L.levels lines.old ⊎ HaltsRun machine memory halted last
         → IfOk result (λ (ending, end). IsForged M.state W.state L.leaf_of L.levels lines.new
         ⊎ IsFlat halted.instructions machine memory ending last) }
+    ensures honest { AreKeys (keys_in L.leaf_of lines.old)
+        → CauseUnblamed M.state W.state L.leaf_of L.levels halted.cause lines.old
+        → IfOk result (λ (ending, end). EndsUnblamed ending (timed_of M.state W.state lines.new).oram.port.tap.log) }
     ensures fetches { KeepsNoted (timed_of M.state W.state lines.old) (timed_of M.state W.state lines.new) }
 {
     match halted.cause {
@@ -387,6 +405,12 @@ pub(crate) fn drive<M: UntrustedMemory, W: Watch, L: LeafFn>(
         (keys_of oram.old.port.tree oram.old.tagger (L.leaf_of oram.old.port.leaves)) (W.state bus.new.tap.now).log
         ⊎ IsFlat course.instructions (machine_of core.old files.old)
         (loaded image.now.bytes.items image.now.marked.items memory) course.ending (machine_of core.new files.new)) }
+    ensures honest { (memory : List ℕ)
+        → AreKeys (keys_of oram.old.port.tree oram.old.tagger (L.leaf_of oram.old.port.leaves)) → IsCore core.old
+        → Computes (keys_of oram.old.port.tree oram.old.tagger (L.leaf_of oram.old.port.leaves))
+        (L.levels oram.old.port.leaves) cache.old memory
+        (oram_over M.state W.state oram.old bus.old.memory.now bus.old.tap.now)
+        → IfOk result (λ course. EndsUnblamed course.ending (W.state bus.new.tap.now).log) }
     ensures fetches { count_by is_answered (W.state bus.old.tap.now).log.events ≡ 0
         → IfOk result (λ course. course.fetches ≡ count_by is_answered (W.state bus.new.tap.now).log.events) }
 {

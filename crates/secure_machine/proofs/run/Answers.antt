@@ -1,5 +1,4 @@
-use Rattle.std.proofs.Common.{◌≡◌, ◌≤◌, ◌<◌, ◌+◌, ◌*◌, ◌^◌, ◌∙◌, ℕ, List, [], sym, ap, subst, inl, inr, arith, length}
-use Rattle.std.proofs.lemmas.Nat.{mul-le}
+use Rattle.std.proofs.Common.{◌≡◌, ◌<◌, ◌+◌, ◌^◌, ◌∙◌, ℕ, List, [], sym, ap, subst, inl, inr, arith, length}
 use Rattle.std.proofs.lemmas.Result.{IfOk-weaker}
 use Rattle.std.proofs.Math.Pow.{pow_mono}
 use Rattle.std.specs.List.{count_by}
@@ -14,11 +13,13 @@ use Rattle.rate_enforcer.specs.Counts.{is_dummy, is_real, is_answered}
 use Rattle.secure_machine.specs.Finish.{IsRightEnding}
 use Rattle.oram_contents.specs.Entries.{Keys, AreKeys}
 use Rattle.oram_contents.specs.Forgery.{Forgery}
+use Rattle.oram_lines.proofs.HonestTriples.{unforged}
 use Rattle.rv32_core.specs.FlatRun.{output_limit}
 use Rattle.rv32_core.specs.Machine.{FilesState}
 use Rattle.secure_machine.specs.Run.{Reported, Wanting, IsFlatReport, IsUnprepared, chip_keys, IsInBudget}
+use Rattle.secure_machine.specs.declared.report.Ending.TheVariants.{Device, Integrity}
 use Rattle.secure_machine.specs.declared.report.Report.{Report}
-use Rattle.secure_machine.proofs.Starts.{on_err_with, on_err_so, on_both, start_pace, pace_bits, zero_tied, refused_tap, prepared_room, prepared_tells, all_asked, none_forged, log_empty, chip_lawful, pace_budget, start_budget, start_ends, empty_code}
+use Rattle.secure_machine.proofs.Starts.{on_err_with, on_err_so, on_both, start_pace, pace_bits, zero_tied, refused_tap, prepared_room, prepared_tells, all_asked, log_empty, chip_lawful, pace_budget, start_budget, start_ends, empty_code}
 use Rattle.secure_machine.proofs.ReportLaws.{unprepared_flat}
 use Rattle.secure_machine.specs.LastMove.{EndsWithMove}
 use Rattle.secure_machine.proofs.LastMoves.{ends_with_move}
@@ -186,15 +187,24 @@ returns-in-Ok-clause-unaltered g c some =
     (t2.log.altered ≡ []) c.run_prepared.result c.run_prepared.ensures.reported c.run_prepared.ensures.wanting
     (λ report r. r.unaltered tells ∙ before) (λ w. w.unaltered tells ∙ before)
 
-pub returns-in-Ok-clause-flat : goal.returns-in-Ok-clause-flat
-returns-in-Ok-clause-flat g c some =
+pub returns-in-Ok-clause-flat_unaltered : goal.returns-in-Ok-clause-flat_unaltered
+returns-in-Ok-clause-flat_unaltered g c none =
     let config = c.args.config.now in
     let keys = chip_keys config c.args.codec c.args.tagger (g.L.LeafFn.leaf_of c.args.leaf) in
     let log = (g.W.Watch.state c.run_prepared.new.bus.tap.now).log in
     IfOk-weaker c.run_prepared.result _ _ (λ report known. elim known [
-      | inl forged ↦ absurd (none_forged keys log (returns-in-Ok-clause-unaltered g c some) forged)
+      | inl forged ↦ absurd (unforged keys log forged none)
       | inr flat ↦ flat
     ]) (returns-in-Ok-clause-refines g c)
+
+pub returns-in-Ok-clause-flat : goal.returns-in-Ok-clause-flat
+returns-in-Ok-clause-flat g c some = returns-in-Ok-clause-flat_unaltered g c (returns-in-Ok-clause-unaltered g c some)
+
+pub returns-in-Err-Device-clause-flat_unaltered : goal.returns-in-Err-Device-clause-flat_unaltered
+returns-in-Err-Device-clause-flat_unaltered g c none =
+    let tap = g.W.Watch.state c.args.bus.now.tap.now in
+    unprepared_flat c.args.config.now c.args.image.now c.args.input.now c.unprepared.result tap tap
+    (c.unprepared.ensures tap)
 
 pub returns-in-Err-Device-clause-flat : goal.returns-in-Err-Device-clause-flat
 returns-in-Err-Device-clause-flat g c some =
@@ -399,3 +409,14 @@ returns-in-Err-NoMemory-clause-end_err g c =
     let old = (g.W.Watch.state c.args.bus.now.tap.now).log in
     subst (EndsWithMove c.args.config.now) (sym c.in-Err-NoMemory.ensures.prepared.log)
     (start_ends c.args.config.now old c.requires.config c.requires.no_events c.requires.no_moves)
+
+pub returns-in-Ok-clause-honest : goal.returns-in-Ok-clause-honest
+returns-in-Ok-clause-honest g c =
+    c.run_prepared.ensures.honest (subst AreKeys (sym c.in_ok-oram.ensures.keys)
+    (chip_lawful g.L.LeafFn.leaf_of g.L.LeafFn.levels c.args.config.now c.args.codec c.args.tagger c.args.leaf
+    c.requires.config c.requires.levels c.gives_leaves.ensures))
+
+pub returns-in-Err-Device-clause-honest : goal.returns-in-Err-Device-clause-honest
+returns-in-Err-Device-clause-honest g c none evidence is =
+    let tap = g.W.Watch.state c.args.bus.now.tap.now in
+    let bad : Device ≡ Integrity evidence = sym (c.unprepared.ensures tap).ending ∙ is in cc

@@ -26,3 +26,17 @@ returns-clause-refines g c memory lawful core stands =
           (same_then same c.finish.ensures.same) forged)
       | inr flat ↦ inr flat
     ]
+
+pub returns-clause-honest : goal.returns-clause-honest
+returns-clause-honest g c memory lawful core stands =
+    let keys = keys_by g.M.UntrustedMemory.state g.W.Watch.state g.L.LeafFn.leaf_of g.L.LeafFn.levels in
+    let same = c.play-halted.ensures.halts.same in
+    let lawful_first = subst (λ o. AreKeys (keys o)) (sym c.new-lines.ensures.oram) lawful in
+    let stands_first = at_parts g.M.UntrustedMemory.state g.W.Watch.state g.L.LeafFn.leaf_of g.L.LeafFn.levels
+    (StandBy g.M.UntrustedMemory.state g.W.Watch.state g.L.LeafFn.leaf_of g.L.LeafFn.levels c.args.cache.now memory)
+    c.new-lines.result c.args.oram.now c.args.bus.now.memory.now c.args.bus.now.tap.now c.new-lines.ensures.memory
+    c.new-lines.ensures.tap c.new-lines.ensures.oram stands in
+    c.in_ok-ending.ensures.honest
+    (subst AreKeys (sym (keys_same g.M.UntrustedMemory.state g.W.Watch.state g.L.LeafFn.leaf_of g.L.LeafFn.levels
+    c.new-lines.result c.play-halted.new.lines same)) lawful_first)
+    (c.play-halted.ensures.honest memory lawful_first core (inr stands_first))

@@ -1,14 +1,15 @@
-use Rattle.std.proofs.Common.{ℕ, ◌≡◌, Err, inl, inr, refl, sym, subst, ◌∙◌}
+use Rattle.std.proofs.Common.{ℕ, ◌≡◌, Err, Some, inl, inr, refl, sym, ap, subst, ◌∙◌}
 use Rattle.std.proofs.lemmas.Result.{IfOk-weaker}
 use Rattle.asc_base.specs.declared.stop.Stop.{Stop}
 use Rattle.asc_base.specs.declared.stop.Stop.TheVariants.{TimeUp}
 use Rattle.oram_lines.proofs.LineLaws.{forgery_call, forgery_stop}
-use Rattle.secure_machine.specs.FlatEnds.{CauseRuns, ending_by}
-use Rattle.secure_machine.proofs.FlatLaws.{prefix_ends, ended_stops}
-use Rattle.secure_machine.proofs.Refining.{forged_now}
+use Rattle.secure_machine.specs.FlatEnds.{CauseRuns}
+use Rattle.secure_machine.specs.Refines.{CauseUnblamed}
+use Rattle.secure_machine.proofs.FlatLaws.{prefix_ends, ended_stops, evidence_named}
+use Rattle.secure_machine.proofs.Refining.{forged_now, wait_unblamed}
 use Rattle.oram_frontend.specs.Oram.{OramStep, Wait}
 use Rattle.oram_frontend.specs.Slots.{FitKeys}
-use Rattle.secure_machine.specs.Finish.{HaltsBy}
+use Rattle.secure_machine.specs.Finish.{HaltsBy, IsOwnEnding}
 use Rattle.secure_machine.specs.Same.{timed_of, keys_in}
 use Rattle.secure_machine.specs.declared.machine.Cause.{Cause}
 use Rattle.secure_machine.proofs.OramGoes.{oram_goes, oram_breaks, wait_after, wait_in_time, wait_pace}
@@ -109,3 +110,32 @@ returns-in-Err-clause-fetches g c known =
     (timed_of g.M.UntrustedMemory.state g.W.Watch.state c.args.lines.now).oram
     (timed_of g.M.UntrustedMemory.state g.W.Watch.state c.idle_until.new.self).oram (Wait c.in-Ends.until)
     c.in-Err.stop c.in-Err.ensures.step)
+
+pub returns-in-Ok-clause-honest : goal.returns-in-Ok-clause-honest
+returns-in-Ok-clause-honest g c lawful unblamed =
+    let levels = g.L.LeafFn.levels c.args.lines.now.oram.now.port.leaves in
+    let old = (timed_of g.M.UntrustedMemory.state g.W.Watch.state c.args.lines.now).oram in
+    let by = subst (λ (cause : Cause). HaltsBy c.args.budget levels c.args.halted.instructions
+    c.args.halted.cycles cause c.requires.halts.0 old) c.in-Ends.is c.requires.halts.1 in
+    λ evidence is none. subst (IsOwnEnding c.args.budget (c.requires.halts.0).clock.config.time
+    c.args.halted.instructions c.args.halted.cycles c.in-Ends.until) is by.3
+
+pub returns-in-Err-clause-honest : goal.returns-in-Err-clause-honest
+returns-in-Err-clause-honest g c lawful unblamed =
+    let levels = g.L.LeafFn.levels c.args.lines.now.oram.now.port.leaves in
+    let old = (timed_of g.M.UntrustedMemory.state g.W.Watch.state c.args.lines.now).oram in
+    let by = subst (λ (cause : Cause). HaltsBy c.args.budget levels c.args.halted.instructions
+    c.args.halted.cycles cause c.requires.halts.0 old) c.in-Ends.is c.requires.halts.1 in
+    let (cache, memory, known) = subst (λ (cause : Cause). CauseUnblamed g.M.UntrustedMemory.state g.W.Watch.state
+    g.L.LeafFn.leaf_of g.L.LeafFn.levels cause c.args.lines.now) c.in-Ends.is unblamed in
+    IfOk-weaker c.ending_of.result _ _ (λ (ending, end) named evidence is none.
+    wait_unblamed g.M.UntrustedMemory.state g.W.Watch.state g.L.LeafFn.leaf_of g.L.LeafFn.levels c.args.lines.now
+    c.idle_until.new.self c.in-Ends.until c.in-Err.stop cache memory lawful by.1 known c.in-Err.ensures.step evidence
+    (evidence_named c.in-Err.stop evidence (named ∙ ap Some is)) none) c.ending_of.ensures.named
+
+pub returns-in-Stops-clause-honest : goal.returns-in-Stops-clause-honest
+returns-in-Stops-clause-honest g c lawful unblamed =
+    IfOk-weaker c.ending_of-in-Stops.result _ _ (λ (ending, end) named evidence is none.
+    subst (λ (cause : Cause). CauseUnblamed g.M.UntrustedMemory.state g.W.Watch.state g.L.LeafFn.leaf_of
+    g.L.LeafFn.levels cause c.args.lines.now) c.in-Stops.is unblamed evidence
+    (evidence_named c.in-Stops.stop evidence (named ∙ ap Some is)) none) c.ending_of-in-Stops.ensures.named

@@ -3,6 +3,7 @@ use Rattle.asc_base.specs.declared.settings.Config.{Config}
 use Rattle.rv32_core.specs.FlatMachine.{FlatStep}
 use Rattle.rv32_core.specs.StepPlan.{machine_of}
 use Rattle.secure_machine.specs.FlatEnds.{HaltsFlat}
+use Rattle.secure_machine.specs.Refines.{CauseUnblamed}
 use Rattle.secure_machine.specs.Runs.{HaltsOver}
 use Rattle.secure_machine.specs.declared.machine.Halted.{Halted}
 use Rattle.secure_machine.specs.declared.report.Ending.TheVariants.{Exit, Trap}
@@ -35,6 +36,34 @@ returns-in-Trap-clause-refines g c memory lawful core known =
           (sym c.ended-in-Trap.ensures)
           (refl, (ap (λ (s : FlatStep). s.done.ended) step ∙ c.in-Trap.is, ap (λ (s : FlatStep). s.machine) step)))
     ]
+
+pub returns-then-start-time-clause-honest : goal.returns-then-start-time-clause-honest
+returns-then-start-time-clause-honest g c memory lawful core known =
+    subst (λ (h : Halted). CauseUnblamed g.M.UntrustedMemory.state g.W.Watch.state g.L.LeafFn.leaf_of g.L.LeafFn.levels
+    h.cause c.args.lines.now) (sym c.ended.ensures) (c.args.cache.now, memory, known)
+
+pub returns-in-Err-clause-honest : goal.returns-in-Err-clause-honest
+returns-in-Err-clause-honest g c memory lawful core known =
+    subst (λ (h : Halted). CauseUnblamed g.M.UntrustedMemory.state g.W.Watch.state g.L.LeafFn.leaf_of g.L.LeafFn.levels
+    h.cause c.step.new.lines) (sym c.stopped.ensures) (c.in-Err.ensures.honest memory lawful known)
+
+pub returns-in-Exit-clause-honest : goal.returns-in-Exit-clause-honest
+returns-in-Exit-clause-honest g c memory lawful core known =
+    subst (λ (h : Halted). CauseUnblamed g.M.UntrustedMemory.state g.W.Watch.state g.L.LeafFn.leaf_of g.L.LeafFn.levels
+    h.cause c.step.new.lines) (sym c.ended-in-Exit.ensures)
+    (elim (c.in-Ok.ensures.refines memory lawful core known) [
+      | inl forged ↦ (c.step.new.cache, memory, inl forged)
+      | inr (now, step, stands) ↦ (c.step.new.cache, now, inr stands)
+    ])
+
+pub returns-in-Trap-clause-honest : goal.returns-in-Trap-clause-honest
+returns-in-Trap-clause-honest g c memory lawful core known =
+    subst (λ (h : Halted). CauseUnblamed g.M.UntrustedMemory.state g.W.Watch.state g.L.LeafFn.leaf_of g.L.LeafFn.levels
+    h.cause c.step.new.lines) (sym c.ended-in-Trap.ensures)
+    (elim (c.in-Ok.ensures.refines memory lawful core known) [
+      | inl forged ↦ (c.step.new.cache, memory, inl forged)
+      | inr (now, step, stands) ↦ (c.step.new.cache, now, inr stands)
+    ])
 
 pub returns-in-Exit-clause-halts : goal.returns-in-Exit-clause-halts
 returns-in-Exit-clause-halts g c =

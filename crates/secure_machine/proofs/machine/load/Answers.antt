@@ -2,7 +2,7 @@ use Rattle.std.proofs.Common.{refl, sym, subst, arith, take}
 use Rattle.encrypted_run.specs.Refined.{loaded}
 use Rattle.oram_contents.specs.Entries.{AreKeys}
 use Rattle.secure_machine.specs.FlatEnds.{HaltsFlat}
-use Rattle.secure_machine.specs.Refines.{Knows}
+use Rattle.secure_machine.specs.Refines.{Knows, CauseUnblamed}
 use Rattle.secure_machine.proofs.Refining.{keys_same, loaded_more}
 use Rattle.secure_machine.specs.Runs.{HaltsOver}
 use Rattle.secure_machine.specs.declared.machine.Halted.{Halted}
@@ -38,3 +38,14 @@ loop-at-preserved g c = record {
 pub returns-in-Err-clause-none : goal.returns-in-Err-clause-none
 returns-in-Err-clause-none g c machine memory =
     subst (λ (h : Halted). HaltsFlat 0 machine memory h machine) (sym c.stopped.ensures) (refl, refl)
+
+pub returns-in-Err-clause-honest : goal.returns-in-Err-clause-honest
+returns-in-Err-clause-honest g c memory lawful known =
+    let image = c.args.image.now.bytes.items in
+    let marked = c.args.image.now.marked.items in
+    subst (λ (h : Halted). CauseUnblamed g.M.UntrustedMemory.state g.W.Watch.state g.L.LeafFn.leaf_of g.L.LeafFn.levels
+    h.cause c.load_line.new.lines) (sym c.stopped.ensures)
+    (c.in-Err.ensures.honest (loaded image (take c.loop-at.at marked) memory)
+    (subst AreKeys (sym (keys_same g.M.UntrustedMemory.state g.W.Watch.state g.L.LeafFn.leaf_of g.L.LeafFn.levels
+    c.args.lines.now c.loop-at.lines c.loop-at.invariant.onwards.same)) lawful)
+    (c.loop-at.invariant.refines memory lawful known))

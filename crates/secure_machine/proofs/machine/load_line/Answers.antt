@@ -1,7 +1,7 @@
 use Rattle.std.proofs.Common.{◌⊎◌, ◌*◌, ℕ, List, sym, subst, arith}
 use Rattle.rv32_core.specs.Access.{spliced}
 use Rattle.secure_machine.specs.Refines.{Knows}
-use Rattle.secure_machine.proofs.Refining.{stop_forged, line_known, lines_in, spent_is, ForgedBy, StandBy}
+use Rattle.secure_machine.proofs.Refining.{stop_forged, stop_unblamed, line_known, lines_in, spent_is, ForgedBy, StandBy}
 use Rattle.data_cache.specs.Contents.{write_line_plan}
 use Rattle.secure_machine.proofs.LineChains.{chain_goes, chain_breaks, spent_on}
 use Rattle.secure_machine.proofs.machine.load_line.Goals as goal
@@ -26,7 +26,7 @@ pub returns-in-Err-clause-refines : goal.returns-in-Err-clause-refines
 returns-in-Err-clause-refines g c memory lawful known =
     stop_forged g.M.UntrustedMemory.state g.W.Watch.state g.L.LeafFn.leaf_of g.L.LeafFn.levels
     (write_line_plan c.args.cache.now c.args.line c.line_of.result) c.args.lines.now c.write_line.new.store
-    c.in-Err.stop c.write_line.new.self lawful c.in-Err.ensures.err
+    c.in-Err.stop c.write_line.new.self lawful c.requires.ready c.in-Err.ensures.err
 
 pub returns-clause-refines : goal.returns-clause-refines
 returns-clause-refines g c memory lawful known =
@@ -42,3 +42,9 @@ returns-clause-refines g c memory lawful known =
     ⊎ StandBy g.M.UntrustedMemory.state g.W.Watch.state g.L.LeafFn.leaf_of g.L.LeafFn.levels c.write_line.new.self
     (spliced memory (64 * c.args.line) c.line_of.result.0) o m w) c.write_line.new.store c.spend.new.self
     c.spend.ensures.memory c.spend.ensures.tap c.spend.ensures.oram after)
+
+pub returns-in-Err-clause-honest : goal.returns-in-Err-clause-honest
+returns-in-Err-clause-honest g c memory lawful known =
+    stop_unblamed g.M.UntrustedMemory.state g.W.Watch.state g.L.LeafFn.leaf_of g.L.LeafFn.levels
+    (write_line_plan c.args.cache.now c.args.line c.line_of.result) c.args.lines.now c.write_line.new.store
+    c.in-Err.stop c.write_line.new.self c.args.cache.now memory lawful c.requires.ready known c.in-Err.ensures.err

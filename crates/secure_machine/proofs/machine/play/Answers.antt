@@ -1,8 +1,9 @@
-use Rattle.std.proofs.Common.{◌≡◌, ◌∙◌, ◌*◌, ◌⊎◌, ℕ, List, inl, inr, refl, sym, ap, subst, arith}
+use Rattle.std.proofs.Common.{◌≡◌, ◌∙◌, ◌*◌, inl, inr, refl, sym, ap, subst, arith}
 use Rattle.encrypted_run.specs.Refined.{loaded}
 use Rattle.oram_contents.specs.Entries.{AreKeys}
 use Rattle.rv32_core.specs.StepPlan.{machine_of}
-use Rattle.secure_machine.specs.FlatEnds.{HaltsFlat, HaltsRun}
+use Rattle.secure_machine.specs.FlatEnds.{HaltsFlat}
+use Rattle.secure_machine.specs.Refines.{CauseUnblamed}
 use Rattle.secure_machine.specs.declared.machine.Halted.{Halted}
 use Rattle.secure_machine.proofs.FlatLaws.{reaches_none, reaches_more, halts_run}
 use Rattle.secure_machine.proofs.LineChains.{onwards_then, halts_later}
@@ -30,6 +31,15 @@ returns-in-Err-instruction g c =
                       (machine_of c.instruction.new.core c.instruction.new.files) (bytes memory) now
                       c.in-Err-instruction.halted reaches flat)
                 ]
+          ];
+      honest = λ memory lawful core known.
+          let lawful_now = subst AreKeys (sym (keys_same g.M.UntrustedMemory.state g.W.Watch.state g.L.LeafFn.leaf_of
+          g.L.LeafFn.levels c.args.lines.now c.loop-before.lines c.loop-before.invariant.onwards.same)) lawful in
+          elim (c.loop-before.invariant.refines memory lawful core known) [
+            | inl forged ↦ c.in-Err-instruction.ensures.honest memory lawful_now (c.loop-before.invariant.core core)
+                (inl forged)
+            | inr (now, reaches, stands) ↦ c.in-Err-instruction.ensures.honest now lawful_now
+                (c.loop-before.invariant.core core) (inr stands)
           ];
     }
 
@@ -103,3 +113,15 @@ returns-clause-refines g c memory lawful core known =
             refl,
           )))
     ]
+
+pub returns-in-Err-clause-honest : goal.returns-in-Err-clause-honest
+returns-in-Err-clause-honest g c memory lawful core known = c.in-Err.ensures.honest memory lawful known
+
+pub returns-clause-honest : goal.returns-clause-honest
+returns-clause-honest g c memory lawful core known =
+    subst (λ (h : Halted). CauseUnblamed g.M.UntrustedMemory.state g.W.Watch.state g.L.LeafFn.leaf_of g.L.LeafFn.levels
+    h.cause c.loop-before.lines) (sym c.ended.ensures)
+    (elim (c.loop-before.invariant.refines memory lawful core known) [
+      | inl forged ↦ (c.loop-before.cache, memory, inl forged)
+      | inr (now, reaches, stands) ↦ (c.loop-before.cache, now, inr stands)
+    ])

@@ -1,6 +1,7 @@
 use Rattle.std.proofs.Common.{◌*◌, ◌∙◌, ap, sym}
 use Rattle.fed_run.proofs.Left.{step_left}
-use Rattle.secure_machine.proofs.Refining.{stop_forged, chain_forged, instruction_core, instruction_known, lines_in, spent_is, ForgedBy, SteppedBy}
+use Rattle.secure_machine.proofs.Refining.{stop_forged, stop_unblamed, chain_forged, instruction_core}
+use Rattle.secure_machine.proofs.Refining.{instruction_known, lines_in, spent_is, ForgedBy, SteppedBy}
 use Rattle.request_plan.specs.Plan.{through}
 use Rattle.rv32_core.specs.Machine.{Machine}
 use Rattle.rv32_core.specs.declared.outcome.Done.{Done}
@@ -34,7 +35,8 @@ returns-in-Err-clause-refines g c memory lawful core known = (
   stop_forged g.M.UntrustedMemory.state g.W.Watch.state g.L.LeafFn.leaf_of g.L.LeafFn.levels
       (through (cache_access c.args.core.now.base) (step_plan (machine_of c.args.core.now c.args.files.now))
       c.args.cache.now) c.args.lines.now c.step_cached.new.store c.in-Err.stop
-      (c.step_cached.new.cache, machine_of c.step_cached.new.core c.step_cached.new.files) lawful c.in-Err.ensures.err,
+      (c.step_cached.new.cache, machine_of c.step_cached.new.core c.step_cached.new.files) lawful c.requires.ready
+      c.in-Err.ensures.err,
   step_left (LinesStep g.M.UntrustedMemory.state g.W.Watch.state g.L.LeafFn.leaf_of g.L.LeafFn.levels)
       c.args.core.now.base (machine_of c.args.core.now c.args.files.now) c.args.cache.now c.args.lines.now
       c.step_cached.new.store c.in-Err.stop
@@ -65,7 +67,8 @@ returns-in-Err-clause-forged g c lawful =
     stop_forged g.M.UntrustedMemory.state g.W.Watch.state g.L.LeafFn.leaf_of g.L.LeafFn.levels
     (through (cache_access c.args.core.now.base) (step_plan (machine_of c.args.core.now c.args.files.now))
     c.args.cache.now) c.args.lines.now c.step_cached.new.store c.in-Err.stop
-    (c.step_cached.new.cache, machine_of c.step_cached.new.core c.step_cached.new.files) lawful c.in-Err.ensures.err
+    (c.step_cached.new.cache, machine_of c.step_cached.new.core c.step_cached.new.files) lawful c.requires.ready
+    c.in-Err.ensures.err
 
 pub returns-clause-forged : goal.returns-clause-forged
 returns-clause-forged g c lawful forged =
@@ -77,3 +80,11 @@ returns-clause-forged g c lawful forged =
     c.args.cache.now) c.args.lines.now c.step_cached.new.store
     (c.step_cached.new.cache, (machine_of c.step_cached.new.core c.step_cached.new.files, c.in-Ok.done)) lawful
     c.in-Ok.ensures.ok forged)
+
+pub returns-in-Err-clause-honest : goal.returns-in-Err-clause-honest
+returns-in-Err-clause-honest g c memory lawful known =
+    stop_unblamed g.M.UntrustedMemory.state g.W.Watch.state g.L.LeafFn.leaf_of g.L.LeafFn.levels
+    (through (cache_access c.args.core.now.base) (step_plan (machine_of c.args.core.now c.args.files.now))
+    c.args.cache.now) c.args.lines.now c.step_cached.new.store c.in-Err.stop
+    (c.step_cached.new.cache, machine_of c.step_cached.new.core c.step_cached.new.files) c.args.cache.now memory lawful
+    c.requires.ready known c.in-Err.ensures.err
