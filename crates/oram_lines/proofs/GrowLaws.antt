@@ -1,5 +1,5 @@
 -- What stays over the steps of a port and of its slots: a forgery that a log shows, and that a clock counts its starts.
-use Rattle.std.proofs.Common.{◌≡◌, ℕ, List, Ok, Err, inl, inr, count_by, sym, ap, ◌∙◌, subst}
+use Rattle.std.proofs.Common.{◌≡◌, ℕ, List, Ok, Err, inl, inr, sym, ap, subst}
 use Rattle.request_plan.specs.Plan.{Plan, Done, Ask, Ends, Stops}
 use Rattle.asc_base.specs.declared.block.Point.{Point}
 use Rattle.asc_base.specs.declared.stop.Stop.{Stop}
@@ -14,7 +14,8 @@ use Rattle.oram_contents.specs.Forgery.{Forgery}
 use Rattle.oram_contents.proofs.Access.{forgery_more}
 use Rattle.oram_walk.specs.Request.{Request, Slot, Append, Answer, Room, Steps}
 use Rattle.oram_walk.specs.declared.slots.Seen.{Seen}
-use Rattle.rate_enforcer.specs.Counts.{IsCounted, is_dummy, is_real}
+use Rattle.rate_enforcer.proofs.Counted.{counted_still}
+use Rattle.rate_enforcer.specs.Counts.{IsCounted}
 use Rattle.rate_enforcer.specs.PortStep.{PortState, PortStep, PortRequest, Said, Open, Take, Note, Put, Close, Abort, Join, Idle}
 use Rattle.rate_enforcer.specs.declared.clock.Clock.{Clock}
 use Rattle.oram_frontend.specs.Access.{SlotStep, serve_plan}
@@ -44,11 +45,10 @@ module _ (keys : Keys) where
 -- the clock still counts the starts
 counted_same : (s t : PortState) → t.clock ≡ s.clock → t.tap ≡ s.tap → IsCounted s.clock s.tap.log
     → IsCounted t.clock t.tap.log
-counted_same s t clock tap c = record {
-  dummies = ap (λ (k : Clock). k.dummies) clock
-      ∙ (c.dummies ∙ ap (λ (x : TapState). count_by is_dummy x.log.events) (sym tap));
-  real = ap (λ (k : Clock). k.real) clock ∙ (c.real ∙ ap (λ (x : TapState). count_by is_real x.log.events) (sym tap));
-}
+counted_same s t clock tap c =
+    counted_still s.clock t.clock s.tap.log t.tap.log (ap (λ (x : TapState). x.log.events) tap)
+    (ap (λ (k : Clock). k.config) clock) (ap (λ (k : Clock). k.learner) clock) (ap (λ (k : Clock). k.dummies) clock)
+    (ap (λ (k : Clock). k.real) clock) c
 
 pub counted_port : (leaf_of : Point → ℕ) (levels : ℕ) (s t : PortState) (q : PortRequest) (x : Said)
     → PortStep leaf_of levels s q (Ok x) t → IsCounted s.clock s.tap.log → IsCounted t.clock t.tap.log
@@ -57,12 +57,10 @@ counted_port leaf_of levels s t (Take address) x h c = counted_same s t h.1.othe
 counted_port leaf_of levels s t (Note event) x h c = h.1.counts c
 counted_port leaf_of levels s t (Put entry) x h c = counted_same s t h.1.others.clock h.1.others.tap c
 counted_port leaf_of levels s t Close x h c = h.1.counts c
-counted_port leaf_of levels s t (Abort stop) x h c = record {
-  dummies = ap (λ (k : Clock). k.dummies) h.1.clock
-      ∙ (c.dummies ∙ ap (λ (y : TapState). count_by is_dummy y.log.events) (sym h.1.tap));
-  real = ap (λ (k : Clock). k.real) h.1.clock
-      ∙ (c.real ∙ ap (λ (y : TapState). count_by is_real y.log.events) (sym h.1.tap));
-}
+counted_port leaf_of levels s t (Abort stop) x h c =
+    counted_still s.clock t.clock s.tap.log t.tap.log (ap (λ (y : TapState). y.log.events) h.1.tap)
+    (ap (λ (k : Clock). k.config) h.1.clock) (ap (λ (k : Clock). k.learner) h.1.clock)
+    (ap (λ (k : Clock). k.dummies) h.1.clock) (ap (λ (k : Clock). k.real) h.1.clock) c
 counted_port leaf_of levels s t (Join entry) x h c = counted_same s t h.1.others.clock h.1.others.tap c
 counted_port leaf_of levels s t (Idle time) x h c = h.1.counts c
 

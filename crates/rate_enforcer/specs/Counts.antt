@@ -1,9 +1,12 @@
--- How many slots started, by what was noted of them.
+-- How many slots started, and which rates were chosen, by what was noted of them; and which events answer a line.
 use Rattle.std.specs.Prelude.{◌≡◌, Bool, true, false, None, Some}
 use Rattle.std.specs.List.{count_by}
+use Rattle.bus_schedule.specs.Shown.{indices_of}
+use Rattle.bus_schedule.specs.Timetable.{public_of}
 use Rattle.bus_watch.specs.declared.log.Event.{Event}
 use Rattle.bus_watch.specs.declared.log.Event.TheVariants.{Access, Drawn, Tagged, Accepted, Chosen, Answered}
 use Rattle.bus_watch.specs.Log.{LogLists}
+use Rattle.epoch_learner.specs.Learner.{HasCode}
 use Rattle.rate_enforcer.specs.declared.clock.Clock.{Clock}
 
 -- the start of a slot that nobody asked for
@@ -26,7 +29,18 @@ is_real (Accepted message tag) = false
 is_real (Chosen index) = false
 is_real (Answered line value) = false
 
--- A clock counts the starts that a log notes, those of dummies and those that were asked for.
+-- a line that is answered to whoever asked for it
+abbrev pub is_answered : Event → Bool
+is_answered (Access start asked) = false
+is_answered (Drawn point leaf) = false
+is_answered (Tagged message) = false
+is_answered (Accepted message tag) = false
+is_answered (Chosen index) = false
+is_answered (Answered line value) = true
+
+-- A clock counts the starts that a log notes, those of dummies and those that were asked for; and its learner counts
+-- the choices that the log notes, which are the digits of its code.
 pub record IsCounted (clock : Clock) (log : LogLists) : Type 0 where
   pub dummies : clock.dummies ≡ count_by is_dummy log.events
   pub real : clock.real ≡ count_by is_real log.events
+  pub code : HasCode (public_of clock.config) (indices_of log.events) clock.learner

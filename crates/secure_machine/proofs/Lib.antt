@@ -2,9 +2,13 @@ pub mod PortGoes
 pub mod SlotGoes
 pub mod WalkGoes
 pub mod OramGoes
+pub mod NotedLines
 pub mod Asked
 pub mod LineChains
 pub mod Settles
 pub mod Starts
+pub mod ImageZeros
+pub mod LastMoves
 pub mod ReportLaws
 pub mod Refining
+pub mod FlatLaws

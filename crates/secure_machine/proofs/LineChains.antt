@@ -1,5 +1,6 @@
 -- Chains of requests for lines with a clock.
 use Rattle.std.proofs.Common.{◌≡◌, ◌≤◌, ◌∙◌, ℕ, List, Result, Ok, Err, refl, sym, ap, subst}
+use Rattle.std.specs.List.{count_by}
 use Rattle.request_plan.specs.Plan.{Plan, Ends, Stops}
 use Rattle.request_plan.proofs.Keeps.{Ends-narrows, Stops-narrows, Stops-last}
 use Rattle.request_plan.specs.Laws.{Within}
@@ -12,6 +13,7 @@ use Rattle.data_cache.specs.Lines.{LineRequest, Fetch, Store}
 use Rattle.oram_frontend.specs.Oram.{OramState, Fetch as OramFetch, Store as OramStore}
 use Rattle.oram_frontend.specs.Slots.{FitKeys}
 use Rattle.oram_contents.specs.Entries.{Keys}
+use Rattle.rate_enforcer.specs.Counts.{is_answered}
 use Rattle.rate_enforcer.specs.PortStep.{PortState}
 use Rattle.secure_machine.specs.Finish.{HaltsBy, IsOwnEnding}
 use Rattle.secure_machine.specs.Goes.{Goes, Breaks}
@@ -24,6 +26,7 @@ use Rattle.secure_machine.specs.declared.machine.Cause.TheVariants.{Ends as Ends
 use Rattle.secure_machine.specs.declared.machine.Halted.{Halted}
 use Rattle.secure_machine.specs.declared.report.Ending.{Ending}
 use Rattle.secure_machine.proofs.PortGoes.{goes_none, goes_then, breaks_then}
+use Rattle.secure_machine.proofs.NotedLines.{timed_noted, timed_stop}
 use Rattle.secure_machine.proofs.OramGoes.{oram_goes, oram_breaks}
 
 -- one request
@@ -93,6 +96,8 @@ module _ {M W L : Type 0} (memory_of : M → MemoryState) (tap_of : W → TapSta
     goes = goes_then on.goes (timed_goes (keys_in leaf_of s) (levels_of s.oram.now.port.leaves) s.count
         (timed_of memory_of tap_of s) (timed_of memory_of tap_of t) request bytes
         (record { shape = refl; pads = refl }) on.ready h.1);
+    fetches = λ known. timed_noted (keys_in leaf_of s) (levels_of s.oram.now.port.leaves) s.count
+        (timed_of memory_of tap_of s) (timed_of memory_of tap_of t) request bytes h.1 (on.fetches known);
     ready = ready_next s t request bytes h;
   }
 
@@ -101,6 +106,7 @@ module _ {M W L : Type 0} (memory_of : M → MemoryState) (tap_of : W → TapSta
   onwards_none s ready = record {
     same = same_lines s;
     goes = goes_none (port memory_of tap_of levels_of s);
+    fetches = λ known. known;
     ready = ready;
   }
 
@@ -119,6 +125,8 @@ module _ {M W L : Type 0} (memory_of : M → MemoryState) (tap_of : W → TapSta
     breaks = breaks_then on.goes (timed_breaks (keys_in leaf_of s) (levels_of s.oram.now.port.leaves) s.count
         (timed_of memory_of tap_of s) (timed_of memory_of tap_of t) request stop
         (record { shape = refl; pads = refl }) on.ready h.1);
+    fetches = λ known. timed_stop (keys_in leaf_of s) (levels_of s.oram.now.port.leaves) s.count
+        (timed_of memory_of tap_of s) (timed_of memory_of tap_of t) request stop h.1 (on.fetches known);
   }
 
   pub chain_breaks : {B A : Type 0} (plan : Plan LineRequest (List ℕ) B A) (s t : TimedLines M W L) (stop : Stop)
@@ -134,13 +142,15 @@ module _ {M W L : Type 0} (memory_of : M → MemoryState) (tap_of : W → TapSta
 
   -- more cycles on the clock
   pub spent_on : (s t u : TimedLines M W L) → Onwards memory_of tap_of levels_of s t → IsSameLines t u
-      → t.memory.now ≡ u.memory.now → t.tap.now ≡ u.tap.now → t.oram.now ≡ u.oram.now
+      → t.memory.now ≡ u.memory.now → t.tap.now ≡ u.tap.now → t.oram.now ≡ u.oram.now → t.fetches ≡ u.fetches
       → (Ready memory_of tap_of levels_of t → Ready memory_of tap_of levels_of u)
       → Onwards memory_of tap_of levels_of s u
-  spent_on s t u on same memory tap oram ready = record {
+  spent_on s t u on same memory tap oram fetches ready = record {
     same = same_then on.same same;
     goes = subst (λ (p : PortState). Goes (port memory_of tap_of levels_of s) p)
         (λ i. (oram_over memory_of tap_of (oram i) (memory i) (tap i)).port) on.goes;
+    fetches = λ known.
+        sym fetches ∙ on.fetches known ∙ ap (λ w. count_by is_answered (tap_of w).log.events) tap;
     ready = ready on.ready;
   }
 
@@ -150,6 +160,7 @@ module _ {M W L : Type 0} (memory_of : M → MemoryState) (tap_of : W → TapSta
   onwards_then s t u one two = record {
     same = same_then one.same two.same;
     goes = goes_then one.goes two.goes;
+    fetches = λ known. two.fetches (one.fetches known);
     ready = two.ready;
   }
 
@@ -161,6 +172,7 @@ module _ {M W L : Type 0} (memory_of : M → MemoryState) (tap_of : W → TapSta
   breaks_later budget instructions cycles stop s t u on off = record {
     same = same_then on.same off.same;
     halts = breaks_then on.goes off.breaks;
+    fetches = λ known. off.fetches (on.fetches known);
   }
 
   halts_by : (budget levels instructions cycles : ℕ) (cause : Cause) (old mid : PortState) (new : OramState)
@@ -179,6 +191,7 @@ module _ {M W L : Type 0} (memory_of : M → MemoryState) (tap_of : W → TapSta
   halts_later budget halted s t u on h = record {
     same = same_then on.same h.same;
     halts = halts_by budget _ halted.instructions halted.cycles halted.cause _ _ _ on.goes h.halts;
+    fetches = λ known. h.fetches (on.fetches known);
   }
 
   -- an end of the run's own
@@ -190,4 +203,5 @@ module _ {M W L : Type 0} (memory_of : M → MemoryState) (tap_of : W → TapSta
   ends_after budget instructions cycles until ending s t on early own = record {
     same = on.same;
     halts = (on.goes, on.ready.serving, early, own);
+    fetches = on.fetches;
   }

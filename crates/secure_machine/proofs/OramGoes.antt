@@ -1,8 +1,9 @@
 -- What requests of an encrypted memory leave.
-use Rattle.std.proofs.Common.{◌<◌, ℕ, None, Ok, Err, sym, subst, inl, inr, arith, false, ◌≤◌}
+use Rattle.std.proofs.Common.{◌<◌, ℕ, [], None, Ok, Err, sym, subst, inl, inr, arith, false, ◌≤◌}
 use Rattle.request_plan.proofs.Chains.{Ends-unbind}
 use Rattle.asc_base.specs.declared.block.Line.{Line}
 use Rattle.asc_base.specs.declared.stop.Stop.{Stop}
+use Rattle.asc_base.specs.declared.stop.Stop.TheVariants.{TimeUp}
 use Rattle.epoch_learner.specs.Stands.{KeepsPace}
 use Rattle.oram_contents.specs.Entries.{Keys}
 use Rattle.oram_frontend.specs.Access.{SlotStep, serve_plan}
@@ -60,6 +61,15 @@ module _ (keys : Keys) (levels : ℕ) (old new : OramState) (fits : FitKeys keys
         let going = serving.serves.rests.going in absurd cc
     oram_breaks (Wait time) stop (inr (stopped, front, inr idle)) =
         idle_breaks keys.leaf_of levels stop old.port new.port idle
+
+    -- a wait doesn't want time
+    pub wait_in_time : (time at : ℕ) → OramStep keys levels old (Wait time) (Err (TimeUp at)) new → ⊥
+    wait_in_time time at (inl had) = let going = serving.going in absurd cc
+    wait_in_time time at (inr (stopped, front, inl had)) = let going = serving.serves.rests.going in absurd cc
+    wait_in_time time at (inr (stopped, front, inr idle)) = elim (idle.breaks []).stops [
+      | inl reads ↦ absurd reads
+      | inr writes ↦ absurd writes.writes
+    ]
 
     -- a fetch takes a slot at least
     pub fetch_takes : (asked line : ℕ) (told : Told) → OramStep keys levels old (Fetch asked line) (Ok told) new

@@ -13,6 +13,7 @@ use Rattle.bus_watch.specs.RunEnd.{RunEnd, Whole}
 use Rattle.bus_watch.specs.Tied.{Tied}
 use Rattle.epoch_learner.proofs.StandLaws.{stands_pace, stands_next}
 use Rattle.epoch_learner.specs.Stands.{KeepsPace}
+use Rattle.rate_enforcer.proofs.Counted.{counted_still}
 use Rattle.rate_enforcer.specs.Counts.{IsCounted}
 use Rattle.rate_enforcer.specs.PortStep.{PortState, PortStep, PortRequest, Open, Take, Note, Put, Close, Abort, Join}
 use Rattle.rate_enforcer.specs.PortStep.{Idle, Said, Used, KeepsCount, Resting, HandOnly}
@@ -84,8 +85,9 @@ abort_goes {leaf_of} {levels} {end} {stop} {old} {new} h =
     let dummies : new.clock.dummies ≡ old.clock.dummies = ap (λ (c : Clock). c.dummies) h.clock in
     record {
       config = ap (λ (c : Clock). c.config) h.clock;
-      counts = λ counted. subst (λ (t : TapState). IsCounted new.clock t.log) (sym h.tap)
-          (record { dummies = dummies ∙ counted.dummies; real = real ∙ counted.real });
+      counts = λ counted. counted_still old.clock new.clock old.tap.log new.tap.log
+          (ap (λ (t : TapState). t.log.events) h.tap) (ap (λ (c : Clock). c.config) h.clock)
+          (ap (λ (c : Clock). c.learner) h.clock) dummies real counted;
       tied = λ start buckets tied. subst (λ (t : TapState). Tied start buckets new.memory t) (sym h.tap)
           (subst (λ (m : MemoryState). Tied start buckets m old.tap) (sym h.memory) tied);
       later = let same : new.memory.faults ≡ old.memory.faults = ap (λ (m : MemoryState). m.faults) h.memory in

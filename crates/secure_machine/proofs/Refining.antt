@@ -1,6 +1,9 @@
 -- Chains of requests for lines with a clock are chains of an encrypted memory's calls, and so refine a list of bytes.
 use Rattle.std.proofs.Common.{zero, suc, ◌+◌, [], ◌∷◌, take, get_or, ◌≡◌, ◌<◌, ◌*◌, ◌⊎◌, ◌∙◌, inl, inr, ℕ, List, Result, Ok, Err, length, refl, sym, ap, subst, arith}
 use Rattle.request_plan.specs.Plan.{Plan, Done, Ask, Ends, Stops, through}
+use Rattle.request_plan.proofs.Keeps.{Ends-has}
+use Rattle.fed_run.proofs.RunChains.{outcomes-through}
+use Rattle.rv32_core.proofs.RunLaws.{step_plan-keeps}
 use Rattle.asc_base.specs.declared.block.Line.{Line}
 use Rattle.asc_base.specs.declared.block.Point.{Point}
 use Rattle.asc_base.specs.declared.shape.Shape.{Shape}
@@ -179,6 +182,27 @@ module _ {M W L : Type 0} (memory_of : M → MemoryState) (tap_of : W → TapSta
             ]
       ]
 
+  -- It keeps what a core is.
+  pub instruction_core : (s t : Lines) (machine : Machine) (cache after : Contents) (end : Machine × Finished)
+      → IsCore machine.core
+      → Ends Step (through (cache_access machine.core.base) (step_plan machine) cache) s t (after, end)
+      → IsCore (end.0).core
+  instruction_core s t machine cache after end is ends =
+      (Ends-has Step (λ (r : Contents × (Machine × Finished)). IsCore (((r.1).0).core)
+      × (((r.1).0).core.base ≡ machine.core.base) × (((r.1).0).core.size ≡ machine.core.size))
+      (through (cache_access machine.core.base) (step_plan machine) cache)
+      (outcomes-through (λ (e : Machine × Finished). IsCore ((e.0).core)
+      × ((e.0).core.base ≡ machine.core.base) × ((e.0).core.size ≡ machine.core.size)) (cache_access machine.core.base)
+      (step_plan machine) cache (step_plan-keeps machine is)) s t (after, end) ends).0
+
+  -- A forgery stays over requests that were answered.
+  pub chain_forged : {B A : Type 0} (plan : Plan LineRequest (List ℕ) B A) (s t : Lines) (a : A)
+      → AreKeys (keys_in leaf_of s) → Ends Step plan s t a → IsForged memory_of tap_of leaf_of levels_of s
+      → IsForged memory_of tap_of leaf_of levels_of t
+  chain_forged plan s t a lawful ends forged =
+      let (calls, same) = chain_calls plan s t a (keys_in leaf_of s) (levels s) refl refl ends in
+      forged_now s t same (forgery_plan (keys_in leaf_of s) lawful (levels s) plan (oram s) (oram t) a calls forged)
+
   -- so many lines there are
   pub lines_in : (s : Lines) → Ready memory_of tap_of levels_of s → (keys_in leaf_of s).shape.lines ≡ s.count
   lines_in s can = ap (λ (shape : Shape). shape.lines) can.serving.serves.rests.is_for.shape ∙ can.lines
@@ -213,3 +237,20 @@ module _ {M W L : Type 0} (memory_of : M → MemoryState) (tap_of : W → TapSta
       let (calls, same) = chain_stops plan s t stop left (keys_in leaf_of s) (levels s) refl refl stops in
       forged_now s t same (plan_stop (keys_in leaf_of s) lawful (levels s) plan (oram s)
       (oram t) stop left calls forged)
+
+  -- what is said of parts is said of lines with these parts
+  pub at_parts : (F : Oram L → M → W → Type 0) (s : Lines) (o : Oram L) (m : M) (w : W) → s.memory.now ≡ m
+      → s.tap.now ≡ w → s.oram.now ≡ o → F o m w → F s.oram.now s.memory.now s.tap.now
+  at_parts F s o m w memory tap oram_is f =
+      subst (λ x. F x s.memory.now s.tap.now) (sym oram_is)
+      (subst (λ x. F o x s.tap.now) (sym memory) (subst (λ x. F o m x) (sym tap) f))
+
+  -- the keys of lines with this encrypted memory
+  abbrev pub keys_by : Oram L → Keys
+  keys_by o = keys_of o.port.tree o.tagger (leaf_of o.port.leaves)
+
+  -- a forgery under the keys of now is one under those of before
+  pub forged_first : (s t : Lines) (o : Oram L) → s.oram.now ≡ o → IsSameLines s t
+      → IsForged memory_of tap_of leaf_of levels_of t → Forgery (keys_by o) (tap_of t.tap.now).log
+  forged_first s t o is same forged =
+      subst (λ (z : Keys). Forgery z (tap_of t.tap.now).log) (keys_same s t same ∙ ap keys_by is) forged

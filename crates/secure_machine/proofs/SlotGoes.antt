@@ -1,5 +1,5 @@
 -- What one request of a walk leaves, by the port's calls that it is made of.
-use Rattle.std.proofs.Common.{◌≡◌, ◌+◌, ◌∙◌, ℕ, Option, None, Some, Result, Err, refl, sym, ap, subst, inl, inr}
+use Rattle.std.proofs.Common.{◌≡◌, ◌+◌, ℕ, Option, None, Some, Result, Err, refl, sym, ap, subst, inl, inr}
 use Rattle.std.proofs.Common.{arith, is_some, length, nat_lt, Bool, true, false, if◌then◌else◌}
 use Rattle.request_plan.specs.Plan.{Ends, Stops, Refuses}
 use Rattle.request_plan.proofs.Chains.{Ends-unbind, Stops-unbind}
@@ -29,7 +29,7 @@ use Rattle.oram_walk.specs.declared.slots.Purpose.{Purpose}
 use Rattle.oram_walk.specs.declared.slots.Purpose.TheVariants.{Refill, Keep, Replace}
 use Rattle.rate_enforcer.specs.PortStep.{PortState, PortStep, PortRequest, Open, Take, Note, Said, Resting, InSlot}
 use Rattle.rate_enforcer.specs.PortStep.{Aborted, JoinStopped}
-use Rattle.rate_enforcer.specs.Counts.{IsCounted}
+use Rattle.rate_enforcer.proofs.Counted.{counted_still}
 use Rattle.rate_enforcer.specs.Stops.{IsEndOf}
 use Rattle.rate_enforcer.specs.declared.clock.Clock.{Clock}
 use Rattle.secure_machine.specs.Goes.{Breaks, PaceAt}
@@ -38,14 +38,15 @@ use Rattle.secure_machine.proofs.PortGoes.{resting_pace}
 
 -- a port of which only the clock's stop and end are set
 module _ {stop : Stop} {old new : PortState} (memory : new.memory ≡ old.memory) (tap : new.tap ≡ old.tap)
-    (config : new.clock.config ≡ old.clock.config) (dummies : new.clock.dummies ≡ old.clock.dummies)
-    (real : new.clock.real ≡ old.clock.real) (is : IsEndOf stop Whole) (device : stop ≡ Device → ⊥)
+    (config : new.clock.config ≡ old.clock.config) (learner : new.clock.learner ≡ old.clock.learner)
+    (dummies : new.clock.dummies ≡ old.clock.dummies) (real : new.clock.real ≡ old.clock.real)
+    (is : IsEndOf stop Whole) (device : stop ≡ Device → ⊥)
     (pace : PaceAt old.clock.config stop new) where
   pub quiet_breaks : Breaks stop old new
   quiet_breaks = record {
     config = config;
-    counts = λ counted. subst (λ (t : TapState). IsCounted new.clock t.log) (sym tap)
-        (record { dummies = dummies ∙ counted.dummies; real = real ∙ counted.real });
+    counts = λ counted. counted_still old.clock new.clock old.tap.log new.tap.log
+        (ap (λ (t : TapState). t.log.events) tap) config learner dummies real counted;
     tied = λ start buckets tied. (
       Whole,
       is,
@@ -121,8 +122,8 @@ module _ (keys : Keys) (levels : ℕ) where
       → Aborted keys.leaf_of levels (Integrity evidence) end old new → Breaks (Integrity evidence) old new
   abort_breaks notes leaf evidence end old new going slot h =
       let last : new.clock.last ≡ end = ap (λ (c : Clock). c.last) h.clock in
-      quiet_breaks h.memory h.tap (ap (λ (c : Clock). c.config) h.clock) (ap (λ (c : Clock). c.dummies) h.clock)
-      (ap (λ (c : Clock). c.real) h.clock) refl (λ bad. cc)
+      quiet_breaks h.memory h.tap (ap (λ (c : Clock). c.config) h.clock) (ap (λ (c : Clock). c.learner) h.clock)
+      (ap (λ (c : Clock). c.dummies) h.clock) (ap (λ (c : Clock). c.real) h.clock) refl (λ bad. cc)
       (subst (λ n. KeepsPace old.clock.config n new.tap.log) (sym last) (h.pace notes leaf slot))
 
   judged_breaks : (access : Access) (found : Option Entry) (verdict : Option Evidence) (notes leaf : ℕ) (stop : Stop)
@@ -192,8 +193,8 @@ module _ (keys : Keys) (levels : ℕ) where
       let (ends, device, paced) = verdict_ends (is_some (held old.tree.hand entry.address))
       (nat_lt old.tree.stash (length old.tree.hand + 1)) entry.address (length old.tree.hand + 1) stop h.wrong old new
       pace in
-      quiet_breaks h.memory h.tap (ap (λ (c : Clock). c.config) h.clock) (ap (λ (c : Clock). c.dummies) h.clock)
-      (ap (λ (c : Clock). c.real) h.clock) ends device paced
+      quiet_breaks h.memory h.tap (ap (λ (c : Clock). c.config) h.clock) (ap (λ (c : Clock). c.learner) h.clock)
+      (ap (λ (c : Clock). c.dummies) h.clock) (ap (λ (c : Clock). c.real) h.clock) ends device paced
 
   pub append_breaks : (message : Message) (stop : Stop) (old new : PortState) → Resting 1 levels old
       → SlotStep keys levels old (Append message) (Err stop) new → Breaks stop old new

@@ -1,14 +1,20 @@
 -- Before the first slot.
-use Rattle.std.proofs.Common.{◌≡◌, ◌≤◌, ◌<◌, ◌+◌, ◌*◌, ◌^◌, ◌∙◌, ℕ, List, [], None, Result, Ok, Err, IfOk, OnErr, sym}
+use Rattle.std.proofs.Common.{◌≡◌, ◌≤◌, ◌<◌, ◌+◌, ◌*◌, ◌^◌, ◌∙◌, ℕ, List, [], None, Result, Ok, Err, IfOk, OnErr, refl, sym}
 use Rattle.std.proofs.Common.{ap, subst, arith}
-use Rattle.asc_base.specs.Settings.{IsConfig}
+use Rattle.std.proofs.lemmas.Nat.{mul-le}
+use Rattle.asc_base.proofs.ShapeFacts.{shape_layered}
+use Rattle.asc_base.specs.Settings.{IsConfig, IsPowerTo}
 use Rattle.asc_base.specs.TreeShape.{olat_of}
+use Rattle.asc_base.specs.declared.block.Point.{Point}
 use Rattle.asc_base.specs.declared.settings.Config.{Config}
+use Rattle.asc_base.specs.declared.shape.Shape.{Shape}
 use Rattle.asc_outside.specs.Memory.{MemoryState, zero_buckets}
-use Rattle.bus_schedule.proofs.ScheduledLaws.{scheduled-config}
+use Rattle.bus_schedule.proofs.PublicParts.{count-power}
+use Rattle.bus_schedule.proofs.ScheduledLaws.{scheduled-config, scheduled-below, scheduled-codes}
 use Rattle.bus_schedule.specs.Scheduled.{log_code}
-use Rattle.bus_schedule.specs.Timetable.{public_of}
-use Rattle.bus_watch.proofs.PreparedLaws.{prepared_ties}
+use Rattle.bus_schedule.specs.Timetable.{public_of, Public, count_of}
+use Rattle.bus_watch.proofs.PreparedLaws.{prepared_ties, prepared_ready}
+use Rattle.bus_schedule.specs.Shown.{indices_of, code_of}
 use Rattle.bus_watch.proofs.TiedLaws.{tied_start}
 use Rattle.bus_watch.specs.declared.bus.BusStop.{BusStop}
 use Rattle.bus_watch.specs.declared.bus.BusStop.TheVariants.{Device, NoMemory}
@@ -18,12 +24,23 @@ use Rattle.bus_watch.specs.Ready.{IsReady}
 use Rattle.bus_watch.specs.Tied.{Tied}
 use Rattle.epoch_learner.proofs.StandLaws.{stands_first, stands_pace}
 use Rattle.epoch_learner.specs.Stands.{KeepsPace}
+use Rattle.leaf_function.specs.Leaf.{AreLeaves}
+use Rattle.oram_contents.specs.Entries.{AreKeys}
+use Rattle.oram_contents.specs.Starts.{empty_log}
 use Rattle.oram_frontend.specs.Oram.{oram_of}
+use Rattle.oram_lines.specs.Lines.{IsNew}
+use Rattle.rate_enforcer.specs.PortStep.{Resting, port_of}
+use Rattle.rate_enforcer.specs.Served.{keys_of}
+use Rattle.secure_machine.specs.Run.{chip_keys}
 use Rattle.oram_frontend.specs.declared.oram.Oram.{Oram}
 use Rattle.oram_walk.specs.Front.{FrontState, first_front}
+use Rattle.rate_enforcer.specs.Counts.{IsCounted}
 use Rattle.rate_enforcer.specs.State.{Rests}
 use Rattle.rate_enforcer.specs.declared.port.Port.{Port}
+use Rattle.secure_machine.specs.LastMove.{EndsWithMove}
+use Rattle.secure_machine.specs.Run.{IsInBudget}
 use Rattle.secure_machine.specs.Timed.{Serving}
+use Rattle.secure_machine.proofs.LastMoves.{ends_with_move}
 
 -- a fact on an Err that holds anyway
 pub on_err_with : {A E X : Type 0} (result : Result A E) → X → OnErr result X
@@ -51,6 +68,30 @@ start_pace config log is events moves =
 pub pace_bits : (config : Config) (end : ℕ) (log : LogLists) → IsConfig config → KeepsPace config end log
     → log_code (public_of config) log < 2 ^ config.leak
 pace_bits config end log is pace = scheduled-config config end log is pace.scheduled
+
+pub pace_budget : (config : Config) (end : ℕ) (log : LogLists) → IsConfig config → KeepsPace config end log
+    → IsInBudget config log
+pace_budget config end log is pace =
+    let power : IsPowerTo 4 (count_of (public_of config)) = count-power config is in
+    record {
+      code = scheduled-below (public_of config) end log pace.scheduled;
+      few = scheduled-codes (public_of config) power.0 end log power.2 pace.scheduled;
+    }
+
+-- so does an empty one, which ends with no move
+pub start_budget : (config : Config) (log : LogLists) → IsConfig config → log.events ≡ [] → log.moves ≡ []
+    → IsInBudget config log
+start_budget config log is events moves = pace_budget config 0 log is (start_pace config log is events moves)
+
+pub start_ends : (config : Config) (log : LogLists) → IsConfig config → log.events ≡ [] → log.moves ≡ []
+    → EndsWithMove config log
+start_ends config log is events moves =
+    ends_with_move config 0 log (start_pace config log is events moves).scheduled
+
+-- no choice has the code 0
+pub empty_code : (p : Public) (log : LogLists) → log.events ≡ [] → log_code p log ≡ 0
+unfolding code_of
+empty_code p log none = ap (λ events. code_of (count_of p) (indices_of events)) none
 
 -- a prepared bus is tied from zero bytes on
 pub zero_tied : (buckets levels accesses : ℕ) (m m' : MemoryState) (t t' : TapState) → t.log.moves ≡ []
@@ -88,8 +129,96 @@ new_serves {L} levels_of config port (Ok oram) front same stop shape rests = λ 
       };
     }
 
+-- and its clock counts what an empty log notes
+pub new_counts : {L E : Type 0} (port : Port L) (result : Result (Oram L) E)
+    → IfOk result (λ (oram : Oram L). oram.port ≡ port)
+    → ((log : LogLists) → log.events ≡ [] → IsCounted port.clock log)
+    → IfOk result (λ (oram : Oram L). (log : LogLists) → log.events ≡ [] → IsCounted oram.port.clock log)
+new_counts port (Err e) same counts = tt
+new_counts {L} port (Ok oram) same counts =
+    λ log none. subst (λ (p : Port L). IsCounted p.clock log) (sym same) (counts log none)
+
 -- a bus that wasn't prepared has its tap as it was
 pub refused_tap : (stop : BusStop) (buckets levels accesses : ℕ) (m m' : MemoryState) (t t' : TapState)
     → IsPrepared (Err stop) buckets levels accesses m m' t t' → t' ≡ t
 refused_tap Device buckets levels accesses m m' t t' prepared = prepared.by_answer.kept
 refused_tap NoMemory buckets levels accesses m m' t t' prepared = prepared.by_answer.kept
+
+module _ {L E : Type 0} (leaf_of : L → Point → ℕ) (levels_of : L → ℕ) (config : Config) (codec tags : List ℕ)
+    (leaves : L) (port : Port L) (result : Result (Oram L) E)
+    (tagger : IfOk result (λ (oram : Oram L). oram.tagger ≡ tags))
+    (same : IfOk result (λ (oram : Oram L). oram.port ≡ port)) (shape : port.tree.shape ≡ config.shape) where
+  -- the keys of an encrypted memory of a new port
+  pub new_keys : port.tree.key ≡ codec → port.leaves ≡ leaves → IfOk result (λ (oram : Oram L).
+      keys_of oram.port.tree oram.tagger (leaf_of oram.port.leaves) ≡ chip_keys config codec tags (leaf_of leaves))
+  new_keys key is = keys_by result tagger same
+    where
+      keys_by : (result : Result (Oram L) E) → IfOk result (λ (oram : Oram L). oram.tagger ≡ tags)
+          → IfOk result (λ (oram : Oram L). oram.port ≡ port) → IfOk result (λ (oram : Oram L).
+          keys_of oram.port.tree oram.tagger (leaf_of oram.port.leaves) ≡ chip_keys config codec tags (leaf_of leaves))
+      keys_by (Err e) tagger same = tt
+      keys_by (Ok oram) tagger same =
+          let shape_is = ap (λ (p : Port L). p.tree.shape) same ∙ shape in
+          let key_is = ap (λ (p : Port L). p.tree.key) same ∙ key in
+          let leaves_are = ap (λ (p : Port L). leaf_of p.leaves) same ∙ ap leaf_of is in
+          λ i. record { shape = shape_is i; pads = key_is i; tags = tagger i; leaf_of = leaves_are i }
+
+  -- over a tap of zeros with an empty log it is new
+  pub new_is : IfOk result (λ (oram : Oram L). oram.front ≡ first_front config) → port.tree.hand ≡ []
+      → port.tree.seed ≡ 1 → port.clock.dummies ≡ 0 → port.clock.real ≡ 0
+      → IfOk result (λ (oram : Oram L). (memory : MemoryState) (tap : TapState) → tap.log ≡ empty_log
+      → tap.mirror ≡ zero_buckets config.shape.buckets
+      → Resting 0 (levels_of oram.port.leaves) (port_of oram.port.clock oram.port.tree memory tap)
+      → IsNew (keys_of oram.port.tree oram.tagger (leaf_of oram.port.leaves)) config (levels_of oram.port.leaves)
+      (oram_of oram.front oram.port.clock oram.port.tree oram.stop memory tap))
+  new_is front hand seed dummies real = is_by result same front
+    where
+      is_by : (result : Result (Oram L) E) → IfOk result (λ (oram : Oram L). oram.port ≡ port)
+          → IfOk result (λ (oram : Oram L). oram.front ≡ first_front config)
+          → IfOk result (λ (oram : Oram L). (memory : MemoryState) (tap : TapState) → tap.log ≡ empty_log
+          → tap.mirror ≡ zero_buckets config.shape.buckets
+          → Resting 0 (levels_of oram.port.leaves) (port_of oram.port.clock oram.port.tree memory tap)
+          → IsNew (keys_of oram.port.tree oram.tagger (leaf_of oram.port.leaves)) config (levels_of oram.port.leaves)
+          (oram_of oram.front oram.port.clock oram.port.tree oram.stop memory tap))
+      is_by (Err e) same front = tt
+      is_by (Ok oram) same front = λ memory tap log mirror rests.
+          let shape_is = ap (λ (p : Port L). p.tree.shape) same ∙ shape in
+          let hand_is = ap (λ (p : Port L). p.tree.hand) same ∙ hand in
+          let seed_is = ap (λ (p : Port L). p.tree.seed) same ∙ seed in
+          let mirror_is = mirror ∙ ap (λ (s : Shape). zero_buckets s.buckets) (sym shape_is) in
+          record {
+            shape = sym shape_is;
+            front = front;
+            fits = record { shape = refl; pads = refl };
+            log = log;
+            contents_are = λ i. record { hand = hand_is i; mirror = mirror_is i; seed = seed_is i };
+            dummies = ap (λ (p : Port L). p.clock.dummies) same ∙ dummies;
+            real = ap (λ (p : Port L). p.clock.real) same ∙ real;
+            rests = rests;
+          }
+
+-- the keys of a chip are lawful
+pub chip_lawful : {L : Type 0} (leaf_of : L → Point → ℕ) (levels_of : L → ℕ) (config : Config)
+    (pads tags : List ℕ) (leaves : L) → IsConfig config → levels_of leaves ≡ config.shape.levels
+    → AreLeaves (levels_of leaves) (leaf_of leaves) → AreKeys (chip_keys config pads tags (leaf_of leaves))
+chip_lawful leaf_of levels_of config pads tags leaves is levels below = record {
+  shape = is.is_shape;
+  leaves = subst (λ n. AreLeaves n (leaf_of leaves)) levels below;
+}
+
+-- A prepared bus has room for so many slots.
+pub prepared_room : (config : Config) (slots : ℕ) (m m' : MemoryState) (t t' : TapState) → IsConfig config
+    → slots ≤ 2 ^ 28 + 1 → m.moved < 2 ^ 62
+    → IsPrepared (Ok tt) config.shape.buckets config.shape.levels slots m m' t t'
+    → IsReady config.shape.buckets (2 * (config.shape.levels + 1) * slots) (6 * slots) m' t'
+prepared_room config slots m m' t t' is few moved prepared =
+    let shape = config.shape in
+    let levels = (shape_layered shape is.is_shape).levels_to in
+    let most : slots ≤ 268435457 = omega (arith, few) in
+    let moves : 2 * (shape.levels + 1) * slots ≤ 36 * 268435457 =
+    mul-le (2 * (shape.levels + 1)) slots 36 268435457 (omega (arith, levels)) most in
+    prepared_ready shape.buckets shape.levels slots prepared (omega (arith, moves, moved))
+
+-- a log is empty where its lists are
+pub log_empty : (log : LogLists) → log.events ≡ [] → log.moves ≡ [] → log.altered ≡ [] → log ≡ empty_log
+log_empty log events moves altered = λ i. record { moves = moves i; events = events i; altered = altered i }

@@ -1,6 +1,10 @@
 -- How a run comes to its end as a flat run does.
-use Rattle.std.specs.Prelude.{◌≡◌, ◌+◌, ℕ, List}
+use Rattle.std.specs.Prelude.{◌≡◌, ◌+◌, ℕ, List, Option, None, Some}
+use Rattle.encrypted_run.specs.Refined.{IsPrefix}
+use Rattle.asc_base.specs.declared.stop.Stop.{Stop}
+use Rattle.asc_base.specs.declared.stop.Stop.TheVariants as why
 use Rattle.rv32_core.specs.FlatMachine.{flat_step}
+use Rattle.rv32_core.specs.FlatRun.{flat_run, Exited, Trapped, Budget as FlatBudget}
 use Rattle.rv32_core.specs.Machine.{Machine}
 use Rattle.rv32_core.specs.declared.outcome.Ended.{Ended}
 use Rattle.rv32_core.specs.declared.outcome.Ended.TheVariants as how
@@ -40,3 +44,40 @@ CauseFlat before instructions machine memory (Stops stop) last = StaysAt before 
 abbrev pub HaltsFlat : ℕ → Machine → List ℕ → Halted → Machine → Type 0
 HaltsFlat before machine memory halted last =
     CauseFlat before halted.instructions machine memory halted.cause last
+
+-- How the flat machine's run ends after so many instructions, where a run over an encrypted memory ends so. At an exit
+-- it has exited with this status, and at a trap the next instruction traps so. Where the budget or the time was used up
+-- it goes on. After a stop nothing is said of how it ends: the stop may have come behind an exit or a trap.
+abbrev pub FlatEnds : (instructions : ℕ) → Machine → List ℕ → Ending → Type 0
+FlatEnds instructions machine memory (Exit status) = (flat_run instructions machine memory).ending ≡ Exited status
+FlatEnds instructions machine memory (Trap kind pc) =
+    (flat_run (instructions + 1) machine memory).ending ≡ Trapped kind pc
+FlatEnds instructions machine memory Budget = (flat_run instructions machine memory).ending ≡ FlatBudget
+FlatEnds instructions machine memory (TimeUp at) = (flat_run instructions machine memory).ending ≡ FlatBudget
+FlatEnds instructions machine memory (StashFull held) = Unit {0}
+FlatEnds instructions machine memory (Integrity evidence) = Unit {0}
+FlatEnds instructions machine memory Device = Unit {0}
+
+-- Instructions, ending and the machine that is left, with the output, are those of the flat run from a machine and its
+-- bytes: it finishes as many, leaves this machine, and ends so.
+pub record IsFlat (instructions : ℕ) (machine : Machine) (memory : List ℕ) (ending : Ending) (last : Machine) : Type 0
+  where
+  pub finished : (flat_run instructions machine memory).instructions ≡ instructions
+  pub leaves : (flat_run instructions machine memory).machine ≡ last
+  pub ends : FlatEnds instructions machine memory ending
+
+-- the same where no more instructions come, by itself or by a stop
+abbrev pub CauseRuns : (instructions : ℕ) → Machine → List ℕ → Cause → Machine → Type 0
+CauseRuns instructions machine memory (Ends ending until) last = IsFlat instructions machine memory ending last
+CauseRuns instructions machine memory (Stops stop) last = IsPrefix instructions machine memory last
+
+abbrev pub HaltsRun : Machine → List ℕ → Halted → Machine → Type 0
+HaltsRun machine memory halted last = CauseRuns halted.instructions machine memory halted.cause last
+
+-- the ending that a stop is, if any
+abbrev pub ending_by : Stop → Option Ending
+ending_by (why.Integrity evidence) = Some (Integrity evidence)
+ending_by (why.StashFull held) = Some (StashFull held)
+ending_by (why.TimeUp at) = Some (TimeUp at)
+ending_by why.Device = Some Device
+ending_by why.NoMemory = None

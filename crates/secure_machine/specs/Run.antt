@@ -1,26 +1,43 @@
 -- What a run leaves of its memory and its tap.
-use Rattle.std.specs.Prelude.{◌≡◌, ◌≤◌, ◌⊎◌, ℕ, List, []}
+use Rattle.std.specs.Prelude.{◌≡◌, ◌<◌, ◌≤◌, ◌^◌, ◌⊎◌, ℕ, List, [], length}
 use Rattle.std.specs.List.{count_by}
 use Rattle.asc_base.specs.declared.settings.Config.{Config}
 use Rattle.asc_outside.specs.Memory.{MemoryState, zero_buckets}
 use Rattle.asc_outside.specs.Rose.{Rose}
-use Rattle.bus_watch.specs.Log.{TapState}
+use Rattle.bus_schedule.specs.Scheduled.{log_code}
+use Rattle.bus_schedule.specs.Shown.{indices_of}
+use Rattle.bus_schedule.specs.Timetable.{public_of, count_of}
+use Rattle.bus_watch.specs.Log.{TapState, LogLists}
 use Rattle.bus_watch.specs.RunEnd.{RanOut}
 use Rattle.bus_watch.specs.Tied.{Tied, TiedAt}
 use Rattle.epoch_learner.specs.Stands.{KeepsPace}
-use Rattle.rate_enforcer.specs.Counts.{is_dummy, is_real}
+use Rattle.rate_enforcer.specs.Counts.{is_dummy, is_real, is_answered}
+use Rattle.asc_base.specs.declared.block.Point.{Point}
+use Rattle.elf_loader.specs.declared.image.Image.{Image}
+use Rattle.oram_contents.specs.Entries.{Keys}
+use Rattle.rv32_core.specs.FlatRun.{flat_run, machine_at_start, output_limit}
+use Rattle.rv32_core.specs.Machine.{Machine}
 use Rattle.secure_machine.specs.Finish.{IsRightEnding}
+use Rattle.secure_machine.specs.FlatEnds.{FlatEnds}
 use Rattle.secure_machine.specs.declared.report.Ending.TheVariants.{Device}
 use Rattle.secure_machine.specs.declared.report.Report.{Report}
 
--- A report over a prepared bus: the log keeps the pace up to its end, has as many starts as it says, and is tied to
--- what
--- the memory was asked; a failure has its cause, and the ending is right.
+-- The code of a log is that of some indices, as many as it has choices, and there are no more such codes than the
+-- budget of bits allows.
+pub record IsInBudget (config : Config) (log : LogLists) : Type 0 where
+  pub code : log_code (public_of config) log < count_of (public_of config) ^ length (indices_of log.events)
+  pub few : count_of (public_of config) ^ length (indices_of log.events) ≤ 2 ^ config.leak
+
+-- A report over a prepared bus: the log keeps the pace up to its end, has as many starts, choices and answered lines as
+-- it says, and their code, and is tied to what the memory was asked; a failure has its cause, and the ending is right.
 pub record Reported (config : Config) (report : Report) (memory memory' : MemoryState) (tap tap' : TapState)
     : Type 0 where
   pub pace : KeepsPace config report.last tap'.log
   pub real : report.real ≡ count_by is_real tap'.log.events
   pub dummies : report.dummies ≡ count_by is_dummy tap'.log.events
+  pub choices : report.choices ≡ length (indices_of tap'.log.events)
+  pub code : report.code ≡ log_code (public_of config) tap'.log
+  pub fetches : report.fetches ≡ count_by is_answered tap'.log.events
   pub tied : (start : MemoryState) (buckets : List (List ℕ)) → Tied start buckets memory tap
       → Tied start buckets memory' tap'
   pub later : memory.faults ≤ memory'.faults
@@ -59,3 +76,22 @@ IsTiedOr config Otherwise memory memory' tap' =
 abbrev pub IsTiedButLast : Config → (memory memory' : MemoryState) (tap tap' : TapState) → Type 0
 IsTiedButLast config memory memory' tap tap' =
     TiedAt RanOut memory (zero_buckets config.shape.buckets) memory' tap' ⊎ (tap' ≡ tap)
+
+-- the keys of a chip: the tree's shape, the derived keys of pads and tags, and the leaf function
+abbrev pub chip_keys : Config → (pads tags : List ℕ) → (Point → ℕ) → Keys
+chip_keys config pads tags leaf_of = record { shape = config.shape; pads = pads; tags = tags; leaf_of = leaf_of }
+
+-- the flat machine before its first instruction, for an image, a memory and an input
+abbrev pub start_of : Config → Image → List ℕ → Machine
+start_of config image input =
+    machine_at_start image.entry config.base config.size image.heap input output_limit
+
+-- A report is that of flat RV32IM: the flat run of the image with the input finishes as many instructions as were
+-- reported, writes the output, and ends so. Where the ending is a stop, or budget or time were used up, this is a
+-- prefix of every longer run.
+pub record IsFlatReport (config : Config) (image : Image) (input : List ℕ) (report : Report) : Type 0 where
+  pub finished : (flat_run report.instructions (start_of config image input) image.bytes.items).instructions
+      ≡ report.instructions
+  pub output : report.output.items
+      ≡ (flat_run report.instructions (start_of config image input) image.bytes.items).machine.files.output
+  pub ends : FlatEnds report.instructions (start_of config image input) image.bytes.items report.ending

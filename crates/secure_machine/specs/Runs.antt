@@ -7,7 +7,7 @@ use Rattle.rate_enforcer.specs.PortStep.{PortState}
 use Rattle.secure_machine.specs.Finish.{Halts}
 use Rattle.secure_machine.specs.Goes.{Goes, Breaks}
 use Rattle.secure_machine.specs.Same.{IsSameLines, timed_of}
-use Rattle.secure_machine.specs.Timed.{CanAsk}
+use Rattle.secure_machine.specs.Timed.{CanAsk, KeepsNoted}
 use Rattle.secure_machine.specs.declared.lines.TimedLines.{TimedLines}
 use Rattle.secure_machine.specs.declared.machine.Halted.{Halted}
 
@@ -24,14 +24,17 @@ module _ {M W L : Type 0} (memory_of : M → MemoryState) (tap_of : W → TapSta
   pub record Onwards (s t : TimedLines M W L) : Type 0 where
     pub same : IsSameLines s t
     pub goes : Goes (port s) (port t)
+    pub fetches : KeepsNoted (timed_of memory_of tap_of s) (timed_of memory_of tap_of t)
     pub ready : Ready t
 
   -- the last of them was stopped
   pub record BreaksOff (stop : Stop) (s t : TimedLines M W L) : Type 0 where
     pub same : IsSameLines s t
     pub breaks : Breaks stop (port s) (port t)
+    pub fetches : KeepsNoted (timed_of memory_of tap_of s) (timed_of memory_of tap_of t)
 
   -- no more instructions come
   pub record HaltsOver (budget : ℕ) (halted : Halted) (s t : TimedLines M W L) : Type 0 where
     pub same : IsSameLines s t
     pub halts : Halts budget (levels_of t.oram.now.port.leaves) halted (port s) (timed_of memory_of tap_of t).oram
+    pub fetches : KeepsNoted (timed_of memory_of tap_of s) (timed_of memory_of tap_of t)

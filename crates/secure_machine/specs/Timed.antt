@@ -1,8 +1,10 @@
 -- The lines of an encrypted memory with a clock, and what is asked of them as steps of one relation.
 use Rattle.std.specs.Prelude.{◌≡◌, ◌+◌, ◌<◌, ◌≤◌, ℕ, List, [], None, Some, Result, Ok, Err, length}
+use Rattle.std.specs.List.{count_by}
 use Rattle.asc_base.specs.declared.stop.Stop.{Stop}
 use Rattle.data_cache.specs.Lines.{LineRequest, Fetch, Store, IsLine, IsLineAnswer}
 use Rattle.oram_contents.specs.Entries.{Keys}
+use Rattle.rate_enforcer.specs.Counts.{is_answered}
 use Rattle.oram_frontend.specs.Oram.{OramState, OramStep, CanServe, Fetch as OramFetch, Store as OramStore}
 
 -- an encrypted memory, the clock, and how many fetches were answered
@@ -23,6 +25,14 @@ pub record CanAsk (levels count : ℕ) (s : TimedState) : Type 0 where
   pub last : s.oram.port.clock.last ≤ s.clock
   pub lines : s.oram.port.clock.config.shape.lines ≡ count
   pub counted : s.fetches ≤ s.oram.port.clock.real
+
+-- As many fetches were answered as the log notes answered lines.
+abbrev pub AreNoted : TimedState → Type 0
+AreNoted s = s.fetches ≡ count_by is_answered s.oram.port.tap.log.events
+
+-- if that was so, it still is
+abbrev pub KeepsNoted : TimedState → TimedState → Type 0
+KeepsNoted old new = AreNoted old → AreNoted new
 
 -- A line that there is is asked for at the clock, which becomes the end of the last slot that it took. A stop leaves
 -- the

@@ -17,3 +17,8 @@ pub(crate) fn line_of(image: &Image, line: u32) -> Line
     bytes.copy_from_slice(&image.bytes[start..start + 64]);
     Line(bytes)
 }
+
+/// An image has as many bytes as its vector counts. The call does nothing.
+pub(crate) fn are_counted(image: &Image)
+    ensures { length image.now.bytes.items ≡ vec_len image.now.bytes }
+{}

@@ -21,13 +21,14 @@ pub use report::{Ending, Report};
 #[cfg(test)]
 mod tests;
 
-ghost use Rattle.std.specs.Prelude.{◌≡◌, ◌<◌, ◌≤◌, ◌+◌, ◌*◌, ◌^◌, ℕ, [], IfOk, OnErr};
+ghost use Rattle.std.specs.Prelude.{◌≡◌, ◌⊎◌, ◌<◌, ◌≤◌, ◌+◌, ◌*◌, ◌^◌, ℕ, [], IfOk, OnErr, length};
 ghost use Rattle.std.specs.List.{count_by};
 ghost use Rattle.asc_base.specs.Settings.{IsConfig};
 ghost use Rattle.asc_base.specs.TreeShape.{olat_of};
-ghost use Rattle.asc_outside.specs.Memory.{MemoryState};
+ghost use Rattle.asc_outside.specs.Memory.{MemoryState, zero_buckets};
 ghost use Rattle.asc_outside.specs.Rose.{Rose};
 ghost use Rattle.bus_schedule.specs.Scheduled.{log_code};
+ghost use Rattle.bus_schedule.specs.Shown.{indices_of};
 ghost use Rattle.bus_schedule.specs.Timetable.{public_of};
 ghost use Rattle.bus_watch.specs.Log.{TapState, LogLists};
 ghost use Rattle.bus_watch.specs.Ready.{IsReady};
@@ -35,13 +36,22 @@ ghost use Rattle.bus_watch.specs.Same.{IsSameBus};
 ghost use Rattle.data_cache.specs.Contents.{CacheBelow};
 ghost use Rattle.elf_loader.specs.Memory.{IsImage};
 ghost use Rattle.epoch_learner.specs.Stands.{KeepsPace};
+ghost use Rattle.encrypted_run.specs.Refined.{empty_cache};
+ghost use Rattle.oram_contents.specs.Entries.{AreKeys};
+ghost use Rattle.oram_contents.specs.Forgery.{Forgery};
+ghost use Rattle.oram_contents.specs.Starts.{empty_log};
 ghost use Rattle.oram_frontend.specs.Oram.{oram_of};
-ghost use Rattle.rate_enforcer.specs.Counts.{IsCounted, is_dummy, is_real};
+ghost use Rattle.oram_lines.specs.Lines.{IsNew};
+ghost use Rattle.rate_enforcer.specs.PortStep.{Resting, port_of};
+ghost use Rattle.rate_enforcer.specs.Served.{keys_of};
+ghost use Rattle.rate_enforcer.specs.Counts.{IsCounted, is_dummy, is_real, is_answered};
 ghost use Rattle.secure_machine.specs.Finish.{IsRightEnding};
-ghost use Rattle.secure_machine.specs.Run.{Reported, Wanting, IsUnprepared, IsTiedOr, IsTiedButLast};
+ghost use Rattle.secure_machine.specs.Run.{Reported, Wanting, IsFlatReport, IsUnprepared, IsTiedOr, IsTiedButLast, chip_keys, start_of, IsInBudget};
+ghost use Rattle.secure_machine.specs.LastMove.{EndsWithMove};
 ghost use Rattle.secure_machine.specs.Same.{oram_over};
 ghost use Rattle.secure_machine.specs.Timed.{Serving};
 
+use crate::image::are_counted;
 use crate::machine::{Course, drive};
 use asc_base::{Config, NoMemory};
 use asc_outside::UntrustedMemory;
@@ -84,6 +94,14 @@ fn new_oram<L: LeafFn>(
     ensures config { IfOk result (λ oram. oram.port.clock.config ≡ config.now) }
     ensures last { IfOk result (λ oram. oram.port.clock.last ≡ 0) }
     ensures counts { IfOk result (λ oram. (log : LogLists) → log.events ≡ [] → IsCounted oram.port.clock log) }
+    ensures keys { IfOk result (λ oram. keys_of oram.port.tree oram.tagger (L.leaf_of oram.port.leaves)
+        ≡ chip_keys config.now codec tagger (L.leaf_of leaf)) }
+    ensures new { IfOk result (λ oram. (memory : MemoryState) (tap : TapState) → tap.log ≡ empty_log
+        → tap.mirror ≡ zero_buckets config.now.shape.buckets
+        → Resting 0 (L.levels oram.port.leaves) (port_of oram.port.clock oram.port.tree memory tap)
+        → IsNew (keys_of oram.port.tree oram.tagger (L.leaf_of oram.port.leaves)) config.now
+        (L.levels oram.port.leaves)
+        (oram_of oram.front oram.port.clock oram.port.tree oram.stop memory tap)) }
 {
     let tree = Tree::new(alloc, &config.shape, config.stash, codec)?;
     let port = Port::new(config, leaf, tree);
@@ -153,13 +171,22 @@ fn run_prepared<M: UntrustedMemory, W: Watch, L: LeafFn>(
     requires port { oram.port.clock.config ≡ config.now }
     requires last { oram.port.clock.last ≡ 0 }
     requires counted { IsCounted oram.port.clock (W.state bus.old.tap.now).log }
+    requires unanswered { count_by is_answered (W.state bus.old.tap.now).log.events ≡ 0 }
     requires below { CacheBelow config.now.shape.lines cache }
+    requires empty { cache ≡ empty_cache config.now.sets config.now.ways }
+    requires unread { files ≡ (start_of config.now image.now files.input).files }
+    requires new { IsNew (keys_of oram.port.tree oram.tagger (L.leaf_of oram.port.leaves)) config.now
+        (L.levels oram.port.leaves) (oram_over M.state W.state oram bus.old.memory.now bus.old.tap.now) }
     ensures same { IsSameBus bus.old bus.new }
+    ensures refines { AreKeys (keys_of oram.port.tree oram.tagger (L.leaf_of oram.port.leaves)) → IfOk result (λ report.
+        Forgery (keys_of oram.port.tree oram.tagger (L.leaf_of oram.port.leaves)) (W.state bus.new.tap.now).log
+        ⊎ IsFlatReport config.now image.now files.input report) }
     ensures reported { IfOk result (λ report. Reported config.now report (M.state bus.old.memory.now)
         (M.state bus.new.memory.now) (W.state bus.old.tap.now) (W.state bus.new.tap.now)) }
     ensures wanting { OnErr result (Wanting config.now (M.state bus.old.memory.now)
         (M.state bus.new.memory.now) (W.state bus.old.tap.now) (W.state bus.new.tap.now)) }
 {
+    are_counted(image);
     let mut core = Core::new(image.entry, config.base, config.size, image.heap);
     match drive(
         image,
@@ -202,9 +229,16 @@ pub fn run<M: UntrustedMemory, W: Watch, L: LeafFn>(
     ensures same { IsSameBus bus.old bus.new }
     ensures pace { IfOk result (λ report. KeepsPace config.now report.last (W.state bus.new.tap.now).log) }
     ensures pace_err { OnErr result ((end : ℕ) × KeepsPace config.now end (W.state bus.new.tap.now).log) }
+    ensures end_err { OnErr result (EndsWithMove config.now (W.state bus.new.tap.now).log) }
     ensures bits { log_code (public_of config.now) (W.state bus.new.tap.now).log < 2 ^ config.now.leak }
     ensures real { IfOk result (λ report. report.real ≡ count_by is_real (W.state bus.new.tap.now).log.events) }
     ensures dummies { IfOk result (λ report. report.dummies ≡ count_by is_dummy (W.state bus.new.tap.now).log.events) }
+    ensures choices { IfOk result (λ report. report.choices
+        ≡ length (indices_of (W.state bus.new.tap.now).log.events)) }
+    ensures code { IfOk result (λ report. report.code ≡ log_code (public_of config.now) (W.state bus.new.tap.now).log) }
+    ensures fetches { IfOk result (λ report. report.fetches
+        ≡ count_by is_answered (W.state bus.new.tap.now).log.events) }
+    ensures budget { IsInBudget config.now (W.state bus.new.tap.now).log }
     ensures tied { IfOk result (λ report. IsTiedOr config.now
         (IsUnprepared report (W.state bus.old.tap.now) (W.state bus.new.tap.now))
         (M.state bus.old.memory.now) (M.state bus.new.memory.now) (W.state bus.new.tap.now)) }
@@ -215,7 +249,11 @@ pub fn run<M: UntrustedMemory, W: Watch, L: LeafFn>(
         → Rose (M.state bus.old.memory.now).faults (M.state bus.new.memory.now).faults) }
     ensures right { IfOk result (λ report.
         IsRightEnding config.now.budget config.now.time report.instructions report.cycles report.last report.ending) }
+    ensures refines { IfOk result (λ report.
+        Forgery (chip_keys config.now codec tagger (L.leaf_of leaf)) (W.state bus.new.tap.now).log
+        ⊎ IsFlatReport config.now image.now input.now report) }
 {
+    leaf.gives_leaves();
     let files = Files::new(alloc, input, OUTPUT_LIMIT)?;
     let cache = Cache::new(alloc, config.sets, config.ways)?;
     let oram = new_oram(alloc, config, leaf, tagger, codec)?;

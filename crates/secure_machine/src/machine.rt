@@ -2,26 +2,30 @@
 
 ghost use Rattle.std.specs.Prelude.{◌⊎◌, List};
 ghost use Rattle.data_cache.specs.CacheLists.{line_in};
-ghost use Rattle.encrypted_run.specs.Refined.{loaded};
+ghost use Rattle.encrypted_run.specs.Refined.{Computes, loaded};
 ghost use Rattle.oram_contents.specs.Entries.{AreKeys};
+ghost use Rattle.oram_contents.specs.Forgery.{Forgery};
+ghost use Rattle.rate_enforcer.specs.Served.{keys_of};
 ghost use Rattle.rv32_core.specs.Access.{spliced};
 ghost use Rattle.rv32_core.specs.FlatMachine.{flat_step};
-ghost use Rattle.rv32_core.specs.Machine.{IsCore};
+ghost use Rattle.rv32_core.specs.Machine.{Machine, IsCore};
 ghost use Rattle.rv32_core.specs.StepPlan.{machine_of};
 ghost use Rattle.rv32_core.specs.declared.outcome.Done.{Done as DoneValue};
 ghost use Rattle.rv32_core.specs.declared.outcome.Ended.TheVariants.{No};
-ghost use Rattle.secure_machine.specs.FlatEnds.{HaltsFlat};
+ghost use Rattle.secure_machine.specs.FlatEnds.{HaltsFlat, HaltsRun, IsFlat, ending_by};
 ghost use Rattle.secure_machine.specs.Refines.{IsForged, StandFor, Knows};
-ghost use Rattle.std.specs.Prelude.{◌≡◌, ◌<◌, ◌*◌, ◌%◌, ℕ, OnOk, IfErr, MatchResult, vec_len};
+ghost use Rattle.std.specs.Prelude.{◌≡◌, ◌<◌, ◌*◌, ◌%◌, ℕ, Some, OnOk, IfOk, IfErr, MatchResult, vec_len};
+ghost use Rattle.std.specs.List.{count_by};
 ghost use Rattle.data_cache.specs.Contents.{CacheBelow};
 ghost use Rattle.elf_loader.specs.Memory.{IsImage};
+ghost use Rattle.rate_enforcer.specs.Counts.{is_answered};
 ghost use Rattle.rate_enforcer.specs.PortStep.{PortState};
 ghost use Rattle.secure_machine.specs.declared.machine.Cause.TheVariants.{Ends, Stops};
 ghost use Rattle.secure_machine.specs.Finish.{Halts, Settled, Short};
 ghost use Rattle.secure_machine.specs.Goes.{Breaks};
 ghost use Rattle.secure_machine.specs.Runs.{Onwards, BreaksOff, HaltsOver, Ready};
 ghost use Rattle.secure_machine.specs.Same.{IsSameLines, keys_in, oram_over, timed_of};
-ghost use Rattle.secure_machine.specs.Timed.{Serving};
+ghost use Rattle.secure_machine.specs.Timed.{Serving, KeepsNoted};
 ghost use Rattle.bus_watch.specs.Same.{IsSameBus};
 
 use crate::image::line_of;
@@ -142,6 +146,8 @@ fn load<M: UntrustedMemory, W: Watch, L: LeafFn>(
     ensures onwards { OnOk result (Onwards M.state W.state L.levels lines.old lines.new) }
     ensures halts { IfErr result (λ halted. HaltsOver M.state W.state L.levels budget halted lines.old lines.new) }
     ensures below { OnOk result (CacheBelow lines.new.count cache.new) }
+    ensures none { IfErr result (λ halted. (machine : Machine) (memory : List ℕ)
+        → HaltsFlat 0 machine memory halted machine) }
     ensures refines { (memory : List ℕ) → AreKeys (keys_in L.leaf_of lines.old)
         → Knows M.state W.state L.leaf_of L.levels cache.old memory lines.old
         → OnOk result (Knows M.state W.state L.leaf_of L.levels cache.new
@@ -172,6 +178,9 @@ fn step<M: UntrustedMemory, W: Watch, L: LeafFn>(
     requires below { CacheBelow lines.old.count cache.old }
     ensures same_base { core.new.base ≡ core.old.base }
     ensures same_size { core.new.size ≡ core.old.size }
+    ensures core { IsCore core.old → OnOk result (IsCore core.new) }
+    ensures forged { AreKeys (keys_in L.leaf_of lines.old) → IsForged M.state W.state L.leaf_of L.levels lines.old
+        → IsForged M.state W.state L.leaf_of L.levels lines.new }
     ensures onwards { OnOk result (Onwards M.state W.state L.levels lines.old lines.new) }
     ensures breaks { IfErr result (λ stop. BreaksOff M.state W.state L.levels stop lines.old lines.new) }
     ensures below { OnOk result (CacheBelow lines.new.count cache.new) }
@@ -212,6 +221,9 @@ fn instruction<M: UntrustedMemory, W: Watch, L: LeafFn>(
     requires below { CacheBelow lines.old.count cache.old }
     ensures same_base { core.new.base ≡ core.old.base }
     ensures same_size { core.new.size ≡ core.old.size }
+    ensures core { IsCore core.old → OnOk result (IsCore core.new) }
+    ensures forged { AreKeys (keys_in L.leaf_of lines.old) → IsForged M.state W.state L.leaf_of L.levels lines.old
+        → IsForged M.state W.state L.leaf_of L.levels lines.new }
     ensures onwards { OnOk result (Onwards M.state W.state L.levels lines.old lines.new) }
     ensures halts { IfErr result (λ halted. HaltsOver M.state W.state L.levels budget halted lines.old lines.new) }
     ensures below { OnOk result (CacheBelow lines.new.count cache.new) }
@@ -267,6 +279,11 @@ fn play<M: UntrustedMemory, W: Watch, L: LeafFn>(
     requires ready { Ready M.state W.state L.levels lines.old }
     requires below { CacheBelow lines.old.count cache.old }
     ensures halts { HaltsOver M.state W.state L.levels budget result lines.old lines.new }
+    ensures refines { (memory : List ℕ) → AreKeys (keys_in L.leaf_of lines.old) → IsCore core.old
+        → Knows M.state W.state L.leaf_of L.levels cache.old memory lines.old
+        → IsForged M.state W.state L.leaf_of L.levels lines.new
+        ⊎ HaltsRun (machine_of core.old files.old) (loaded image.now.bytes.items image.now.marked.items memory) result
+        (machine_of core.new files.new) }
 {
     match load(image, cache, lines, base, budget) {
         Ok(()) => {}
@@ -287,7 +304,8 @@ fn ending_of<M: UntrustedMemory, W: Watch, L: LeafFn>(
     stop: Stop,
     lines: &TimedLines<'_, '_, M, W, L>,
 ) -> Result<(Ending, u64), NoMemory>
-    ensures { (budget instructions cycles : ℕ) (old : PortState)
+    ensures named { IfOk result (λ (ending, last). ending_by stop ≡ Some ending) }
+    ensures settled { (budget instructions cycles : ℕ) (old : PortState)
         → Breaks stop old (timed_of M.state W.state lines.now).oram.port
         → MatchResult result
         (λ (ending, last). Settled budget instructions cycles ending last old (timed_of M.state W.state
@@ -319,6 +337,11 @@ fn finish<M: UntrustedMemory, W: Watch, L: LeafFn>(
         (λ (ending, last). Settled budget halted.instructions halted.cycles ending last first
         (timed_of M.state W.state lines.new).oram.port)
         (λ _. Short first (timed_of M.state W.state lines.new).oram.port) }
+    ensures refines { (machine last : Machine) (memory : List ℕ) → AreKeys (keys_in L.leaf_of lines.old)
+        → IsForged M.state W.state L.leaf_of L.levels lines.old ⊎ HaltsRun machine memory halted last
+        → IfOk result (λ (ending, end). IsForged M.state W.state L.leaf_of L.levels lines.new
+        ⊎ IsFlat halted.instructions machine memory ending last) }
+    ensures fetches { KeepsNoted (timed_of M.state W.state lines.old) (timed_of M.state W.state lines.new) }
 {
     match halted.cause {
         Cause::Ends { ending, until } => match lines.idle_until(until) {
@@ -355,6 +378,17 @@ pub(crate) fn drive<M: UntrustedMemory, W: Watch, L: LeafFn>(
         (oram_over M.state W.state oram.new bus.new.memory.now bus.new.tap.now).port)
         (λ _. Short (oram_over M.state W.state oram.old bus.old.memory.now bus.old.tap.now).port
         (oram_over M.state W.state oram.new bus.new.memory.now bus.new.tap.now).port) }
+    ensures refines { (memory : List ℕ)
+        → AreKeys (keys_of oram.old.port.tree oram.old.tagger (L.leaf_of oram.old.port.leaves)) → IsCore core.old
+        → Computes (keys_of oram.old.port.tree oram.old.tagger (L.leaf_of oram.old.port.leaves))
+        (L.levels oram.old.port.leaves) cache.old memory
+        (oram_over M.state W.state oram.old bus.old.memory.now bus.old.tap.now)
+        → IfOk result (λ course. Forgery
+        (keys_of oram.old.port.tree oram.old.tagger (L.leaf_of oram.old.port.leaves)) (W.state bus.new.tap.now).log
+        ⊎ IsFlat course.instructions (machine_of core.old files.old)
+        (loaded image.now.bytes.items image.now.marked.items memory) course.ending (machine_of core.new files.new)) }
+    ensures fetches { count_by is_answered (W.state bus.old.tap.now).log.events ≡ 0
+        → IfOk result (λ course. course.fetches ≡ count_by is_answered (W.state bus.new.tap.now).log.events) }
 {
     let mut lines = TimedLines::new(bus.memory, bus.tap, oram);
     let halted = play(image, base, budget, core, files, cache, &mut lines);

@@ -1,4 +1,4 @@
-use Rattle.std.proofs.Common.{◌≤◌, ◌<◌, ◌+◌, ◌*◌, ◌^◌, ◌∙◌, sym, ap, subst, inl, inr, arith}
+use Rattle.std.proofs.Common.{◌≡◌, ◌≤◌, ◌<◌, ◌+◌, ◌*◌, ◌^◌, ◌∙◌, ℕ, List, [], sym, ap, subst, inl, inr, arith, length}
 use Rattle.std.proofs.lemmas.Nat.{mul-le}
 use Rattle.std.proofs.lemmas.Result.{IfOk-weaker}
 use Rattle.std.proofs.Math.Pow.{pow_mono}
@@ -6,15 +6,22 @@ use Rattle.std.specs.List.{count_by}
 use Rattle.asc_base.proofs.ShapeFacts.{shape_layered}
 use Rattle.asc_outside.specs.Memory.{zero_buckets}
 use Rattle.bus_schedule.specs.Scheduled.{log_code}
+use Rattle.bus_schedule.specs.Shown.{indices_of}
 use Rattle.bus_schedule.specs.Timetable.{public_of}
-use Rattle.bus_watch.proofs.PreparedLaws.{prepared_ready}
 use Rattle.bus_watch.specs.Log.{LogLists, TapState}
 use Rattle.epoch_learner.specs.Stands.{KeepsPace}
-use Rattle.rate_enforcer.specs.Counts.{is_dummy, is_real}
+use Rattle.rate_enforcer.specs.Counts.{is_dummy, is_real, is_answered}
 use Rattle.secure_machine.specs.Finish.{IsRightEnding}
-use Rattle.secure_machine.specs.Run.{Reported, Wanting, IsUnprepared}
+use Rattle.oram_contents.specs.Entries.{Keys, AreKeys}
+use Rattle.oram_contents.specs.Forgery.{Forgery}
+use Rattle.rv32_core.specs.FlatRun.{output_limit}
+use Rattle.rv32_core.specs.Machine.{FilesState}
+use Rattle.secure_machine.specs.Run.{Reported, Wanting, IsFlatReport, IsUnprepared, chip_keys, IsInBudget}
 use Rattle.secure_machine.specs.declared.report.Report.{Report}
-use Rattle.secure_machine.proofs.Starts.{on_err_with, on_err_so, on_both, start_pace, pace_bits, zero_tied, refused_tap}
+use Rattle.secure_machine.proofs.Starts.{on_err_with, on_err_so, on_both, start_pace, pace_bits, zero_tied, refused_tap, prepared_room, log_empty, chip_lawful, pace_budget, start_budget, start_ends, empty_code}
+use Rattle.secure_machine.proofs.ReportLaws.{unprepared_flat}
+use Rattle.secure_machine.specs.LastMove.{EndsWithMove}
+use Rattle.secure_machine.proofs.LastMoves.{ends_with_move}
 use Rattle.secure_machine.proofs.run.Goals as goal
 
 pub returns-in_err-files-clause-pace_err : goal.returns-in_err-files-clause-pace_err
@@ -75,16 +82,56 @@ prepare-requires-clause-levels g c =
 pub run_prepared-requires-clause-serving : goal.run_prepared-requires-clause-serving
 run_prepared-requires-clause-serving g c =
     let p = c.in-Ok.ensures.prepared in
-    let shape = c.args.config.now.shape in
-    let slots = c.most_slots.result in
-    let levels = (shape_layered shape c.requires.config.is_shape).levels_to in
-    let most : slots ≤ 268435457 = omega (arith, c.most_slots.ensures.few) in
-    let few : 2 * (shape.levels + 1) * slots ≤ 36 * 268435457 =
-    mul-le (2 * (shape.levels + 1)) slots 36 268435457 (omega (arith, levels)) most in
-    c.in_ok-oram.ensures.serving slots (g.M.UntrustedMemory.state c.prepare.new.self.memory.now)
-    (g.W.Watch.state c.prepare.new.self.tap.now) (ap (λ (x : LogLists). x.events) p.log ∙ c.requires.no_events)
+    let m = g.M.UntrustedMemory.state c.prepare.new.self.memory.now in
+    let t = g.W.Watch.state c.prepare.new.self.tap.now in
+    c.in_ok-oram.ensures.serving c.most_slots.result m t (ap (λ (x : LogLists). x.events) p.log ∙ c.requires.no_events)
     (ap (λ (x : LogLists). x.moves) p.log ∙ c.requires.no_moves) c.most_slots.ensures.enough
-    (prepared_ready shape.buckets shape.levels slots p (omega (arith, few, c.requires.moved)))
+    (prepared_room c.args.config.now c.most_slots.result (g.M.UntrustedMemory.state c.args.bus.now.memory.now) m
+    (g.W.Watch.state c.args.bus.now.tap.now) t c.requires.config c.most_slots.ensures.few c.requires.moved p)
+
+pub run_prepared-requires-clause-unread : goal.run_prepared-requires-clause-unread
+run_prepared-requires-clause-unread g c =
+    let is = c.in_ok-files.ensures in
+    is ∙ ap (λ (input : List ℕ). let f : FilesState = record {
+      input = input;
+      position = 0;
+      output = [];
+      limit = output_limit;
+    } in f) (sym (ap (λ (f : FilesState). f.input) is))
+
+pub run_prepared-requires-clause-new : goal.run_prepared-requires-clause-new
+run_prepared-requires-clause-new g c =
+    let p = c.in-Ok.ensures.prepared in
+    let m = g.M.UntrustedMemory.state c.prepare.new.self.memory.now in
+    let t = g.W.Watch.state c.prepare.new.self.tap.now in
+    let events = ap (λ (x : LogLists). x.events) p.log ∙ c.requires.no_events in
+    let moves = ap (λ (x : LogLists). x.moves) p.log ∙ c.requires.no_moves in
+    let serving = c.in_ok-oram.ensures.serving c.most_slots.result m t events moves c.most_slots.ensures.enough
+    (prepared_room c.args.config.now c.most_slots.result (g.M.UntrustedMemory.state c.args.bus.now.memory.now) m
+    (g.W.Watch.state c.args.bus.now.tap.now) t c.requires.config c.most_slots.ensures.few c.requires.moved p) in
+    c.in_ok-oram.ensures.new m t
+    (log_empty t.log events moves (ap (λ (x : LogLists). x.altered) p.log ∙ c.requires.no_altered))
+    p.by_answer.mirror serving.serves.rests
+
+pub returns-in-Ok-clause-refines : goal.returns-in-Ok-clause-refines
+returns-in-Ok-clause-refines g c =
+    let config = c.args.config.now in
+    let keys = chip_keys config c.args.codec c.args.tagger (g.L.LeafFn.leaf_of c.args.leaf) in
+    let log = (g.W.Watch.state c.run_prepared.new.bus.tap.now).log in
+    let lawful : AreKeys keys = chip_lawful g.L.LeafFn.leaf_of g.L.LeafFn.levels config c.args.codec c.args.tagger
+    c.args.leaf c.requires.config c.requires.levels c.gives_leaves.ensures in
+    let same = c.in_ok-oram.ensures.keys in
+    let input : c.in_ok-files.files.input ≡ c.args.input.now = ap (λ (f : FilesState). f.input) c.in_ok-files.ensures in
+    IfOk-weaker c.run_prepared.result _ _ (λ report known. elim known [
+      | inl forged ↦ inl (subst (λ (z : Keys). Forgery z log) same forged)
+      | inr flat ↦ inr (subst (λ (l : List ℕ). IsFlatReport config c.args.image.now l report) input flat)
+    ]) (c.run_prepared.ensures.refines (subst AreKeys (sym same) lawful))
+
+pub returns-in-Err-Device-clause-refines : goal.returns-in-Err-Device-clause-refines
+returns-in-Err-Device-clause-refines g c =
+    let tap = g.W.Watch.state c.args.bus.now.tap.now in
+    inr (unprepared_flat c.args.config.now c.args.image.now c.args.input.now c.unprepared.result tap tap
+    (c.unprepared.ensures tap))
 
 pub returns-in-Ok-clause-bits : goal.returns-in-Ok-clause-bits
 returns-in-Ok-clause-bits g c =
@@ -183,3 +230,89 @@ returns-in-Err-NoMemory-clause-bits g c =
     subst (λ (log : LogLists). log_code (public_of config) log < 2 ^ config.leak)
     (sym c.in-Err-NoMemory.ensures.prepared.log) (pace_bits config 0 old c.requires.config
     (start_pace config old c.requires.config c.requires.no_events c.requires.no_moves))
+
+pub returns-in_err-files-clause-budget : goal.returns-in_err-files-clause-budget
+returns-in_err-files-clause-budget g c =
+    start_budget c.args.config.now (g.W.Watch.state c.args.bus.now.tap.now).log c.requires.config c.requires.no_events
+    c.requires.no_moves
+
+pub returns-in_err-files-clause-end_err : goal.returns-in_err-files-clause-end_err
+returns-in_err-files-clause-end_err g c =
+    on_err_with c.from_residual.result (start_ends c.args.config.now (g.W.Watch.state c.args.bus.now.tap.now).log
+    c.requires.config c.requires.no_events c.requires.no_moves)
+
+pub returns-in_err-cache-clause-budget : goal.returns-in_err-cache-clause-budget
+returns-in_err-cache-clause-budget g c =
+    start_budget c.args.config.now (g.W.Watch.state c.args.bus.now.tap.now).log c.requires.config c.requires.no_events
+    c.requires.no_moves
+
+pub returns-in_err-cache-clause-end_err : goal.returns-in_err-cache-clause-end_err
+returns-in_err-cache-clause-end_err g c =
+    on_err_with c.from_residual-in_err-cache.result (start_ends c.args.config.now
+    (g.W.Watch.state c.args.bus.now.tap.now).log c.requires.config c.requires.no_events c.requires.no_moves)
+
+pub returns-in_err-oram-clause-budget : goal.returns-in_err-oram-clause-budget
+returns-in_err-oram-clause-budget g c =
+    start_budget c.args.config.now (g.W.Watch.state c.args.bus.now.tap.now).log c.requires.config c.requires.no_events
+    c.requires.no_moves
+
+pub returns-in_err-oram-clause-end_err : goal.returns-in_err-oram-clause-end_err
+returns-in_err-oram-clause-end_err g c =
+    on_err_with c.from_residual-in_err-oram.result (start_ends c.args.config.now
+    (g.W.Watch.state c.args.bus.now.tap.now).log c.requires.config c.requires.no_events c.requires.no_moves)
+
+pub returns-in-Ok-clause-budget : goal.returns-in-Ok-clause-budget
+returns-in-Ok-clause-budget g c =
+    let config = c.args.config.now in
+    let log = (g.W.Watch.state c.run_prepared.new.bus.tap.now).log in
+    let m = g.M.UntrustedMemory.state c.prepare.new.self.memory.now in
+    let t = g.W.Watch.state c.prepare.new.self.tap.now in
+    let m2 = g.M.UntrustedMemory.state c.run_prepared.new.bus.memory.now in
+    let t2 = g.W.Watch.state c.run_prepared.new.bus.tap.now in
+    on_both (λ (report : Report). Reported config report m m2 t t2) (Wanting config m m2 t t2)
+    (IsInBudget config log) c.run_prepared.result c.run_prepared.ensures.reported c.run_prepared.ensures.wanting
+    (λ report r. pace_budget config report.last log c.requires.config r.pace)
+    (λ w. pace_budget config w.end log c.requires.config w.pace)
+
+pub returns-in-Ok-clause-end_err : goal.returns-in-Ok-clause-end_err
+returns-in-Ok-clause-end_err g c =
+    let log = (g.W.Watch.state c.run_prepared.new.bus.tap.now).log in
+    on_err_so _ _ c.run_prepared.result c.run_prepared.ensures.wanting
+    (λ w. ends_with_move c.args.config.now w.end log w.pace.scheduled)
+
+pub returns-in-Err-Device-clause-budget : goal.returns-in-Err-Device-clause-budget
+returns-in-Err-Device-clause-budget g c =
+    let old = (g.W.Watch.state c.args.bus.now.tap.now).log in
+    subst (IsInBudget c.args.config.now) (sym c.in-Err-Device.ensures.prepared.log)
+    (start_budget c.args.config.now old c.requires.config c.requires.no_events c.requires.no_moves)
+
+pub returns-in-Err-Device-clause-choices : goal.returns-in-Err-Device-clause-choices
+returns-in-Err-Device-clause-choices g c =
+    (c.unprepared.ensures (g.W.Watch.state c.args.bus.now.tap.now)).choices
+    ∙ sym (ap (λ (log : LogLists). length (indices_of log.events)) c.in-Err-Device.ensures.prepared.log
+    ∙ ap (λ events. length (indices_of events)) c.requires.no_events)
+
+pub returns-in-Err-Device-clause-code : goal.returns-in-Err-Device-clause-code
+returns-in-Err-Device-clause-code g c =
+    let p = public_of c.args.config.now in
+    (c.unprepared.ensures (g.W.Watch.state c.args.bus.now.tap.now)).code
+    ∙ sym (ap (log_code p) c.in-Err-Device.ensures.prepared.log
+    ∙ empty_code p (g.W.Watch.state c.args.bus.now.tap.now).log c.requires.no_events)
+
+pub returns-in-Err-Device-clause-fetches : goal.returns-in-Err-Device-clause-fetches
+returns-in-Err-Device-clause-fetches g c =
+    (c.unprepared.ensures (g.W.Watch.state c.args.bus.now.tap.now)).fetches
+    ∙ sym (ap (λ (log : LogLists). count_by is_answered log.events) c.in-Err-Device.ensures.prepared.log
+    ∙ ap (count_by is_answered) c.requires.no_events)
+
+pub returns-in-Err-NoMemory-clause-budget : goal.returns-in-Err-NoMemory-clause-budget
+returns-in-Err-NoMemory-clause-budget g c =
+    let old = (g.W.Watch.state c.args.bus.now.tap.now).log in
+    subst (IsInBudget c.args.config.now) (sym c.in-Err-NoMemory.ensures.prepared.log)
+    (start_budget c.args.config.now old c.requires.config c.requires.no_events c.requires.no_moves)
+
+pub returns-in-Err-NoMemory-clause-end_err : goal.returns-in-Err-NoMemory-clause-end_err
+returns-in-Err-NoMemory-clause-end_err g c =
+    let old = (g.W.Watch.state c.args.bus.now.tap.now).log in
+    subst (EndsWithMove c.args.config.now) (sym c.in-Err-NoMemory.ensures.prepared.log)
+    (start_ends c.args.config.now old c.requires.config c.requires.no_events c.requires.no_moves)

@@ -8,8 +8,8 @@ use Rattle.secure_machine.specs.declared.report.Ending.TheVariants.{StashFull, I
 use Rattle.secure_machine.proofs.Settles.{integrity_settles, full_settles, time_settles, device_settles, short_of}
 use Rattle.secure_machine.proofs.machine.ending_of.Goals as goal
 
-pub returns-in-Integrity : goal.returns-in-Integrity
-returns-in-Integrity g c =
+pub returns-in-Integrity-clause-settled : goal.returns-in-Integrity-clause-settled
+returns-in-Integrity-clause-settled g c =
     let new = port g.M.UntrustedMemory.state g.W.Watch.state g.L.LeafFn.levels c.args.lines.now in
     λ budget instructions cycles old h.
     subst (λ n. Settled budget instructions cycles (Integrity c.in-Integrity.evidence) n old new)
@@ -17,29 +17,29 @@ returns-in-Integrity g c =
     (integrity_settles budget instructions cycles old new c.in-Integrity.evidence
     (subst (λ (s : Stop). Breaks s old new) c.in-Integrity.is h))
 
-pub returns-in-StashFull : goal.returns-in-StashFull
-returns-in-StashFull g c =
+pub returns-in-StashFull-clause-settled : goal.returns-in-StashFull-clause-settled
+returns-in-StashFull-clause-settled g c =
     let new = port g.M.UntrustedMemory.state g.W.Watch.state g.L.LeafFn.levels c.args.lines.now in
     λ budget instructions cycles old h.
     subst (λ n. Settled budget instructions cycles (StashFull c.in-StashFull.held) n old new) (sym c.last-last.ensures)
     (full_settles budget instructions cycles old new c.in-StashFull.held
     (subst (λ (s : Stop). Breaks s old new) c.in-StashFull.is h))
 
-pub returns-in-Device : goal.returns-in-Device
-returns-in-Device g c =
+pub returns-in-Device-clause-settled : goal.returns-in-Device-clause-settled
+returns-in-Device-clause-settled g c =
     let new = port g.M.UntrustedMemory.state g.W.Watch.state g.L.LeafFn.levels c.args.lines.now in
     λ budget instructions cycles old h.
     subst (λ n. Settled budget instructions cycles Device n old new) (sym c.last-last.ensures)
     (device_settles budget instructions cycles old new (subst (λ (s : Stop). Breaks s old new) c.in-Device.is h))
 
-pub returns-in-NoMemory : goal.returns-in-NoMemory
-returns-in-NoMemory g c =
+pub returns-in-NoMemory-clause-settled : goal.returns-in-NoMemory-clause-settled
+returns-in-NoMemory-clause-settled g c =
     let new = port g.M.UntrustedMemory.state g.W.Watch.state g.L.LeafFn.levels c.args.lines.now in
     λ budget instructions cycles old h.
     short_of budget instructions cycles old new (subst (λ (s : Stop). Breaks s old new) c.in-NoMemory.is h)
 
-pub returns-in-TimeUp : goal.returns-in-TimeUp
-returns-in-TimeUp g c =
+pub returns-in-TimeUp-clause-settled : goal.returns-in-TimeUp-clause-settled
+returns-in-TimeUp-clause-settled g c =
     let new = port g.M.UntrustedMemory.state g.W.Watch.state g.L.LeafFn.levels c.args.lines.now in
     λ budget instructions cycles old h.
     let broke = subst (λ (s : Stop). Breaks s old new) c.in-TimeUp.is h in

@@ -1,10 +1,18 @@
-use Rattle.std.proofs.Common.{refl, subst}
-use Rattle.oram_frontend.specs.Oram.{Wait}
+use Rattle.std.proofs.Common.{ℕ, ◌≡◌, Err, inl, inr, refl, sym, subst, ◌∙◌}
+use Rattle.std.proofs.lemmas.Result.{IfOk-weaker}
+use Rattle.asc_base.specs.declared.stop.Stop.{Stop}
+use Rattle.asc_base.specs.declared.stop.Stop.TheVariants.{TimeUp}
+use Rattle.oram_lines.proofs.LineLaws.{forgery_call, forgery_stop}
+use Rattle.secure_machine.specs.FlatEnds.{CauseRuns, ending_by}
+use Rattle.secure_machine.proofs.FlatLaws.{prefix_ends, ended_stops}
+use Rattle.secure_machine.proofs.Refining.{forged_now}
+use Rattle.oram_frontend.specs.Oram.{OramStep, Wait}
 use Rattle.oram_frontend.specs.Slots.{FitKeys}
 use Rattle.secure_machine.specs.Finish.{HaltsBy}
 use Rattle.secure_machine.specs.Same.{timed_of, keys_in}
 use Rattle.secure_machine.specs.declared.machine.Cause.{Cause}
-use Rattle.secure_machine.proofs.OramGoes.{oram_goes, oram_breaks, wait_after, wait_pace}
+use Rattle.secure_machine.proofs.OramGoes.{oram_goes, oram_breaks, wait_after, wait_in_time, wait_pace}
+use Rattle.secure_machine.proofs.NotedLines.{wait_quiet, request_stop}
 use Rattle.secure_machine.proofs.PortGoes.{breaks_then}
 use Rattle.secure_machine.proofs.Settles.{idle_settles}
 use Rattle.secure_machine.proofs.machine.finish.Goals as goal
@@ -37,6 +45,67 @@ returns-in-Err-clause-settled g c =
     c.args.halted.cycles cause first old)
     c.in-Ends.is h in
     let fits : FitKeys keys old.port = record { shape = refl; pads = refl } in
-    c.ending_of.ensures c.args.budget c.args.halted.instructions c.args.halted.cycles first
+    c.ending_of.ensures.settled c.args.budget c.args.halted.instructions c.args.halted.cycles first
     (breaks_then by.0 (oram_breaks keys levels old new fits by.1 (Wait c.in-Ends.until) c.in-Err.stop
     c.in-Err.ensures.step))
+
+pub returns-in-Ok-clause-refines : goal.returns-in-Ok-clause-refines
+returns-in-Ok-clause-refines g c machine last memory lawful known =
+    let levels = g.L.LeafFn.levels c.args.lines.now.oram.now.port.leaves in
+    let keys = keys_in g.L.LeafFn.leaf_of c.args.lines.now in
+    let old = (timed_of g.M.UntrustedMemory.state g.W.Watch.state c.args.lines.now).oram in
+    let new = (timed_of g.M.UntrustedMemory.state g.W.Watch.state c.idle_until.new.self).oram in
+    elim known [
+      | inl forged ↦ inl (forged_now g.M.UntrustedMemory.state g.W.Watch.state g.L.LeafFn.leaf_of g.L.LeafFn.levels
+          c.args.lines.now c.idle_until.new.self c.idle_until.ensures.same
+          (forgery_call keys lawful levels old new (Wait c.in-Ends.until) _ c.in-Ok.ensures.step forged))
+      | inr runs ↦ inr (subst (λ (cause : Cause). CauseRuns c.args.halted.instructions machine memory cause last)
+          c.in-Ends.is runs)
+    ]
+
+pub returns-in-Err-clause-refines : goal.returns-in-Err-clause-refines
+returns-in-Err-clause-refines g c machine last memory lawful known =
+    let levels = g.L.LeafFn.levels c.args.lines.now.oram.now.port.leaves in
+    let keys = keys_in g.L.LeafFn.leaf_of c.args.lines.now in
+    let old = (timed_of g.M.UntrustedMemory.state g.W.Watch.state c.args.lines.now).oram in
+    let new = (timed_of g.M.UntrustedMemory.state g.W.Watch.state c.idle_until.new.self).oram in
+    let by = subst (λ (cause : Cause). HaltsBy c.args.budget levels c.args.halted.instructions
+    c.args.halted.cycles cause c.requires.halts.0 old) c.in-Ends.is c.requires.halts.1 in
+    let fits : FitKeys keys old.port = record { shape = refl; pads = refl } in
+    let in_time : (at : ℕ) → c.in-Err.stop ≡ TimeUp at → ⊥ = λ at is.
+    wait_in_time keys levels old new fits by.1 c.in-Ends.until at
+    (subst (λ (s : Stop). OramStep keys levels old (Wait c.in-Ends.until) (Err s) new) is c.in-Err.ensures.step) in
+    IfOk-weaker c.ending_of.result _ _ (λ (ending, end) named. elim known [
+      | inl forged ↦ inl (forged_now g.M.UntrustedMemory.state g.W.Watch.state g.L.LeafFn.leaf_of g.L.LeafFn.levels
+          c.args.lines.now c.idle_until.new.self c.idle_until.ensures.same
+          (forgery_stop keys lawful levels old new (Wait c.in-Ends.until) c.in-Err.stop c.in-Err.ensures.step forged))
+      | inr runs ↦ inr (ended_stops c.args.halted.instructions machine last memory c.in-Ends.ending ending c.in-Err.stop
+          in_time named (subst (λ (cause : Cause). CauseRuns c.args.halted.instructions machine memory cause last)
+          c.in-Ends.is runs))
+    ]) c.ending_of.ensures.named
+
+pub returns-in-Stops-clause-refines : goal.returns-in-Stops-clause-refines
+returns-in-Stops-clause-refines g c machine last memory lawful known =
+    IfOk-weaker c.ending_of-in-Stops.result _ _ (λ (ending, end) named. elim known [
+      | inl forged ↦ inl forged
+      | inr runs ↦ inr (prefix_ends c.args.halted.instructions machine last memory c.in-Stops.stop ending named
+          (subst (λ (cause : Cause). CauseRuns c.args.halted.instructions machine memory cause last) c.in-Stops.is runs))
+    ]) c.ending_of-in-Stops.ensures.named
+
+pub returns-in-Ok-clause-fetches : goal.returns-in-Ok-clause-fetches
+returns-in-Ok-clause-fetches g c known =
+    c.idle_until.ensures.fetches ∙ known
+    ∙ sym (wait_quiet (keys_in g.L.LeafFn.leaf_of c.args.lines.now)
+    (g.L.LeafFn.levels c.args.lines.now.oram.now.port.leaves)
+    (timed_of g.M.UntrustedMemory.state g.W.Watch.state c.args.lines.now).oram
+    (timed_of g.M.UntrustedMemory.state g.W.Watch.state c.idle_until.new.self).oram c.in-Ends.until _
+    c.in-Ok.ensures.step)
+
+pub returns-in-Err-clause-fetches : goal.returns-in-Err-clause-fetches
+returns-in-Err-clause-fetches g c known =
+    c.idle_until.ensures.fetches ∙ known
+    ∙ sym (request_stop (keys_in g.L.LeafFn.leaf_of c.args.lines.now)
+    (g.L.LeafFn.levels c.args.lines.now.oram.now.port.leaves)
+    (timed_of g.M.UntrustedMemory.state g.W.Watch.state c.args.lines.now).oram
+    (timed_of g.M.UntrustedMemory.state g.W.Watch.state c.idle_until.new.self).oram (Wait c.in-Ends.until)
+    c.in-Err.stop c.in-Err.ensures.step)

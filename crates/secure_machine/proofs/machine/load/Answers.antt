@@ -1,6 +1,7 @@
-use Rattle.std.proofs.Common.{sym, subst, arith, take}
+use Rattle.std.proofs.Common.{refl, sym, subst, arith, take}
 use Rattle.encrypted_run.specs.Refined.{loaded}
 use Rattle.oram_contents.specs.Entries.{AreKeys}
+use Rattle.secure_machine.specs.FlatEnds.{HaltsFlat}
 use Rattle.secure_machine.specs.Refines.{Knows}
 use Rattle.secure_machine.proofs.Refining.{keys_same, loaded_more}
 use Rattle.secure_machine.specs.Runs.{HaltsOver}
@@ -33,3 +34,7 @@ loop-at-preserved g c = record {
       c.args.lines.now c.loop-at.lines c.loop-at.invariant.onwards.same)) lawful)
       (c.loop-at.invariant.refines memory lawful known));
 }
+
+pub returns-in-Err-clause-none : goal.returns-in-Err-clause-none
+returns-in-Err-clause-none g c machine memory =
+    subst (λ (h : Halted). HaltsFlat 0 machine memory h machine) (sym c.stopped.ensures) (refl, refl)

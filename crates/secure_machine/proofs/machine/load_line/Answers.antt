@@ -20,7 +20,7 @@ returns-clause-onwards g c =
     (write_line_plan c.args.cache.now c.args.line c.line_of.result) c.args.lines.now c.write_line.new.store
     c.write_line.new.self c.requires.ready c.in-Ok.ensures.ok)
     c.spend.ensures.same (sym c.spend.ensures.memory) (sym c.spend.ensures.tap) (sym c.spend.ensures.oram)
-    c.spend.ensures.ready
+    (sym c.spend.ensures.fetches) c.spend.ensures.ready
 
 pub returns-in-Err-clause-refines : goal.returns-in-Err-clause-refines
 returns-in-Err-clause-refines g c memory lawful known =

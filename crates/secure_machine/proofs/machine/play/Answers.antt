@@ -1,21 +1,103 @@
-use Rattle.std.proofs.Common.{◌∙◌, ◌*◌, sym, ap}
+use Rattle.std.proofs.Common.{◌≡◌, ◌∙◌, ◌*◌, ◌⊎◌, ℕ, List, inl, inr, refl, sym, ap, subst, arith}
+use Rattle.encrypted_run.specs.Refined.{loaded}
+use Rattle.oram_contents.specs.Entries.{AreKeys}
+use Rattle.rv32_core.specs.StepPlan.{machine_of}
+use Rattle.secure_machine.specs.FlatEnds.{HaltsFlat, HaltsRun}
+use Rattle.secure_machine.specs.declared.machine.Halted.{Halted}
+use Rattle.secure_machine.proofs.FlatLaws.{reaches_none, reaches_more, halts_run}
 use Rattle.secure_machine.proofs.LineChains.{onwards_then, halts_later}
+use Rattle.secure_machine.proofs.Refining.{keys_same}
 use Rattle.secure_machine.proofs.machine.play.Goals as goal
 
 pub returns-in-Err-instruction : goal.returns-in-Err-instruction
-returns-in-Err-instruction g c = record {
-  halts = halts_later g.M.UntrustedMemory.state g.W.Watch.state g.L.LeafFn.leaf_of g.L.LeafFn.levels c.args.budget
-      c.in-Err-instruction.halted c.args.lines.now c.loop-before.lines c.instruction.new.lines
-      c.loop-before.invariant.onwards c.in-Err-instruction.ensures.halts;
-}
+returns-in-Err-instruction g c =
+    let machine = machine_of c.args.core.now c.args.files.now in
+    let bytes = loaded c.args.image.now.bytes.items c.args.image.now.marked.items in
+    record {
+      halts = halts_later g.M.UntrustedMemory.state g.W.Watch.state g.L.LeafFn.leaf_of g.L.LeafFn.levels c.args.budget
+          c.in-Err-instruction.halted c.args.lines.now c.loop-before.lines c.instruction.new.lines
+          c.loop-before.invariant.onwards c.in-Err-instruction.ensures.halts;
+      refines = λ memory lawful core known.
+          let lawful_now = subst AreKeys (sym (keys_same g.M.UntrustedMemory.state g.W.Watch.state g.L.LeafFn.leaf_of
+          g.L.LeafFn.levels c.args.lines.now c.loop-before.lines c.loop-before.invariant.onwards.same)) lawful in
+          elim (c.loop-before.invariant.refines memory lawful core known) [
+            | inl forged ↦ inl (c.instruction.ensures.forged lawful_now forged)
+            | inr (now, reaches, stands) ↦ elim (c.in-Err-instruction.ensures.refines now lawful_now
+                (c.loop-before.invariant.core core) (inr stands)) [
+                  | inl forged ↦ inl forged
+                  | inr flat ↦ inr (halts_run c.loop-before.before machine
+                      (machine_of c.loop-before.core c.loop-before.files)
+                      (machine_of c.instruction.new.core c.instruction.new.files) (bytes memory) now
+                      c.in-Err-instruction.halted reaches flat)
+                ]
+          ];
+    }
 
 pub loop-before-preserved : goal.loop-before-preserved
-loop-before-preserved g c = record {
-  onwards = onwards_then g.M.UntrustedMemory.state g.W.Watch.state g.L.LeafFn.leaf_of g.L.LeafFn.levels c.args.lines.now
-      c.loop-before.lines c.instruction.new.lines c.loop-before.invariant.onwards
-      c.in-Ok-instruction.ensures.onwards;
-  below = c.in-Ok-instruction.ensures.below;
-  base = c.loop-before.invariant.base ∙ sym c.instruction.ensures.same_base;
-  size = c.instruction.ensures.same_size ∙ c.loop-before.invariant.size
-      ∙ ap (λ n. 64 * n) (sym c.in-Ok-instruction.ensures.onwards.same.count);
-}
+loop-before-preserved g c =
+    let machine = machine_of c.args.core.now c.args.files.now in
+    let bytes = loaded c.args.image.now.bytes.items c.args.image.now.marked.items in
+    record {
+      onwards = onwards_then g.M.UntrustedMemory.state g.W.Watch.state g.L.LeafFn.leaf_of g.L.LeafFn.levels
+          c.args.lines.now c.loop-before.lines c.instruction.new.lines c.loop-before.invariant.onwards
+          c.in-Ok-instruction.ensures.onwards;
+      below = c.in-Ok-instruction.ensures.below;
+      base = c.loop-before.invariant.base ∙ sym c.instruction.ensures.same_base;
+      size = c.instruction.ensures.same_size ∙ c.loop-before.invariant.size
+          ∙ ap (λ n. 64 * n) (sym c.in-Ok-instruction.ensures.onwards.same.count);
+      core = λ is. c.in-Ok-instruction.ensures.core (c.loop-before.invariant.core is);
+      refines = λ memory lawful core known.
+          let lawful_now = subst AreKeys (sym (keys_same g.M.UntrustedMemory.state g.W.Watch.state g.L.LeafFn.leaf_of
+          g.L.LeafFn.levels c.args.lines.now c.loop-before.lines c.loop-before.invariant.onwards.same)) lawful in
+          elim (c.loop-before.invariant.refines memory lawful core known) [
+            | inl forged ↦ inl (c.instruction.ensures.forged lawful_now forged)
+            | inr (now, reaches, stands) ↦ elim (c.in-Ok-instruction.ensures.refines now lawful_now
+                (c.loop-before.invariant.core core) (inr stands)) [
+                  | inl forged ↦ inl forged
+                  | inr (later, done, going, step, after) ↦ inr (
+                    later,
+                    reaches_more c.loop-before.before machine (machine_of c.loop-before.core c.loop-before.files)
+                        (machine_of c.instruction.new.core c.instruction.new.files) (bytes memory) now later done
+                        reaches going step,
+                    after,
+                  )
+                ]
+          ];
+    }
+
+pub returns-in-Err-clause-refines : goal.returns-in-Err-clause-refines
+returns-in-Err-clause-refines g c memory lawful core known =
+    let machine = machine_of c.args.core.now c.args.files.now in
+    let bytes = loaded c.args.image.now.bytes.items c.args.image.now.marked.items memory in
+    inr (halts_run 0 machine machine machine bytes bytes c.in-Err.halted (reaches_none machine bytes)
+    (c.in-Err.ensures.none machine bytes))
+
+pub loop-before-init : goal.loop-before-init
+loop-before-init g c =
+    let machine = machine_of c.args.core.now c.args.files.now in
+    record {
+      onwards = c.in-Ok.ensures.onwards;
+      below = c.in-Ok.ensures.below;
+      base = c.requires.base;
+      size = c.requires.size ∙ ap (λ n. 64 * n) (sym c.in-Ok.ensures.onwards.same.count);
+      core = λ is. is;
+      refines = λ memory lawful core known.
+          let bytes = loaded c.args.image.now.bytes.items c.args.image.now.marked.items memory in
+          elim (c.in-Ok.ensures.refines memory lawful known) [
+            | inl forged ↦ inl forged
+            | inr stands ↦ inr (bytes, reaches_none machine bytes, stands)
+          ];
+    }
+
+pub returns-clause-refines : goal.returns-clause-refines
+returns-clause-refines g c memory lawful core known =
+    let machine = machine_of c.args.core.now c.args.files.now in
+    let next = machine_of c.loop-before.core c.loop-before.files in
+    let bytes = loaded c.args.image.now.bytes.items c.args.image.now.marked.items memory in
+    elim (c.loop-before.invariant.refines memory lawful core known) [
+      | inl forged ↦ inl forged
+      | inr (now, reaches, stands) ↦ inr (halts_run c.loop-before.before machine next next bytes now c.ended.result reaches
+          (subst (λ (h : Halted). HaltsFlat c.loop-before.before next now h next) (sym c.ended.ensures)
+          (let e : c.args.budget ≡ c.loop-before.before
+          = omega (arith, c.loop-before-test.false, c.loop-before.auto.before-end) in e, refl)))
+    ]

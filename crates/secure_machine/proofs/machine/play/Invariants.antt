@@ -1,6 +1,13 @@
-use Rattle.std.proofs.Common.{◌≡◌, ◌*◌}
+use Rattle.std.proofs.Common.{◌≡◌, ◌*◌, ◌⊎◌, ℕ, List}
 use Rattle.data_cache.specs.Contents.{CacheBelow}
+use Rattle.encrypted_run.specs.Refined.{loaded}
+use Rattle.oram_contents.specs.Entries.{AreKeys}
+use Rattle.rv32_core.specs.Machine.{IsCore}
+use Rattle.rv32_core.specs.StepPlan.{machine_of}
+use Rattle.secure_machine.specs.Refines.{IsForged, StandFor, Knows}
 use Rattle.secure_machine.specs.Runs.{Onwards}
+use Rattle.secure_machine.specs.Same.{keys_in}
+use Rattle.secure_machine.proofs.FlatLaws.{Reaches}
 use Rattle.secure_machine.proofs.machine.play.Given as goal
 
 -- so many instructions are finished
@@ -10,4 +17,12 @@ invariant-loop-before g l = record {
   below : CacheBelow l.lines.count l.cache;
   base : l.fn.base ≡ l.core.base;
   size : l.core.size ≡ 64 * l.lines.count;
+  core : IsCore l.fn.core → IsCore l.core;
+  refines : (memory : List ℕ) → AreKeys (keys_in g.L.LeafFn.leaf_of l.fn.lines) → IsCore l.fn.core
+      → Knows g.M.UntrustedMemory.state g.W.Watch.state g.L.LeafFn.leaf_of g.L.LeafFn.levels l.fn.cache
+      memory l.fn.lines
+      → IsForged g.M.UntrustedMemory.state g.W.Watch.state g.L.LeafFn.leaf_of g.L.LeafFn.levels l.lines
+      ⊎ ((now : List ℕ) × Reaches l.before (machine_of l.fn.core l.fn.files)
+      (loaded l.fn.image.bytes.items l.fn.image.marked.items memory) (machine_of l.core l.files) now
+      × StandFor g.M.UntrustedMemory.state g.W.Watch.state g.L.LeafFn.leaf_of g.L.LeafFn.levels l.cache now l.lines);
 }

@@ -1,6 +1,6 @@
 use Rattle.std.proofs.Common.{◌*◌, ◌∙◌, ap, sym}
 use Rattle.fed_run.proofs.Left.{step_left}
-use Rattle.secure_machine.proofs.Refining.{stop_forged, instruction_known, lines_in, spent_is, SteppedBy}
+use Rattle.secure_machine.proofs.Refining.{stop_forged, chain_forged, instruction_core, instruction_known, lines_in, spent_is, ForgedBy, SteppedBy}
 use Rattle.request_plan.specs.Plan.{through}
 use Rattle.rv32_core.specs.Machine.{Machine}
 use Rattle.rv32_core.specs.declared.outcome.Done.{Done}
@@ -27,7 +27,7 @@ returns-clause-onwards g c =
     (c.step_cached.new.cache, (machine_of c.step_cached.new.core c.step_cached.new.files, c.in-Ok.done))
     c.requires.ready c.in-Ok.ensures.ok)
     c.spend.ensures.same (sym c.spend.ensures.memory) (sym c.spend.ensures.tap) (sym c.spend.ensures.oram)
-    c.spend.ensures.ready
+    (sym c.spend.ensures.fetches) c.spend.ensures.ready
 
 pub returns-in-Err-clause-refines : goal.returns-in-Err-clause-refines
 returns-in-Err-clause-refines g c memory lawful core known = (
@@ -53,3 +53,27 @@ returns-clause-refines g c memory lawful core known =
     (instruction_known g.M.UntrustedMemory.state g.W.Watch.state g.L.LeafFn.leaf_of g.L.LeafFn.levels c.args.lines.now
     c.step_cached.new.store (machine_of c.args.core.now c.args.files.now) c.args.cache.now c.step_cached.new.cache
     memory end lawful core (c.requires.size ∙ ap (λ n. 64 * n) (sym count)) known c.in-Ok.ensures.ok)
+
+pub returns-clause-core : goal.returns-clause-core
+returns-clause-core g c is =
+    instruction_core g.M.UntrustedMemory.state g.W.Watch.state g.L.LeafFn.leaf_of g.L.LeafFn.levels c.args.lines.now
+    c.step_cached.new.store (machine_of c.args.core.now c.args.files.now) c.args.cache.now c.step_cached.new.cache
+    (machine_of c.step_cached.new.core c.step_cached.new.files, c.in-Ok.done) is c.in-Ok.ensures.ok
+
+pub returns-in-Err-clause-forged : goal.returns-in-Err-clause-forged
+returns-in-Err-clause-forged g c lawful =
+    stop_forged g.M.UntrustedMemory.state g.W.Watch.state g.L.LeafFn.leaf_of g.L.LeafFn.levels
+    (through (cache_access c.args.core.now.base) (step_plan (machine_of c.args.core.now c.args.files.now))
+    c.args.cache.now) c.args.lines.now c.step_cached.new.store c.in-Err.stop
+    (c.step_cached.new.cache, machine_of c.step_cached.new.core c.step_cached.new.files) lawful c.in-Err.ensures.err
+
+pub returns-clause-forged : goal.returns-clause-forged
+returns-clause-forged g c lawful forged =
+    spent_is g.M.UntrustedMemory.state g.W.Watch.state g.L.LeafFn.leaf_of g.L.LeafFn.levels
+    (ForgedBy g.M.UntrustedMemory.state g.W.Watch.state g.L.LeafFn.leaf_of g.L.LeafFn.levels) c.step_cached.new.store
+    c.spend.new.self c.spend.ensures.memory c.spend.ensures.tap c.spend.ensures.oram
+    (chain_forged g.M.UntrustedMemory.state g.W.Watch.state g.L.LeafFn.leaf_of g.L.LeafFn.levels
+    (through (cache_access c.args.core.now.base) (step_plan (machine_of c.args.core.now c.args.files.now))
+    c.args.cache.now) c.args.lines.now c.step_cached.new.store
+    (c.step_cached.new.cache, (machine_of c.step_cached.new.core c.step_cached.new.files, c.in-Ok.done)) lawful
+    c.in-Ok.ensures.ok forged)

@@ -192,6 +192,8 @@ returns-in-Err-read_path-clause-counts g c counted =
     c.leaf-leaf.ensures.value c.note.ensures.log c.note-2.ensures.log
     (read_silent g.M.UntrustedMemory.state t c.note-2.new.self c.read_path.new.bus clock.next c.leaf-leaf.result.0
     c.room.new.self c.read_path.new.self c.in-Err-read_path.stop c.in-Err-read_path.ensures.ran))
+    (ap (λ (x : Clock). x.config) is ∙ ap (λ (x : Clock). x.config) c.count.ensures)
+    (ap (λ (x : Clock). x.learner) is ∙ ap (λ (x : Clock). x.learner) c.count.ensures ∙ c.saw.ensures.after)
     (ap (λ (x : Clock). x.dummies) is ∙ ap (λ (x : Clock). x.dummies) c.count.ensures)
     (ap (λ (x : Clock). x.real) is ∙ ap (λ (x : Clock). x.real) c.count.ensures) counted
 
@@ -201,5 +203,6 @@ returns-in-Ok-read_path-clause-counts g c counted =
     let clock = c.args.self.now.clock in
     counted_begun clock c.count.new.self (t c.args.bus.now.tap.now).log (t c.read_path.new.bus.tap.now).log clock.next
     (g.L.LeafFn.leaf_of c.args.self.now.leaves c.args.point) c.args.asked c.args.point
-    (returns-in-Ok-read_path-clause-noted g c) (ap (λ (x : Clock). x.dummies) c.count.ensures)
-    (ap (λ (x : Clock). x.real) c.count.ensures) counted
+    (returns-in-Ok-read_path-clause-noted g c) (ap (λ (x : Clock). x.config) c.count.ensures)
+    (ap (λ (x : Clock). x.learner) c.count.ensures ∙ c.saw.ensures.after)
+    (ap (λ (x : Clock). x.dummies) c.count.ensures) (ap (λ (x : Clock). x.real) c.count.ensures) counted

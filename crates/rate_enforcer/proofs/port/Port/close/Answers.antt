@@ -174,7 +174,8 @@ returns-in-Ok-clause-counts g c counted =
     let t = g.W.Watch.state in
     let is = c.end_slot.ensures.clock in
     counted_ended c.args.self.now.clock c.end_slot.new.self (t c.args.bus.now.tap.now).log
-    (t c.end_slot.new.bus.tap.now).log (returns-in-Ok-clause-ended g c) (ap (λ (x : Clock). x.dummies) is)
+    (t c.end_slot.new.bus.tap.now).log (returns-in-Ok-clause-ended g c)
+    (returns-in-Ok-clause-rests g c 0 c.requires.opens).stands.step.code (ap (λ (x : Clock). x.dummies) is)
     (ap (λ (x : Clock). x.real) is) counted
 
 pub returns-in-Err-clause-counts : goal.returns-in-Err-clause-counts
@@ -184,7 +185,8 @@ returns-in-Err-clause-counts g c counted =
     counted_still c.args.self.now.clock c.stop_at.new.self.clock (t c.args.bus.now.tap.now).log
     (t c.write_path.new.bus.tap.now).log
     (stop_silent _ _ c.stop_of-stop.result _ _ _ _ _ _ (returns-in-Err-clause-breaks g c []))
-    (ap (λ (x : Clock). x.dummies) is) (ap (λ (x : Clock). x.real) is) counted
+    (ap (λ (x : Clock). x.config) is) (ap (λ (x : Clock). x.learner) is) (ap (λ (x : Clock). x.dummies) is)
+    (ap (λ (x : Clock). x.real) is) counted
 
 pub returns-in-Ok-clause-step : goal.returns-in-Ok-clause-step
 returns-in-Ok-clause-step g c =

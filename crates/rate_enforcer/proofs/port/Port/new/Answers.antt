@@ -1,5 +1,8 @@
-use Rattle.std.proofs.Common.{◌∙◌, ℕ, None, ap}
-use Rattle.epoch_learner.specs.Learner.{learner_at_start}
+use Rattle.std.proofs.Common.{◌∙◌, ℕ, None, ap, subst}
+use Rattle.bus_schedule.specs.Shown.{indices_of}
+use Rattle.bus_schedule.specs.Timetable.{public_of}
+use Rattle.epoch_learner.proofs.RuleLaws.{start_code}
+use Rattle.epoch_learner.specs.Learner.{learner_at_start, HasCode}
 use Rattle.epoch_learner.specs.declared.Learner.{Learner}
 use Rattle.rate_enforcer.specs.declared.clock.Clock.{Clock}
 use Rattle.rate_enforcer.proofs.StateLaws.{fresh}
@@ -30,4 +33,8 @@ pub returns-clause-counts : goal.returns-clause-counts
 returns-clause-counts g c log none = record {
   dummies = ap (count_by is_dummy) (sym none);
   real = ap (count_by is_real) (sym none);
+  code = subst (λ (x : Learner). HasCode (public_of c.args.config.now) (indices_of log.events) x)
+      (sym c.new-learner.ensures.start)
+      (subst (λ events. HasCode (public_of c.args.config.now) (indices_of events) (learner_at_start c.args.config.now))
+      (sym none) (start_code c.args.config.now));
 }

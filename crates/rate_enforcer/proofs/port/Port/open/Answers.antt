@@ -179,7 +179,7 @@ returns-then-self-clause-step g c =
       stopped = returns-then-self-clause-stopped g c none;
       counts = λ counted.
           let k = c.pass_until.ensures.counts counted in
-          record { dummies = k.dummies; real = k.real };
+          record { dummies = k.dummies; real = k.real; code = k.code };
       breaks = returns-then-self-clause-breaks g c none;
     })
 

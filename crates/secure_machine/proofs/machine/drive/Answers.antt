@@ -1,0 +1,28 @@
+use Rattle.std.proofs.Common.{inl, inr, sym, subst}
+use Rattle.encrypted_run.specs.Refined.{loaded}
+use Rattle.oram_contents.specs.Entries.{AreKeys}
+use Rattle.rv32_core.specs.StepPlan.{machine_of}
+use Rattle.secure_machine.proofs.LineChains.{same_then}
+use Rattle.secure_machine.proofs.Refining.{keys_same, at_parts, keys_by, forged_first, StandBy}
+use Rattle.secure_machine.proofs.machine.drive.Goals as goal
+
+pub returns-clause-refines : goal.returns-clause-refines
+returns-clause-refines g c memory lawful core stands =
+    let keys = keys_by g.M.UntrustedMemory.state g.W.Watch.state g.L.LeafFn.leaf_of g.L.LeafFn.levels in
+    let same = c.play-halted.ensures.halts.same in
+    let lawful_first = subst (λ o. AreKeys (keys o)) (sym c.new-lines.ensures.oram) lawful in
+    let stands_first = at_parts g.M.UntrustedMemory.state g.W.Watch.state g.L.LeafFn.leaf_of g.L.LeafFn.levels
+    (StandBy g.M.UntrustedMemory.state g.W.Watch.state g.L.LeafFn.leaf_of g.L.LeafFn.levels c.args.cache.now memory)
+    c.new-lines.result c.args.oram.now c.args.bus.now.memory.now c.args.bus.now.tap.now c.new-lines.ensures.memory
+    c.new-lines.ensures.tap c.new-lines.ensures.oram stands in
+    elim (c.in_ok-ending.ensures.refines (machine_of c.args.core.now c.args.files.now)
+    (machine_of c.play-halted.new.core c.play-halted.new.files)
+    (loaded c.args.image.now.bytes.items c.args.image.now.marked.items memory)
+    (subst AreKeys (sym (keys_same g.M.UntrustedMemory.state g.W.Watch.state g.L.LeafFn.leaf_of g.L.LeafFn.levels
+    c.new-lines.result c.play-halted.new.lines same)) lawful_first)
+    (c.play-halted.ensures.refines memory lawful_first core (inr stands_first))) [
+      | inl forged ↦ inl (forged_first g.M.UntrustedMemory.state g.W.Watch.state g.L.LeafFn.leaf_of g.L.LeafFn.levels
+          c.new-lines.result c.finish.new.lines c.args.oram.now c.new-lines.ensures.oram
+          (same_then same c.finish.ensures.same) forged)
+      | inr flat ↦ inr flat
+    ]
