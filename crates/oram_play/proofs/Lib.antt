@@ -1,0 +1,5 @@
+pub mod Due
+pub mod Passes
+pub mod Accesses
+pub mod Between
+pub mod Plays
