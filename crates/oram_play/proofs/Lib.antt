@@ -3,3 +3,4 @@ pub mod Passes
 pub mod Accesses
 pub mod Between
 pub mod Plays
+pub mod Waits

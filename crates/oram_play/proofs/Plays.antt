@@ -32,7 +32,8 @@ pub play-access : (config : Config) (value : Option (List ℕ)) (now : Standing)
     → put_back config now.data_lines value walked walked.purpose ≡ put_in access line access.purpose
     → asked_start config now.numbers now.pace access < config.time
     → access_slot config value now walked
-    ≡ slots_taken config now access line (option_map (message_of config walked.counters now.data_lines) walked.displaced)
+    ≡ slots_taken config now access line
+    (option_map (message_of config walked.counters now.data_lines) walked.displaced)
 play-access config value now walked access line clock address counter put early =
     let appended : Option Message = option_map (message_of config walked.counters now.data_lines) walked.displaced in
     let mine : Passed = passed (public_of config) now.numbers (min now.clock config.time) now.pace in

@@ -75,7 +75,7 @@ starts-more p slots pace slot h at =
     ∙ ap (λ l. l ++ start_at p h.code h.count ∷ []) h.begun
     ∙ sym (starts-next p h.code h.count)
 
-heard-ended : (heard : Heard) (chosen : Option ℕ) → (heard_then heard chosen).ended ≡ heard.ended
+pub heard-ended : (heard : Heard) (chosen : Option ℕ) → (heard_then heard chosen).ended ≡ heard.ended
 heard-ended heard None = refl
 heard-ended heard (Some index) = refl
 

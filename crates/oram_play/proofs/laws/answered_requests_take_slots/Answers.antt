@@ -2,6 +2,7 @@ use Rattle.std.proofs.Common.{◌+◌}
 use Rattle.oram_frontend.proofs.SlotLaws.{served_slot, served_append, served_answer}
 use Rattle.oram_play.proofs.Accesses.{access-taken}
 use Rattle.oram_play.proofs.Between.{append-taken, answer-taken}
+use Rattle.oram_play.proofs.Waits.{wait-taken}
 use Rattle.oram_play.proofs.laws.answered_requests_take_slots.Goals as goal
 
 pub returns-clause-slot : goal.returns-clause-slot
@@ -18,3 +19,7 @@ pub returns-clause-answer : goal.returns-clause-answer
 returns-clause-answer c keys levels notes line value seen old new slots pace fits rests had step =
     answer-taken line value old new slots pace
     (served_answer keys levels notes line value seen old new fits rests step).0 had
+
+pub returns-clause-wait : goal.returns-clause-wait
+returns-clause-wait c keys levels notes time told old new slots pace numbers fits rests had step =
+    wait-taken keys levels notes time told.end old.port new.port slots pace numbers fits rests had (step.3).1
