@@ -61,8 +61,8 @@ module _ (p : Public) (some : 0 < count_of p) (numbers : Numbers) where
 
   -- a slot more
   pub said-slot : (old new : List Event) (slots : List Slot) (pace : Pace) (start : ℕ) (asked : Option ℕ)
-      (point : Point) (chosen : Option ℕ) → Said p old slots pace → HasSlot old new start asked point None chosen → AreDone p new
-      → ChoosesByRule p new
+      (point : Point) (chosen : Option ℕ) → Said p old slots pace → HasSlot old new start asked point None chosen
+      → AreDone p new → ChoosesByRule p new
       → Said p new (slots ++ slot_next p pace numbers asked point None None ∷ []) (pace_after p pace asked)
   said-slot old new slots pace start asked point chosen s h done rule = record {
     said = said-more old new start asked point None p slots pace s.paced s.said done numbers chosen h rule;
