@@ -1,4 +1,5 @@
 pub mod Choices
+pub mod Ends
 pub mod Facts
 pub mod FirstSlot
 pub mod FollowLaws

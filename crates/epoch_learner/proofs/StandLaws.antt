@@ -34,8 +34,9 @@ use Rattle.epoch_learner.specs.Heard.{nothing_heard, heard_of, told_by, ChoosesB
 use Rattle.epoch_learner.specs.LearnerRule.{real_count, waiting}
 use Rattle.epoch_learner.specs.Learner.{IsLearnerOf, Follows, Remembers, HasCode, learner_at_start, after_access}
 use Rattle.epoch_learner.specs.Learner.{after_end, falls_at, chosen_at, choice_by_sums, next_end}
-use Rattle.epoch_learner.specs.Stands.{SumsTo, IsInStep, Stands, StandsIn, IsFirstFor, KeepsPace}
+use Rattle.epoch_learner.specs.Stands.{ChoosesAtEnds, SumsTo, IsInStep, Stands, StandsIn, IsFirstFor, KeepsPace}
 use Rattle.epoch_learner.specs.declared.Learner.{Learner}
+use Rattle.epoch_learner.proofs.Ends.{ends_none, ends_kept, ends_begun}
 use Rattle.epoch_learner.proofs.Facts.{has_ranges, chosen_at_below}
 use Rattle.epoch_learner.proofs.FollowLaws.{start_is_of, start_follows, access_follows, has_public, falls_as_next}
 use Rattle.epoch_learner.proofs.FollowLaws.{end_passed, end_chosen, rate_bounds}
@@ -67,6 +68,7 @@ stands_first config log is events moves =
         follows = follows;
         remembers = subst (Remembers learner) (sym (told_none p)) (start_remembers config);
         rule = other_events p.rates (olat_of p.levels) nothing_heard [] refl;
+        ends = ends_none p;
         code = start_code config;
         prompt = serves-none;
         sums = record { real = omega arith; waste = omega arith; since = omega arith };
@@ -88,6 +90,8 @@ step_silent {config} {beat} {end} {learner} old new s silent =
       remembers = subst (Remembers learner) (sym told) s.remembers;
       rule = subst (ChoosesByRule p) (sym silent.events)
           (by_rule_kept p.rates olat nothing_heard old.events more silent.silent.indices s.rule);
+      ends = subst (ChoosesAtEnds p) (sym silent.events)
+          (ends_kept p old.events more silent.silent.starts s.ends);
       code = subst (λ is. HasCode p is learner) (sym (shown-indices old new silent)) s.code;
       prompt = subst ServesPromptly (sym silent.events)
           (serves-kept old.events more silent.silent.starts s.prompt);
@@ -196,6 +200,9 @@ stands_begun {config} {n} {last} {next} {learner} {old} asked point leaf mid new
         rule = subst (ChoosesByRule p) (sym events)
             (by_rule_kept p.rates olat nothing_heard with_access (Drawn point leaf ∷ []) refl
             (by_rule_kept p.rates olat nothing_heard old.events (Access next asked ∷ []) refl s.step.rule));
+        ends = subst (ChoosesAtEnds p) (sym events)
+            (ends_kept p with_access (Drawn point leaf ∷ []) refl
+            (ends_begun p n next asked old s.between s.step.ends));
         code = subst (λ is. HasCode p is learned) (sym (begin-indices next asked point leaf old mid new seen drawn))
             (access_code p (indices_of old.events) learner next asked s.step.code);
         prompt = subst ServesPromptly (sym events)
@@ -249,6 +256,7 @@ stands_passed {config} {n} {start} {leaf} {learner} {log} end s end_is answer =
         follows = follows;
         remembers = end_remembers learner (told_by p log.events) end none s.step.remembers;
         rule = s.step.rule;
+        ends = s.step.ends;
         code = end_code p (indices_of log.events) learner end none s.step.code;
         prompt = s.step.prompt;
         sums = rw none (rw end_is record {
@@ -306,6 +314,8 @@ stands_chosen {config} {n} {start} {leaf} {learner} {old} end index new s end_is
         rule = subst (ChoosesByRule p) (sym events)
             (subst (λ i. ChoosesByRule p (old.events ++ Chosen i ∷ [])) index_is
             (choice_by_rule config b learner old.events s.step.follows s.step.remembers heard s.step.rule));
+        ends = subst (ChoosesAtEnds p) (sym events)
+            (ends_kept p old.events (Chosen index ∷ []) refl s.step.ends);
         code = subst (λ is. HasCode p is learned) (sym more.indices)
             (subst (λ i. HasCode p (indices_of old.events ++ i ∷ []) learned) (sym told.1)
             (choice_code config b (indices_of old.events) learner end s.step.follows some s.step.code));
@@ -318,7 +328,7 @@ stands_chosen {config} {n} {start} {leaf} {learner} {old} end index new s end_is
 -- up to which times the log keeps the pace
 paced : {config : Config} {beat : Beat} {last : ℕ} {learner : Learner} (end : ℕ) (log : LogLists)
     → IsInStep config beat last learner log.events → IsScheduled (public_of config) end log → KeepsPace config end log
-paced end log s h = record { scheduled = h; rule = s.rule; prompt = s.prompt }
+paced end log s h = record { scheduled = h; rule = s.rule; ends = s.ends; prompt = s.prompt }
 
 pub stands_pace : {config : Config} {n last next : ℕ} {learner : Learner} {log : LogLists} (end : ℕ)
     → Stands config n last next learner log → last ≤ end → end ≤ next → KeepsPace config end log

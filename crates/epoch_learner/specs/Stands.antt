@@ -1,5 +1,5 @@
 -- How far a learner and a log have come in the timetable of a configuration, between two slots and in one.
-use Rattle.std.specs.Prelude.{◌≡◌, ℕ, ◌+◌, ◌*◌, ◌<◌, ◌≤◌, List, [], ◌∷◌, Option, None, Some, IfSome}
+use Rattle.std.specs.Prelude.{◌≡◌, ℕ, ◌+◌, ◌*◌, ◌<◌, ◌≤◌, List, [], ◌∷◌, ◌++◌, All, Option, None, Some, IfSome, length}
 use Rattle.asc_base.specs.TreeShape.{olat_of}
 use Rattle.asc_base.specs.declared.block.Leaf.{Leaf}
 use Rattle.asc_base.specs.declared.block.Point.TheVariants.{Dummy}
@@ -10,8 +10,8 @@ use Rattle.bus_watch.specs.declared.log.Move.{Move}
 use Rattle.bus_watch.specs.Log.{LogLists, with_event}
 use Rattle.bus_watch.specs.Path.{slot_moves}
 use Rattle.bus_schedule.specs.declared.beat.Beat.{Beat}
-use Rattle.bus_schedule.specs.Timetable.{public_of, rate_at, beat_at, start_at, end_at}
-use Rattle.bus_schedule.specs.Shown.{indices_of}
+use Rattle.bus_schedule.specs.Timetable.{Public, public_of, count_of, rate_at, beat_at, start_at, end_at, starts}
+use Rattle.bus_schedule.specs.Shown.{starts_of, indices_of, code_of}
 use Rattle.bus_schedule.specs.Asked.{ServesPromptly}
 use Rattle.bus_schedule.specs.Scheduled.{log_code, IsScheduled, Between, Inside}
 use Rattle.epoch_learner.specs.Heard.{told_by, ChoosesByRule}
@@ -26,12 +26,30 @@ pub record SumsTo (end : ℕ) (learner : Learner) : Type 0 where
   pub waste : learner.waste ≤ learner.real * end
   pub since : learner.since ≤ end
 
+-- the code of the choices among events
+abbrev pub events_code : Public → List Event → ℕ
+events_code p events = code_of (count_of p) (indices_of events)
+
+-- These events start some first slots of the timetable, with as many choices as fell at the ends of these slots.
+pub record AreDone (p : Public) (events : List Event) : Type 0 where
+  pub count : ℕ
+  pub begun : starts_of events ≡ starts p (events_code p events) count
+  pub indices : All (λ index. index < count_of p) (indices_of events)
+  pub fell : length (indices_of events) ≡ (beat_at p (events_code p events) count).choices
+
+-- So do those before each slot's start: a choice that falls at an end is noted before the next slot starts.
+abbrev pub ChoosesAtEnds : Public → List Event → Type 0
+ChoosesAtEnds p events = (before later : List Event) (start : ℕ) (asked : Option ℕ)
+    → events ≡ before ++ Access start asked ∷ later → AreDone p before
+
 -- A learner stands where the timetable does, at a beat, and remembers what these events up to a time tell; each choice
--- among them is by the rule, they are the learner's code, and each real slot is the first from its time on.
+-- among them is by the rule and at its end, they are the learner's code, and each real slot is the first from its time
+-- on.
 pub record IsInStep (config : Config) (beat : Beat) (end : ℕ) (learner : Learner) (events : List Event) : Type 0 where
   pub follows : Follows config beat learner
   pub remembers : Remembers learner (told_by (public_of config) events)
   pub rule : ChoosesByRule (public_of config) events
+  pub ends : ChoosesAtEnds (public_of config) events
   pub code : HasCode (public_of config) (indices_of events) learner
   pub prompt : ServesPromptly events
   pub sums : SumsTo end learner
@@ -59,11 +77,12 @@ pub record StandsIn (config : Config) (n start leaf : ℕ) (part : List Move) (l
 abbrev pub IsFirstFor : (olat last next : ℕ) (asked : Option ℕ) → Type 0
 IsFirstFor olat last next asked = IfSome asked (λ time. (time ≤ next) × (last < time + olat))
 
--- Up to a time a log keeps the pace of a configuration: it is scheduled, each choice is by the rule, and each real
--- slot is the first from its time on.
+-- Up to a time a log keeps the pace of a configuration: it is scheduled, each choice is by the rule and at its end, and
+-- each real slot is the first from its time on.
 pub record KeepsPace (config : Config) (end : ℕ) (log : LogLists) : Type 0 where
   pub scheduled : IsScheduled (public_of config) end log
   pub rule : ChoosesByRule (public_of config) log.events
+  pub ends : ChoosesAtEnds (public_of config) log.events
   pub prompt : ServesPromptly log.events
 
 -- the log of the first slot of a configuration, a dummy with this leaf, before a choice at its end

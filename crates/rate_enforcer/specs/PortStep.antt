@@ -1,5 +1,6 @@
 -- All calls of a port as steps of one relation, between what stands before a call and what stands after it.
-use Rattle.std.specs.Prelude.{◌≡◌, ◌≤◌, ◌+◌, ◌-◌, ◌++◌, ◌⊎◌, ℕ, max, List, [], ◌∷◌, Option, None, Some, Result, Ok, Err}
+use Rattle.std.specs.Prelude.{◌≡◌, ◌<◌, ◌≤◌, ◌+◌, ◌-◌, ◌++◌, ◌⊎◌, ℕ, max, List, [], ◌∷◌, Option, None, Some}
+use Rattle.std.specs.Prelude.{Result, Ok, Err}
 use Rattle.asc_base.specs.TreeShape.{olat_of}
 use Rattle.asc_base.specs.declared.block.Address.{Address}
 use Rattle.asc_base.specs.declared.block.Entry.{Entry}
@@ -249,7 +250,8 @@ module _ (leaf_of : Point → ℕ) (levels : ℕ) where
     pub memory : new.memory ≡ old.memory
     pub tap : new.tap ≡ old.tap
 
-  -- All slots that start before a time are done, as dummies.
+  -- All slots that start before a time are done, as dummies, and no others: the last one ends less than a slot's cycles
+  -- after it, or is the one before.
   pub record HasIdled (time end : ℕ) (old new : PortState) : Type 0 where
     pub going : old.clock.stop ≡ None
     pub same : IsSamePort old new
@@ -257,6 +259,8 @@ module _ (leaf_of : Point → ℕ) (levels : ℕ) where
     pub rests : (notes : ℕ) → Resting notes levels old → Resting notes levels new
     pub end_is : end ≡ max time new.clock.last
     pub reached : time ≤ new.clock.next
+    pub early : new.clock.last < max old.clock.last time + olat_of old.clock.config.shape.levels
+    pub more : old.clock.dummies ≤ new.clock.dummies
     pub real : new.clock.real ≡ old.clock.real
     pub counts : KeepsCount old new
     pub passed : (tags : List ℕ) → ArePasses (port_keys old tags) (new.clock.dummies - old.clock.dummies)

@@ -98,7 +98,7 @@ next-by : (p : Public) (beat : Beat) (index : ℕ) (falls : Bool)
 next-by p beat index true = omega arith
 next-by p beat index false = omega arith
 
-next-later : (p : Public) (pace : Pace) (asked : Option ℕ) → pace.beat.next < (pace_after p pace asked).beat.next
+pub next-later : (p : Public) (pace : Pace) (asked : Option ℕ) → pace.beat.next < (pace_after p pace asked).beat.next
 next-later p pace asked =
     next-by p pace.beat (unwrap_or (choice_next p pace asked) 0) (falls_next p pace.beat)
 

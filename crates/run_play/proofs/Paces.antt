@@ -75,7 +75,7 @@ starts-more p slots pace slot h at =
     ∙ ap (λ l. l ++ start_at p h.code h.count ∷ []) h.begun
     ∙ sym (starts-next p h.code h.count)
 
-heard-ended : (heard : Heard) (chosen : Option ℕ) → (heard_then heard chosen).ended ≡ heard.ended
+pub heard-ended : (heard : Heard) (chosen : Option ℕ) → (heard_then heard chosen).ended ≡ heard.ended
 heard-ended heard None = refl
 heard-ended heard (Some index) = refl
 
@@ -87,7 +87,7 @@ ended-more p slots pace next slot h n =
     (slot.start + olat_of p.levels)) slot.chosen
     ∙ ap (λ start. start + olat_of p.levels) (n.start ∙ ap (λ (b : Beat). b.next) h.beat)
 
-heard-last : (olat : ℕ) (heard : Heard) (slots : List Slot) (slot : Slot)
+pub heard-last : (olat : ℕ) (heard : Heard) (slots : List Slot) (slot : Slot)
     → heard_slots olat heard (slots ++ slot ∷ []) ≡ heard_slot olat (heard_slots olat heard slots) slot
 unfolding heard_slots
 heard-last olat heard [] slot = refl

@@ -48,6 +48,8 @@ returns-clause-step g c =
             c.pass_until.ensures.leaves (c.in-Ok.ensures.rests notes r);
         end_is = is;
         reached = c.in-Ok.ensures.reached;
+        early = c.in-Ok.ensures.last;
+        more = c.in-Ok.ensures.more;
         real = c.pass_until.ensures.real;
         counts = c.pass_until.ensures.counts;
         passed = c.in-Ok.ensures.passed;

@@ -1,0 +1,6 @@
+pub mod Due
+pub mod Passes
+pub mod Accesses
+pub mod Between
+pub mod Plays
+pub mod Waits

@@ -1,0 +1,10 @@
+//! That an encrypted memory takes the slots of a play: what its log says of the starts, points, messages and choices of
+//! its slots is what a play says.
+//!
+//! `specs/Taken.antt` has the slots that an answered access takes.
+//! The crate has laws alone; the calls do nothing.
+#![tactic(auto)]
+
+mod laws;
+
+pub use laws::{accesses_take_asked_slots, answered_requests_take_slots, ports_keep_the_pace};
