@@ -1,12 +1,23 @@
 -- What is reported of a program's run is the flat run of its files.
 use Rattle.std.proofs.Common.{◌≡◌, ℕ, List, [], ◌∷◌, Option, Some, None, Result, Ok, Err, length, ap, subst, ◌∙◌}
-use Rattle.std.proofs.Common.{inl, inr, sym}
+use Rattle.std.proofs.Common.{◌<◌, ◌≤◌, ◌+◌, ◌^◌, ◌⊎◌, IsSome, inl, inr, sym}
 use Rattle.std.specs.Prelude.{IfOk}
+use Rattle.std.specs.List.{count_by}
 use Rattle.asc_base.specs.Settings.{IsConfig}
 use Rattle.asc_base.specs.declared.settings.Config.{Config}
 use Rattle.asc_base.specs.declared.settings.Settings.{Settings}
+use Rattle.asc_base.specs.declared.stop.Evidence.{Evidence}
 use Rattle.asc_outside.specs.Host.{Files, HostState}
-use Rattle.secure_machine.specs.Run.{IsTiedButLast, IsTiedOr, IsUnprepared}
+use Rattle.asc_outside.specs.Rose.{Rose}
+use Rattle.bus_schedule.specs.Scheduled.{log_code}
+use Rattle.bus_schedule.specs.Shown.{indices_of}
+use Rattle.bus_schedule.specs.Timetable.{public_of}
+use Rattle.epoch_learner.specs.Stands.{KeepsPace}
+use Rattle.oram_contents.specs.Forgery.{Forgery}
+use Rattle.rate_enforcer.specs.Counts.{is_answered, is_dummy, is_real}
+use Rattle.secure_machine.specs.Finish.{IsRightEnding}
+use Rattle.secure_machine.specs.Run.{IsFlatReport, IsInBudget, IsTiedButLast, IsTiedOr, IsUnprepared}
+use Rattle.secure_machine.specs.declared.report.Ending.TheVariants.{Device, Integrity}
 use Rattle.secure_machine.specs.declared.report.Report.{Report as RunReport}
 use Rattle.elf_loader.specs.Elf.{entry_of}
 use Rattle.elf_loader.specs.Layout.{image_bytes, first_break}
@@ -18,7 +29,7 @@ use Rattle.ascend_words.specs.declared.table.Name.TheVariants.{Elf, Key, Output,
 use Rattle.ascend_top.specs.FlatRun.{Report, bytes_in, ending_of, file_in, flat_of, flat_report, input_in}
 use Rattle.ascend_top.specs.FlatRun.{outcome_report, report_of, run_over}
 use Rattle.secure_machine.proofs.LastMoves.{ends_with_move}
-use Rattle.ascend_top.specs.EncryptedRun.{IsRunOf, IsWantOf, Lent}
+use Rattle.ascend_top.specs.EncryptedRun.{IsRunOf, IsWantOf, Lent, keys_from}
 use Rattle.ascend_top.specs.Parts.{CanRun, EndsAs, IsConfigOf, IsImageOf, IsProgramOf, program_report}
 use Rattle.ascend_top.specs.Run.{IsBegin, run_report_steps, traced}
 use Rattle.ascend_top.specs.Steps.{AllDone, Does, IsRefused, Prints, Refuses, Step, Writes, key_length}
@@ -145,3 +156,43 @@ print_refuses given run refusal old mid after new does done refuses =
     let print : List Step = Prints (run_text run.report run.altered) ∷ [] in
     let rest = traced_then (text_in given Trace) run.trace.items print refusal mid after new done (inl refuses) in
     inr (mid, does, rest)
+
+-- What the clauses of a run say of its report, in one record.
+module _ (config : Config) (image : Image) (input key : List ℕ) (lent : Lent) (bits : log_code (public_of config)
+    lent.tap'.log < 2 ^ config.leak) (faults : lent.memory.faults ≤ lent.memory'.faults)
+    (budget : IsInBudget config lent.tap'.log)
+    (asked : lent.memory'.moved ≡ lent.memory.moved + length lent.tap'.log.moves)
+    (unaltered : IsSome lent.memory.told → lent.tap'.log.altered ≡ []) where
+  pub ran_of : {E : Type 0} (result : Result RunReport E) → IfOk result (λ r. KeepsPace config r.last lent.tap'.log)
+      → IfOk result (λ r. r.real ≡ count_by is_real lent.tap'.log.events)
+      → IfOk result (λ r. r.dummies ≡ count_by is_dummy lent.tap'.log.events)
+      → IfOk result (λ r. IsTiedOr config (IsUnprepared r lent.tap lent.tap') lent.memory lent.memory' lent.tap')
+      → IfOk result (λ r. r.ending ≡ Device → Rose lent.memory.faults lent.memory'.faults)
+      → IfOk result (λ r. IsRightEnding config.budget config.time r.instructions r.cycles r.last r.ending)
+      → IfOk result (λ r. r.choices ≡ length (indices_of lent.tap'.log.events))
+      → IfOk result (λ r. r.code ≡ log_code (public_of config) lent.tap'.log)
+      → IfOk result (λ r. r.fetches ≡ count_by is_answered lent.tap'.log.events)
+      → (lent.tap'.log.altered ≡ [] → IfOk result (IsFlatReport config image input))
+      → (lent.tap'.log.altered ≡ [] → IfOk result (λ r. (evidence : Evidence) → r.ending ≡ Integrity evidence → ⊥))
+      → IfOk result (λ r. Forgery (keys_from config key) lent.tap'.log ⊎ IsFlatReport config image input r)
+      → IfOk result (IsRunOf config image input key lent)
+  ran_of (Err none) pace real dummies tied device right choices code fetches flat honest refines = tt
+  ran_of (Ok report) pace real dummies tied device right choices code fetches flat honest refines = record {
+    pace = pace;
+    bits = bits;
+    real = real;
+    dummies = dummies;
+    tied = tied;
+    faults = faults;
+    device = device;
+    right = right;
+    choices = choices;
+    code = code;
+    fetches = fetches;
+    budget = budget;
+    asked = asked;
+    unaltered = unaltered;
+    flat = flat;
+    honest = honest;
+    refines = refines;
+  }

@@ -2,6 +2,7 @@
 ghost use Rattle.std.specs.Prelude.{◌≡◌, ◌<◌, ◌^◌, [], IfErr, IfOk, OnErr, OnOk};
 ghost use Rattle.ascend_top.specs.Command.{WorkEnds, lifted};
 ghost use Rattle.asc_base.specs.Settings.{IsConfig};
+ghost use Rattle.bus_watch.specs.Same.{IsSameBus};
 ghost use Rattle.elf_loader.specs.Memory.{IsImage};
 ghost use Rattle.ascend_top.specs.EncryptedRun.{IsRunOf, IsWantOf, lent_as};
 ghost use Rattle.ascend_top.specs.Made.{Encrypted as MadeEncrypted};
@@ -65,6 +66,44 @@ fn prepare<H: Host>(alloc: Global, words: &Words, host: &mut H) -> Result<Begin,
     }
 }
 
+/// Runs a program over a bus, under the keys that its master key gives.
+fn run_on<M: UntrustedMemory>(
+    alloc: Global,
+    begin: &Begin,
+    bus: &mut Bus<'_, M, Recorder>,
+) -> Result<Report, NoMemory>
+    requires config { IsConfig begin.now.program.config }
+    requires image { IsImage begin.now.program.config.base begin.now.program.config.size begin.now.program.image }
+    requires fresh { (M.state bus.old.memory.now).count ≡ 0 }
+    requires moved { (M.state bus.old.memory.now).moved < 2 ^ 62 }
+    requires no_events { bus.old.tap.now.log.events ≡ [] }
+    requires no_moves { bus.old.tap.now.log.moves ≡ [] }
+    requires no_altered { bus.old.tap.now.log.altered ≡ [] }
+    ensures same { IsSameBus bus.old bus.new }
+    ensures ran { IfOk result (IsRunOf begin.now.program.config begin.now.program.image begin.now.program.input.items
+        begin.now.key (lent_as (M.state bus.old.memory.now) (M.state bus.new.memory.now) bus.old.tap.now
+        bus.new.tap.now)) }
+    ensures wanting { OnErr result (IsWantOf begin.now.program.config begin.now.program.image
+        begin.now.program.input.items begin.now.key
+        (lent_as (M.state bus.old.memory.now) (M.state bus.new.memory.now) bus.old.tap.now bus.new.tap.now)) }
+{
+    let program = &begin.program;
+    let levels = program.config.shape.levels;
+    let leaf = KeyedLeaf::new(&begin.key, levels);
+    let tagger = Tagger::new(&begin.key);
+    let codec = Codec::new(&begin.key);
+    secure_machine::run(
+        alloc,
+        &program.config,
+        &program.image,
+        program.input.as_slice(),
+        leaf,
+        tagger,
+        codec,
+        bus,
+    )
+}
+
 /// Runs a program over a memory and its tap.
 fn run_over<M: UntrustedMemory>(
     alloc: Global,
@@ -85,22 +124,8 @@ fn run_over<M: UntrustedMemory>(
         begin.now.program.input.items begin.now.key
         (lent_as (M.state memory.old) (M.state memory.new) tap.old tap.new)) }
 {
-    let program = &begin.program;
-    let levels = program.config.shape.levels;
-    let leaf = KeyedLeaf::new(&begin.key, levels);
-    let tagger = Tagger::new(&begin.key);
-    let codec = Codec::new(&begin.key);
     let mut bus = Bus::new(memory, tap);
-    secure_machine::run(
-        alloc,
-        &program.config,
-        &program.image,
-        program.input.as_slice(),
-        leaf,
-        tagger,
-        codec,
-        &mut bus,
-    )
+    run_on(alloc, begin, &mut bus)
 }
 
 /// Runs a program over a memory and its tap, and makes the text of its trace where a file is named for it.

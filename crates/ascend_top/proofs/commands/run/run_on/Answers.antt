@@ -1,0 +1,40 @@
+use Rattle.std.proofs.Common.{◌≡◌, ◌⊎◌, inl, inr, ap, subst}
+use Rattle.std.proofs.lemmas.Result.{IfOk-weaker}
+use Rattle.leaf_function.specs.Leaf.{Keyed, leaf}
+use Rattle.oram_contents.specs.Entries.{Keys}
+use Rattle.oram_contents.specs.Forgery.{Forgery}
+use Rattle.secure_machine.specs.Run.{chip_keys}
+use Rattle.ascend_top.specs.EncryptedRun.{keys_from, lent_as}
+use Rattle.ascend_top.proofs.RunLaws.{ran_of}
+use Rattle.ascend_top.proofs.TraceLaws.{levels_few}
+use Rattle.ascend_top.proofs.commands.run.run_on.Goals as goal
+
+pub new-leaf-requires-clause-some : goal.new-leaf-requires-clause-some
+new-leaf-requires-clause-some g c = (levels_few c.args.begin.now.program.config c.requires.config).0
+
+pub new-leaf-requires-clause-most : goal.new-leaf-requires-clause-most
+new-leaf-requires-clause-most g c = (levels_few c.args.begin.now.program.config c.requires.config).1
+
+pub returns-clause-ran : goal.returns-clause-ran
+returns-clause-ran g c =
+    let program = c.args.begin.now.program in
+    let key = c.args.begin.now.key in
+    let lent = lent_as (g.M.UntrustedMemory.state c.args.bus.now.memory.now)
+    (g.M.UntrustedMemory.state c.run.new.bus.memory.now) c.args.bus.now.tap.now c.run.new.bus.tap.now in
+    let same : chip_keys program.config c.new-codec.result c.new-tagger.result
+    (leaf c.new-leaf.result.key c.new-leaf.result.levels) ≡ keys_from program.config key =
+    let leaf_is = ap (λ (k : Keyed). leaf k.key k.levels) c.new-leaf.ensures in
+    λ i. record {
+      shape = program.config.shape;
+      pads = c.new-codec.ensures i;
+      tags = c.new-tagger.ensures i;
+      leaf_of = leaf_is i;
+    } in
+    ran_of program.config program.image program.input.items key lent c.run.ensures.bits c.run.ensures.faults
+    c.run.ensures.budget c.run.ensures.asked c.run.ensures.unaltered c.run.result c.run.ensures.pace
+    c.run.ensures.real c.run.ensures.dummies c.run.ensures.tied c.run.ensures.device c.run.ensures.right
+    c.run.ensures.choices c.run.ensures.code c.run.ensures.fetches c.run.ensures.flat_unaltered c.run.ensures.honest
+    (IfOk-weaker c.run.result _ _ (λ report known. elim known [
+      | inl forged ↦ inl (subst (λ (z : Keys). Forgery z lent.tap'.log) same forged)
+      | inr flat ↦ inr flat
+    ]) c.run.ensures.refines)
