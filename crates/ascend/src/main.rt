@@ -4,6 +4,8 @@
 mod std_host;
 
 use crate::std_host::StdHost;
+use asc_outside::HonestMemory;
+use bus_watch::Recorder;
 use std::process::ExitCode;
 use std::rt::{Env, Files};
 use std::{env, io};
@@ -23,8 +25,17 @@ fn run<R: Files + Print + Env + AllocGlobal>(rt: &R) -> u8 {
         Err(error) if error.kind() == io::ErrorKind::OutOfMemory => return ascend_top::NO_MEMORY,
         Err(_) => return ascend_top::HOST_FAILED,
     };
+    let alloc = rt.alloc();
     let mut host = StdHost::new(rt);
-    ascend_top::ascend(rt.alloc(), words.as_slice(), &mut host)
+    let mut memory = HonestMemory::new(alloc);
+    let mut tap = Recorder::new(alloc);
+    ascend_top::ascend(
+        alloc,
+        words.as_slice(),
+        &mut host,
+        &mut memory,
+        &mut tap,
+    )
 }
 
 fn main(rt: HostRuntime) -> ExitCode {

@@ -12,7 +12,7 @@ use Rattle.ascend_words.specs.Settings.{text_in, settings_of}
 use Rattle.ascend_words.specs.declared.table.Command.{Command}
 use Rattle.ascend_words.specs.declared.table.Command.TheVariants.{Run, Flat, Asm, Disasm, Check}
 use Rattle.ascend_words.specs.declared.table.Name.{Name}
-use Rattle.ascend_words.specs.declared.table.Name.TheVariants.{Input, At}
+use Rattle.ascend_words.specs.declared.table.Name.TheVariants.{Input, At, Trace as TraceName}
 use Rattle.bus_trace.specs.Trace.{TraceLists}
 use Rattle.bus_trace.proofs.OneTrace.{no_fault, one_trace}
 use Rattle.trace_checker.specs.Checker.{Says}
@@ -22,17 +22,20 @@ use Rattle.trace_checker.proofs.Verdicts.{one_verdict}
 use Rattle.rv32_asm.specs.declared.fault.AsmFault.{AsmFault}
 use Rattle.rv32_asm.specs.declared.fault.AsmFault.TheVariants.{Bad}
 use Rattle.rv32_asm.specs.File.{assembled}
-use Rattle.ascend_top.specs.Command.{AreRight, CommandEnds, Completes, IsFirstRefusal, IsMade, IsOfFiles, StepsEnd}
+use Rattle.ascend_top.specs.Command.{AreRight, CommandEnds, Completes, IsFirstRefusal, IsLost, IsMade, IsOfFiles}
+use Rattle.ascend_top.specs.Command.{StepsEnd}
+use Rattle.ascend_top.specs.EncryptedRun.{IsIdle, Lent}
+use Rattle.ascend_top.specs.Run.{traced}
 use Rattle.ascend_top.specs.Command.{Tells, WorkEnds, last_steps, lifted, steps_of}
-use Rattle.ascend_top.specs.Flat.{input_steps}
+use Rattle.ascend_top.specs.Flat.{input_steps, program_steps}
 use Rattle.ascend_top.specs.Asm.{place_in}
-use Rattle.ascend_top.specs.Made.{Made, Ran, Assembled, Listed, Held}
+use Rattle.ascend_top.specs.Made.{Made, Encrypted, Ran, Assembled, Listed, Held}
 use Rattle.ascend_top.specs.Status.{status_of, status_of_refusal}
 use Rattle.ascend_top.specs.Steps.{AText, ATrace, IsChecked, IsInRange, IsNumberCause, JudgesNumber, Keeps}
 use Rattle.ascend_top.specs.Steps.{AKey, AllDone, AnElf, Breaks, Does, IsCause, IsDone, IsReadCause}
 use Rattle.ascend_top.specs.Steps.{IsRefused, IsRight, IsSettingCause, IsWriteCause, IsWrong, Judges, Prints, Reads}
 use Rattle.ascend_top.specs.Steps.{Refuses, Rule, Step, Writes, limit_of}
-use Rattle.ascend_top.specs.Texts.{refusal_text}
+use Rattle.ascend_top.specs.Texts.{refusal_text, run_text}
 use Rattle.ascend_top.specs.declared.refusal.Refusal.{Refusal}
 use Rattle.ascend_top.specs.declared.refusal.Refusal.TheVariants.{Usage, OutOfRange, Elf, KeyLength, TooLong, Host}
 use Rattle.ascend_top.specs.declared.refusal.Refusal.TheVariants.{NoMemory, NumberOutOfRange, Assembler, Trace, Fails}
@@ -143,6 +146,12 @@ steps_reading Check given = (tt, tt)
 -- the input was read, where a file is named, which left all files
 pub input_files : (o : Option (List ℕ)) (old new : HostState) → AllDone (input_steps o) old new → new.files ≡ old.files
 input_files o old new done = all_files (input_steps o) old new (input_reading o) done
+
+-- the ELF file and the input were read, which left all files
+pub program_files : (settings : Settings) (given : List Pair) (old new : HostState)
+    → AllDone (program_steps settings given) old new → new.files ≡ old.files
+program_files settings given old new done =
+    all_files (program_steps settings given) old new (tt, input_reading (text_in given Input)) done
 
 -- a refusal that has no cause in the files: there is no memory, or the host failed
 abbrev IsFree : Refusal → ℕ → ℕ → Type 0
@@ -282,61 +291,118 @@ still_told old None files e told = let t : is_some old ≡ true = ap (is_some {T
     (let no : ⊥ = cc in no)
 still_told old (Some after) files e told = (after, refl)
 
--- what follows the work: a write or a print, or both
-after_free : (given : List Pair) (made : Made) (files : Files) (refusal : Refusal) (old new : HostState)
-    → old.files ≡ Some files
-    → IsRefused (last_steps given made) refusal old new → IsFree refusal old.faults new.faults
-after_free given (Ran report) files refusal old new told (inl refuses) =
-    step_free files _ refusal old new tt told refuses
-after_free given (Ran report) files refusal old new told (inr (mid, does, inl refuses)) =
-    let still = still_told old.files mid.files files (does.files.0).told told in
-    free_later refusal old.faults mid.faults new.faults new.faults does.later (omega arith)
-    (step_free still.0 _ refusal mid new tt still.1 refuses)
-after_free given (Ran report) files refusal old new told (inr (mid, does, inr (end, print, none))) = absurd none
-after_free given (Assembled file) files refusal old new told (inl refuses) =
-    step_free files _ refusal old new tt told refuses
-after_free given (Assembled file) files refusal old new told (inr (mid, does, none)) = absurd none
-after_free given (Listed text) files refusal old new told (inl refuses) =
-    step_free files _ refusal old new tt told refuses
-after_free given (Listed text) files refusal old new told (inr (mid, does, none)) = absurd none
-after_free given (Held code bits) files refusal old new told (inl refuses) =
-    step_free files _ refusal old new tt told refuses
-after_free given (Held code bits) files refusal old new told (inr (mid, does, none)) = absurd none
+-- a step that writes or prints
+abbrev IsLast : Step → Type 0
+IsLast (Judges settings) = ⊥
+IsLast (JudgesNumber name number) = ⊥
+IsLast (Reads source name rule) = ⊥
+IsLast (Writes name bytes) = Unit {0}
+IsLast (Prints text) = Unit {0}
 
-steps_free : (read : Read) (files : Files) (refusal : Refusal) (old new : HostState) → old.files ≡ Some files
-    → AreRight read files
-    → WorkEnds read.command read.given (Err refusal) old new
+last_done : (files : Files) (step : Step) → IsLast step → IsDone files step
+last_done files (Judges settings) is = absurd is
+last_done files (JudgesNumber name number) is = absurd is
+last_done files (Reads source name rule) is = absurd is
+last_done files (Writes name bytes) is = tt
+last_done files (Prints text) is = tt
+
+last_told : (step : Step) (old mid : HostState) (files : Files) → IsLast step → Does step old mid
+    → old.files ≡ Some files → (after : Files) × (mid.files ≡ Some after)
+last_told (Judges settings) old mid files is does told = absurd is
+last_told (JudgesNumber name number) old mid files is does told = absurd is
+last_told (Reads source name rule) old mid files is does told = absurd is
+last_told (Writes name bytes) old mid files is does told =
+    still_told old.files mid.files files (does.files.0).told told
+last_told (Prints text) old mid files is does told = (files, does.files ∙ told)
+
+-- writes and prints are refused as is free
+last_free : (files : Files) (steps : List Step) (refusal : Refusal) (old new : HostState)
+    → AllByRecursion IsLast steps → old.files ≡ Some files → IsRefused steps refusal old new
     → IsFree refusal old.faults new.faults
-steps_free read files refusal old new told right (inl refused) =
+last_free files [] refusal old new are told refused = absurd refused
+last_free files (step ∷ steps) refusal old new are told (inl refuses) =
+    step_free files step refusal old new (last_done files step are.0) told refuses
+last_free files (step ∷ steps) refusal old new are told (inr (mid, does, rest)) =
+    let still = last_told step old mid files are.0 does told in
+    free_later refusal old.faults mid.faults new.faults new.faults does.later (omega arith)
+    (last_free still.0 steps refusal mid new are.1 still.1 rest)
+
+traced_last : (o : Option (List ℕ)) (text : List ℕ) (steps : List Step) → AllByRecursion IsLast steps
+    → AllByRecursion IsLast (traced o text steps)
+traced_last None text steps are = are
+traced_last (Some name) text steps are = (tt, are)
+
+-- what follows the work are writes and prints
+made_last : (given : List Pair) (made : Made) → AllByRecursion IsLast (last_steps given made)
+made_last given (Encrypted run) =
+    (tt, traced_last (text_in given TraceName) run.trace.items (Prints (run_text run.report run.altered) ∷ []) (tt, tt))
+made_last given (Ran report) = (tt, (tt, tt))
+made_last given (Assembled file) = (tt, tt)
+made_last given (Listed text) = (tt, tt)
+made_last given (Held code bits) = (tt, tt)
+
+steps_free : (read : Read) (lent : Lent) (files : Files) (refusal : Refusal) (old new : HostState)
+    → old.files ≡ Some files → AreRight read files → WorkEnds read.command read.given lent (Err refusal) old new
+    → IsFree refusal old.faults new.faults
+steps_free read lent files refusal old new told right (inl (idle, refused)) =
     before_free files (steps_of read.command read.given) refusal old new (steps_reading read.command read.given)
     right told refused
-steps_free read files refusal old new told right (inr (at, done, inl (e, same))) = inl e
-steps_free read files refusal old new told right (inr (at, done, inr (made, meant, refused))) =
+steps_free read lent files refusal old new told right (inr (at, done, inl (e, same, lost))) = inl e
+steps_free read lent files refusal old new told right (inr (at, done, inr (made, meant, refused))) =
     let reading = steps_reading read.command read.given in
     free_later refusal old.faults at.faults new.faults new.faults
     (all_later (steps_of read.command read.given) old at done) (omega arith)
-    (after_free read.given made files refusal at new (all_files (steps_of read.command read.given) old at reading
-    done ∙ told) refused)
+    (last_free files (last_steps read.given made) refusal at new (made_last read.given made)
+    (all_files (steps_of read.command read.given) old at reading done ∙ told) refused)
 
-pub completes : (read : Read) (files : Files) (status : ℕ) (end : Result Made Refusal) (old new : HostState)
-    → status ≡ status_of end → CommandEnds read end old new
-    → old.files ≡ Some files → AreRight read files → ¬ Rose old.faults new.faults → Completes read files status old new
-completes read files status (Ok made) old new is (at, before, meant, after) told right safe =
+pub completes : (read : Read) (lent : Lent) (files : Files) (status : ℕ) (end : Result Made Refusal)
+    (old new : HostState) → status ≡ status_of end → CommandEnds read lent end old new
+    → old.files ≡ Some files → AreRight read files → ¬ Rose old.faults new.faults
+    → Completes read files lent status old new
+completes read lent files status (Ok made) old new is (at, before, meant, after) told right safe =
     let reading = steps_reading read.command read.given in
     inr (
       made,
-      meant files (all_files (steps_of read.command read.given) old at reading before ∙ told),
+      subst (λ o. IsMade read.command read.given lent o made)
+          (all_files (steps_of read.command read.given) old at reading before ∙ told) meant,
       is,
       (at, before, meant, after),
     )
-completes read files status (Err end) old new is (refusal, mid, steps, tells) told right safe = go tells.same
-    (steps_free read files refusal old mid told right steps)
+completes read lent files status (Err end) old new is (refusal, mid, steps, tells) told right safe = go tells.same
+    (steps_free read lent files refusal old mid told right steps)
   where
     go : (end ≡ refusal) ⊎ (IsSome (refusal_text refusal) × (end ≡ NoMemory)) → IsFree refusal old.faults mid.faults
-        → Completes read files status old new
+        → Completes read files lent status old new
     go (inr (some, none)) free = inl (is ∙ ap status_of_refusal none)
     go (inl same) (inl none) = inl (is ∙ ap status_of_refusal (same ∙ none))
     go (inl same) (inr (host, rose)) = absurd (safe (omega (arith, rose, tells.later)))
+
+-- every command but `run` leaves memory and tap as they were
+made_idle : (command : Command) (given : List Pair) (lent : Lent) (told : Option Files) (made : Made)
+    → (command ≡ Run → ⊥) → IsMade command given lent told made → IsIdle lent
+made_idle Run given lent told made other is = absurd (other refl)
+made_idle Flat given lent told made other is = is.0
+made_idle Asm given lent told made other is = is.0
+made_idle Disasm given lent told made other is = is.0
+made_idle Check given lent told made other is = is.0
+
+lost_idle : (command : Command) (given : List Pair) (lent : Lent) (told : Option Files)
+    → (command ≡ Run → ⊥) → IsLost command given lent told → IsIdle lent
+lost_idle Run given lent told other is = absurd (other refl)
+lost_idle Flat given lent told other is = is
+lost_idle Asm given lent told other is = is
+lost_idle Disasm given lent told other is = is
+lost_idle Check given lent told other is = is
+
+pub others_idle : (read : Read) (lent : Lent) (end : Result Made Refusal) (old new : HostState)
+    → (read.command ≡ Run → ⊥) → CommandEnds read lent end old new → IsIdle lent
+others_idle read lent (Ok made) old new other (at, before, meant, after) =
+    made_idle read.command read.given lent at.files made other meant
+others_idle read lent (Err end) old new other (refusal, mid, inl (idle, refused), tells) = idle
+others_idle read lent (Err end) old new other (refusal, mid, inr (at, done, inl (e, same, lost)), tells) =
+    lost_idle read.command read.given lent at.files other lost
+others_idle read lent (Err end) old new other (refusal, mid, inr (at, done, inr (made, meant, refused)), tells) =
+    made_idle read.command read.given lent at.files made other meant
 
 -- a refusal that isn't a failure of the host or want of memory is none that has its cause elsewhere
 of_files_not_free : {P : Type 0} (refusal : Refusal) → IsOfFiles refusal → HasNone refusal → P
@@ -539,20 +605,20 @@ module _ (files : Files) (refusal : Refusal) (of : IsOfFiles refusal) where
       go (inr e) = inr e
 
 -- where a refusal comes first over the files, and the host never fails, it gives the status
-pub refuses_first : (read : Read) (files : Files) (refusal : Refusal) (status : ℕ) (end : Result Made Refusal)
-    (old new : HostState) → status ≡ status_of end
-    → CommandEnds read end old new → old.files ≡ Some files → IsOfFiles refusal
+pub refuses_first : (read : Read) (lent : Lent) (files : Files) (refusal : Refusal) (status : ℕ)
+    (end : Result Made Refusal) (old new : HostState) → status ≡ status_of end
+    → CommandEnds read lent end old new → old.files ≡ Some files → IsOfFiles refusal
     → IsFirstRefusal files (steps_of read.command read.given) refusal
     → ¬ Rose old.faults new.faults → (status ≡ 11) ⊎ (status ≡ status_of_refusal refusal)
-refuses_first read files refusal status (Ok made) old new is (at, before, meant, after) told of first safe =
+refuses_first read lent files refusal status (Ok made) old new is (at, before, meant, after) told of first safe =
     absurd (never_done files refusal of (steps_of read.command read.given) old at
     (steps_reading read.command read.given) told before first)
-refuses_first read files refusal status (Err end) old new is (other, mid, steps, tells) told of first safe = go
+refuses_first read lent files refusal status (Err end) old new is (other, mid, steps, tells) told of first safe = go
     tells.same (ends steps)
   where
-    ends : WorkEnds read.command read.given (Err other) old mid
+    ends : WorkEnds read.command read.given lent (Err other) old mid
         → IsFree other old.faults mid.faults ⊎ (status_of_refusal other ≡ status_of_refusal refusal)
-    ends (inl refused) = refused_first files refusal of (steps_of read.command read.given) other old mid
+    ends (inl (idle, refused)) = refused_first files refusal of (steps_of read.command read.given) other old mid
         (steps_reading read.command read.given) told refused first
     ends (inr (at, before, rest)) =
         absurd (never_done files refusal of (steps_of read.command read.given) old at
@@ -566,28 +632,31 @@ refuses_first read files refusal status (Err end) old new is (other, mid, steps,
     go (inl same) (inl (inr (host, rose))) = absurd (safe (omega (arith, rose, tells.later)))
     go (inl same) (inr e) = inr (is ∙ ap status_of_refusal same ∙ e)
 
--- the end of one command's work is a command's
+-- the end of one command's work, which leaves memory and tap, is a command's
 module _ {A : Type 0} (make : A → Made) (after : A → List Step) (Meant : Files → A → Type 0) (command : Command)
-    (given : List Pair) (same : (made : A) → after made ≡ last_steps given (make made))
-    (are : (files : Files) (made : A) → Meant files made → IsMade command given files (make made)) where
+    (given : List Pair) (lent : Lent) (idle : IsIdle lent)
+    (same : (made : A) → after made ≡ last_steps given (make made))
+    (are : (told : Option Files) (made : A) → ((files : Files) → told ≡ Some files → Meant files made)
+    → IsMade command given lent told (make made)) (lost : (told : Option Files) → IsLost command given lent told)
+    where
   pub lift_ends : (end : Result A Refusal) (old new : HostState)
       → StepsEnd (steps_of command given) after Meant end old new
-      → WorkEnds command given (lifted make end) old new
+      → WorkEnds command given lent (lifted make end) old new
   lift_ends (Ok made) old new (at, done, told, last) = (
     at,
     done,
-    (λ files is. are files made (told files is)),
+    are at.files made told,
     subst (λ steps. AllDone steps at new) (same made) last,
   )
-  lift_ends (Err refusal) old new (inl refused) = inl refused
-  lift_ends (Err refusal) old new (inr (at, done, inl lost)) = inr (at, done, inl lost)
+  lift_ends (Err refusal) old new (inl refused) = inl (idle, refused)
+  lift_ends (Err refusal) old new (inr (at, done, inl (e, stays))) = inr (at, done, inl (e, stays, lost at.files))
   lift_ends (Err refusal) old new (inr (at, done, inr (made, told, refused))) =
       inr (
         at,
         done,
         inr (
           make made,
-          (λ files is. are files made (told files is)),
+          are at.files made told,
           subst (λ steps. IsRefused steps refusal at new) (same made) refused,
         ),
       )

@@ -4,3 +4,4 @@ pub mod FlatLaws
 pub mod ListingLaws
 pub mod RunLaws
 pub mod StepLaws
+pub mod TraceLaws

@@ -1,16 +1,29 @@
 -- What is reported of a program's run is the flat run of its files.
-use Rattle.std.proofs.Common.{◌≡◌, ℕ, List, ap, ◌∙◌}
-use Rattle.asc_outside.specs.Host.{Files}
+use Rattle.std.proofs.Common.{◌≡◌, ◌⊎◌, ℕ, List, [], Option, Some, None, Result, Ok, Err, length, ap, subst, refl, ◌∙◌}
+use Rattle.std.proofs.Common.{inl, inr, sym}
+use Rattle.std.specs.Prelude.{IfOk}
+use Rattle.asc_base.specs.Settings.{IsConfig}
+use Rattle.asc_base.specs.declared.settings.Config.{Config}
+use Rattle.asc_base.specs.declared.settings.Settings.{Settings}
+use Rattle.asc_outside.specs.Host.{Files, HostState}
+use Rattle.bus_watch.specs.RunEnd.{RanOut}
+use Rattle.secure_machine.specs.Run.{IsTiedButLast, IsTiedOr, IsUnprepared}
+use Rattle.secure_machine.specs.declared.report.Report.{Report as RunReport}
 use Rattle.elf_loader.specs.Elf.{entry_of}
 use Rattle.elf_loader.specs.Layout.{image_bytes, first_break}
 use Rattle.elf_loader.specs.declared.image.Image.{Image}
 use Rattle.rv32_core.specs.FlatRun.{FlatRun, FlatEnding}
 use Rattle.ascend_words.specs.Grammar.{Pair}
 use Rattle.ascend_words.specs.Settings.{settings_of}
-use Rattle.ascend_words.specs.declared.table.Name.TheVariants.{Elf}
+use Rattle.ascend_words.specs.declared.table.Name.TheVariants.{Elf, Key}
 use Rattle.ascend_top.specs.FlatRun.{Report, bytes_in, ending_of, file_in, flat_of, flat_report, input_in}
 use Rattle.ascend_top.specs.FlatRun.{outcome_report, report_of, run_over}
-use Rattle.ascend_top.specs.Parts.{EndsAs, IsImageOf}
+use Rattle.ascend_top.specs.EncryptedRun.{IsRunOf, IsWantOf, Lent}
+use Rattle.ascend_top.specs.Parts.{CanRun, EndsAs, IsConfigOf, IsImageOf, IsProgramOf, program_report}
+use Rattle.ascend_top.specs.Run.{IsBegin, traced}
+use Rattle.ascend_top.specs.Steps.{AllDone, IsRefused, Step, key_length}
+use Rattle.ascend_top.specs.declared.commands.flat.Program.{Program}
+use Rattle.ascend_top.specs.declared.refusal.Refusal.{Refusal}
 use Rattle.ascend_top.specs.declared.commands.flat.Outcome.{Outcome}
 
 -- a run that ended so is reported so
@@ -48,3 +61,69 @@ module _ (given : List Pair) (files : Files) (base size budget : ℕ) (image : I
       ∙ ap (λ n. report_over n (entry_of elf) (settings_of given).base (settings_of given).size
       (first_break (settings_of given).base (settings_of given).size elf)
       (image_bytes (settings_of given).base (settings_of given).size elf) in_full) budget_is
+
+-- the program that was read is reported as its files are
+pub program_reports : (given : List Pair) (told : Option Files) (config : Config) (answer : Result Program Refusal)
+    → IsConfigOf (settings_of given) config → IfOk answer (λ program. program.config ≡ config)
+    → IfOk answer (λ program. (files : Files) → told ≡ Some files → IsProgramOf given files program)
+    → IfOk answer (λ program. (files : Files) → told ≡ Some files → program_report program ≡ flat_report given files)
+program_reports given told config (Ok program) is same of files e =
+    report_is given files program.config.base program.config.size program.config.budget program.image
+    program.input.items (ap (λ (c : Config). c.base) same ∙ is.base) (ap (λ (c : Config). c.size) same ∙ is.size)
+    (ap (λ (c : Config). c.budget) same ∙ is.budget) (of files e).image (of files e).input
+program_reports given told config (Err refusal) is same of = tt
+
+-- a run begins so
+pub begins : (given : List Pair) (told : Option Files) (settings : Settings) (config : Config) (key : List ℕ)
+    (program : Program) → settings ≡ settings_of given → IsConfigOf settings config → program.config ≡ config
+    → CanRun program → length key ≡ key_length
+    → ((files : Files) → told ≡ Some files → key ≡ bytes_in files (file_in given Key))
+    → ((files : Files) → told ≡ Some files → IsProgramOf given files program)
+    → IsBegin given told (record { key = key; program = program })
+begins given told settings config key program e is same can long key_is of =
+    let now : IsConfigOf (settings_of given) config = subst (λ s. IsConfigOf s config) e is in
+    record {
+      allowed = now.allowed;
+      config = same ∙ now.config;
+      is_config = subst IsConfig (sym same) now.is_config;
+      image = can.image;
+      key_length = long;
+      key = key_is;
+      program = of;
+    }
+
+-- a run that was reported leaves what one leaves that found no memory
+pub wanting : (config : Config) (image : Image) (input key : List ℕ) (lent : Lent) (report : RunReport)
+    → IsRunOf config image input key lent report → IsWantOf config image input key lent
+wanting config image input key lent report is = record {
+  end = report.last;
+  pace = is.pace;
+  bits = is.bits;
+  tied = tied is.tied;
+  faults = is.faults;
+}
+  where
+    tied : IsTiedOr config (IsUnprepared report lent.tap lent.tap') lent.memory lent.memory' lent.tap'
+        → IsTiedButLast config lent.memory lent.memory' lent.tap lent.tap'
+    tied (inl whole) = inl (inl whole)
+    tied (inr none) = inr none.tap_is
+
+-- the write of a trace, where one is named, and then the steps after it
+pub traced_done : (o : Option (List ℕ)) (text : List ℕ) (steps : List Step) (old mid new : HostState)
+    → AllDone (traced o text []) old mid → AllDone steps mid new → AllDone (traced o text steps) old new
+traced_done None text steps old mid new e done = subst (λ state. AllDone steps state new) e done
+traced_done (Some name) text steps old mid new (after, does, e) done =
+    (after, does, subst (λ state. AllDone steps state new) e done)
+
+pub traced_refused : (o : Option (List ℕ)) (text : List ℕ) (steps : List Step) (refusal : Refusal)
+    (old new : HostState) → IsRefused (traced o text []) refusal old new → IsRefused (traced o text steps) refusal old new
+traced_refused None text steps refusal old new refused = absurd refused
+traced_refused (Some name) text steps refusal old new (inl refuses) = inl refuses
+traced_refused (Some name) text steps refusal old new (inr (mid, does, none)) = absurd none
+
+pub traced_then : (o : Option (List ℕ)) (text : List ℕ) (steps : List Step) (refusal : Refusal)
+    (old mid new : HostState) → AllDone (traced o text []) old mid → IsRefused steps refusal mid new
+    → IsRefused (traced o text steps) refusal old new
+traced_then None text steps refusal old mid new e refused = subst (λ state. IsRefused steps refusal state new) e refused
+traced_then (Some name) text steps refusal old mid new (after, does, e) refused =
+    inr (after, does, subst (λ state. IsRefused steps refusal state new) e refused)

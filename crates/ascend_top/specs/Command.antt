@@ -1,4 +1,4 @@
--- What a command does, by how it ends: its steps before the run, the run, the steps after it, and the text of a
+-- What a command does, by how it ends: its steps before its work, the work, the steps after it, and the text of a
 -- refusal.
 use Rattle.std.specs.Prelude.{◌≡◌, ◌⊎◌, ℕ, ◌≤◌, List, [], ◌∷◌, Option, Some, None, IsSome, Result, Ok, Err}
 use Rattle.std.specs.List.{AllByRecursion}
@@ -12,8 +12,9 @@ use Rattle.ascend_top.specs.Check.{check_steps, held_steps, AreHeld}
 use Rattle.ascend_top.specs.Disasm.{disasm_steps, disasm_listing, print_steps}
 use Rattle.ascend_top.specs.Flat.{flat_steps, report_steps}
 use Rattle.ascend_top.specs.FlatRun.{Report, flat_report, outcome_report}
-use Rattle.ascend_top.specs.Made.{Made, Ran, Assembled, Listed, Held}
-use Rattle.ascend_top.specs.Run.{run_steps}
+use Rattle.ascend_top.specs.EncryptedRun.{IsIdle, Lent}
+use Rattle.ascend_top.specs.Made.{Made, Encrypted, Ran, Assembled, Listed, Held}
+use Rattle.ascend_top.specs.Run.{IsRun, RunWants, run_report_steps, run_steps}
 use Rattle.ascend_top.specs.Status.{status_of_made}
 use Rattle.ascend_top.specs.Steps.{AllDone, AsksMore, IsCause, IsDone, IsRefused, PrintsMore, Step}
 use Rattle.ascend_top.specs.Texts.{refusal_text}
@@ -33,18 +34,32 @@ steps_of Asm given = asm_steps given
 steps_of Disasm given = disasm_steps given
 steps_of Check given = check_steps given
 
--- what its work comes to over these files: the report of the flat run, the text's file, the program's lines, or what a
--- check says of the trace
-abbrev pub IsMade : Command → List Pair → Files → Made → Type 0
-IsMade Run given files made = made ≡ Ran (flat_report given files)
-IsMade Flat given files made = made ≡ Ran (flat_report given files)
-IsMade Asm given files made = made ≡ Assembled (asm_file given files)
-IsMade Disasm given files made = made ≡ Listed (disasm_listing given files)
-IsMade Check given files (Held code bits) = AreHeld given files code bits
-IsMade Check given files made = ⊥
+-- what a command's work is meant to come to over these files, where it is no run over encrypted memory: the report of
+-- the flat run, the text's file, the program's lines, or what a check says of the trace
+abbrev pub IsMeant : Command → List Pair → Files → Made → Type 0
+IsMeant Run given files made = ⊥
+IsMeant Flat given files made = made ≡ Ran (flat_report given files)
+IsMeant Asm given files made = made ≡ Assembled (asm_file given files)
+IsMeant Disasm given files made = made ≡ Listed (disasm_listing given files)
+IsMeant Check given files (Held code bits) = AreHeld given files code bits
+IsMeant Check given files made = ⊥
+
+-- What a command's work comes to, over files that are told or not: `run` to a run over the memory and the tap, every
+-- other command to what is meant where files are told, and it leaves memory and tap as they were.
+abbrev pub IsMade : Command → List Pair → Lent → Option Files → Made → Type 0
+IsMade Run given lent told (Encrypted run) = IsRun given told lent run
+IsMade Run given lent told made = ⊥
+IsMade command given lent told made =
+    IsIdle lent × ((files : Files) → told ≡ Some files → IsMeant command given files made)
+
+-- what there is where it found no memory
+abbrev pub IsLost : Command → List Pair → Lent → Option Files → Type 0
+IsLost Run given lent told = RunWants given told lent
+IsLost command given lent told = IsIdle lent
 
 -- the steps after it
 abbrev pub last_steps : List Pair → Made → List Step
+last_steps given (Encrypted run) = run_report_steps given run
 last_steps given (Ran report) = report_steps given report
 last_steps given (Assembled file) = write_steps given file
 last_steps given (Listed text) = print_steps text
@@ -66,10 +81,18 @@ StepsEnd {A} before after Meant (Err refusal) old new =
     ⊎ ((made : A) × ((files : Files) → at.files ≡ Some files → Meant files made)
     × IsRefused (after made) refusal at new)))
 
--- the same of a command's own steps and work
-abbrev pub WorkEnds : Command → List Pair → Result Made Refusal → HostState → HostState → Type 0
-WorkEnds command given end old new =
-    StepsEnd (steps_of command given) (last_steps given) (IsMade command given) end old new
+-- The same of a command's own steps and work, with what it leaves of memory and tap. Where a step before its work was
+-- refused, these are as they were.
+abbrev pub WorkEnds : Command → List Pair → Lent → Result Made Refusal → HostState → HostState → Type 0
+WorkEnds command given lent (Ok made) old new =
+    (at : HostState) × AllDone (steps_of command given) old at × IsMade command given lent at.files made
+    × AllDone (last_steps given made) at new
+WorkEnds command given lent (Err refusal) old new =
+    (IsIdle lent × IsRefused (steps_of command given) refusal old new)
+    ⊎ ((at : HostState) × AllDone (steps_of command given) old at
+    × (((refusal ≡ NoMemory) × (new ≡ at) × IsLost command given lent at.files)
+    ⊎ ((made : Made) × IsMade command given lent at.files made
+    × IsRefused (last_steps given made) refusal at new)))
 
 -- the print of a text, if there is one
 abbrev pub print_calls : Option (List ℕ) → List HostCall
@@ -91,10 +114,10 @@ pub record Tells (refusal end : Refusal) (old new : HostState) : Type 0 where
   pub printed : TextPrinted refusal (refusal_text end) old new
 
 -- A command ends so: with what its work made, or after a refusal's text.
-abbrev pub CommandEnds : Read → Result Made Refusal → HostState → HostState → Type 0
-CommandEnds read (Ok made) old new = WorkEnds read.command read.given (Ok made) old new
-CommandEnds read (Err end) old new =
-    (refusal : Refusal) × (mid : HostState) × WorkEnds read.command read.given (Err refusal) old mid
+abbrev pub CommandEnds : Read → Lent → Result Made Refusal → HostState → HostState → Type 0
+CommandEnds read lent (Ok made) old new = WorkEnds read.command read.given lent (Ok made) old new
+CommandEnds read lent (Err end) old new =
+    (refusal : Refusal) × (mid : HostState) × WorkEnds read.command read.given lent (Err refusal) old mid
     × Tells refusal end mid new
 
 -- over these files nothing is refused before the work
@@ -123,11 +146,11 @@ IsFirstRefusal files (step ∷ steps) refusal =
 
 -- What a command comes to whose files are right and whose host never fails: its steps are all done with what its work
 -- is meant to make, or there is no memory.
-abbrev pub Completes : Read → Files → ℕ → HostState → HostState → Type 0
-Completes read files status old new =
+abbrev pub Completes : Read → Files → Lent → ℕ → HostState → HostState → Type 0
+Completes read files lent status old new =
     (status ≡ 11)
-    ⊎ ((made : Made) × IsMade read.command read.given files made × (status ≡ status_of_made made)
-    × CommandEnds read (Ok made) old new)
+    ⊎ ((made : Made) × IsMade read.command read.given lent (Some files) made × (status ≡ status_of_made made)
+    × CommandEnds read lent (Ok made) old new)
 
 -- what a run came to, as its end
 abbrev pub run_end : Result Outcome Refusal → Result Report Refusal
@@ -136,6 +159,7 @@ run_end (Err refusal) = Err refusal
 
 -- what a command came to
 abbrev pub made_by : Product → Made
+made_by (product.Encrypted run) = Encrypted run
 made_by (product.Ran outcome) = Ran (outcome_report outcome)
 made_by (product.Assembled file) = Assembled file.items
 made_by (product.Listed text) = Listed text.items

@@ -3,6 +3,7 @@ pub mod Assembled
 pub mod Check
 pub mod Command
 pub mod Disasm
+pub mod EncryptedRun
 pub mod Flat
 pub mod FlatRun
 pub mod Made

@@ -1,6 +1,7 @@
 -- What the parts of a command say.
 use Rattle.std.specs.Prelude.{◌≡◌, ◌⊎◌, ℕ, ◌≤◌, List, [], ◌∷◌, length, Some, IfSome, Result, Ok, Err}
 use Rattle.asc_base.specs.Memory.{IsMemory}
+use Rattle.asc_base.specs.Settings.{AreAllowed, IsConfig, config_of}
 use Rattle.asc_base.specs.declared.settings.Config.{Config}
 use Rattle.asc_base.specs.declared.settings.Settings.{Settings}
 use Rattle.asc_outside.specs.Host.{HostState, Files, Reads as ReadsFile}
@@ -8,13 +9,14 @@ use Rattle.asc_outside.specs.declared.host.HostFault.{HostFault}
 use Rattle.asc_outside.specs.declared.host.HostFault.TheVariants.{Failed, TooLong as TooLongFile}
 use Rattle.asc_outside.specs.declared.host.HostFault.TheVariants.{NoMemory as OutOfMemory}
 use Rattle.elf_loader.specs.Elf.{entry_of}
-use Rattle.elf_loader.specs.Layout.{image_bytes, first_break}
+use Rattle.elf_loader.specs.Layout.{image_bytes, first_break, marked_lines}
 use Rattle.elf_loader.specs.Memory.{IsImage}
 use Rattle.elf_loader.specs.declared.image.Image.{Image}
 use Rattle.rv32_core.specs.FlatRun.{FlatRun}
 use Rattle.ascend_words.specs.Grammar.{Pair}
+use Rattle.ascend_words.specs.declared.table.Name.TheVariants.{Elf}
 use Rattle.ascend_top.specs.Flat.{report_steps}
-use Rattle.ascend_top.specs.FlatRun.{Report, bytes_in, ending_of, report_of, run_over}
+use Rattle.ascend_top.specs.FlatRun.{Report, bytes_in, ending_of, file_in, input_in, report_of, run_over}
 use Rattle.ascend_top.specs.Steps.{AllDone, AsksMore, IsRefused, limit_of}
 use Rattle.ascend_top.specs.declared.commands.flat.Program.{Program}
 use Rattle.ascend_top.specs.declared.refusal.Refusal.{Refusal}
@@ -34,8 +36,11 @@ unwritten Failed = Host
 unwritten TooLongFile = Host
 unwritten OutOfMemory = NoMemory
 
--- the numbers of a configuration that a flat run takes are those of the settings
+-- the settings are in their ranges, and give the configuration; so its numbers are theirs
 pub record IsConfigOf (settings : Settings) (config : Config) : Type 0 where
+  pub allowed : AreAllowed settings
+  pub config : config ≡ config_of settings
+  pub is_config : IsConfig config
   pub memory : IsMemory config.base config.size
   pub base : config.base ≡ settings.base
   pub size : config.size ≡ settings.size
@@ -55,17 +60,24 @@ pub record IsImageOf (base size : ℕ) (files : Files) (name : List ℕ) (image 
   pub bytes : image.bytes.items ≡ image_bytes base size (bytes_in files name)
   pub entry : image.entry ≡ entry_of (bytes_in files name)
   pub heap : image.heap ≡ first_break base size (bytes_in files name)
+  pub marked : image.marked.items ≡ marked_lines base size (bytes_in files name)
 
 -- what a run needs of its program: an image of a memory
 pub record CanRun (program : Program) : Type 0 where
-  pub memory : IsMemory program.base program.size
-  pub image : IsImage program.base program.size program.image
+  pub memory : IsMemory program.config.base program.config.size
+  pub image : IsImage program.config.base program.config.size program.image
+
+-- a program is that of the files that words name: its image is that of the ELF file, and its input that of the input
+-- file, and else empty
+pub record IsProgramOf (given : List Pair) (files : Files) (program : Program) : Type 0 where
+  pub image : IsImageOf program.config.base program.config.size files (file_in given Elf) program.image
+  pub input : program.input.items ≡ input_in files given
 
 -- the report of a program's flat run
 abbrev pub program_report : Program → Report
 program_report program =
-    report_of (run_over program.budget program.image.entry program.base program.size program.image.heap
-    program.image.bytes.items program.input.items)
+    report_of (run_over program.config.budget program.image.entry program.config.base program.config.size
+    program.image.heap program.image.bytes.items program.input.items)
 
 -- a flat run finishes so many instructions, ends so, and has this output
 pub record EndsAs (run : FlatRun) (instructions : ℕ) (end : Ending) (output : List ℕ) : Type 0 where

@@ -1,7 +1,9 @@
 -- The status of a command, by how it ends.
 use Rattle.std.specs.Prelude.{ℕ, Result, Ok, Err}
 use Rattle.rv32_core.specs.FlatRun.{FlatEnding, Exited, Trapped, Budget}
-use Rattle.ascend_top.specs.Made.{Made, Ran, Assembled, Listed, Held}
+use Rattle.secure_machine.specs.declared.report.Ending.{Ending}
+use Rattle.secure_machine.specs.declared.report.Ending.TheVariants as run_ending
+use Rattle.ascend_top.specs.Made.{Made, Encrypted, Ran, Assembled, Listed, Held}
 use Rattle.ascend_top.specs.declared.refusal.Refusal.{Refusal}
 use Rattle.ascend_top.specs.declared.refusal.Refusal.TheVariants.{Usage, OutOfRange, Elf, KeyLength, TooLong, Host}
 use Rattle.ascend_top.specs.declared.refusal.Refusal.TheVariants.{NoMemory, NumberOutOfRange, Assembler, Trace, Fails}
@@ -11,6 +13,16 @@ abbrev pub status_of_ending : FlatEnding → ℕ
 status_of_ending (Exited status) = 0
 status_of_ending (Trapped kind pc) = 1
 status_of_ending Budget = 9
+
+-- the status of a command whose run over encrypted memory ended so
+abbrev pub status_of_run : Ending → ℕ
+status_of_run (run_ending.Exit status) = 0
+status_of_run (run_ending.Trap kind pc) = 1
+status_of_run (run_ending.Integrity evidence) = 6
+status_of_run (run_ending.StashFull held) = 7
+status_of_run (run_ending.TimeUp at) = 8
+status_of_run run_ending.Budget = 9
+status_of_run run_ending.Device = 10
 
 -- the status of a command that is refused so
 abbrev pub status_of_refusal : Refusal → ℕ
@@ -28,6 +40,7 @@ status_of_refusal (TooLong source) = 13
 
 -- the status of a command that came to this
 abbrev pub status_of_made : Made → ℕ
+status_of_made (Encrypted run) = status_of_run run.report.ending
 status_of_made (Ran report) = status_of_ending report.ending
 status_of_made (Assembled file) = 0
 status_of_made (Listed text) = 0

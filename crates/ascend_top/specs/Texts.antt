@@ -1,6 +1,8 @@
--- What a command prints. Each text is a line, or two, each ended by a line feed.
+-- What a command prints. Each text is a line, or some lines, each ended by a line feed.
 use Rattle.std.specs.Prelude.{ℕ, List, [], ◌∷◌, ◌++◌, Option, Some, None, codes}
 use Rattle.std.specs.Fmt.{decimal}
+use Rattle.asc_base.specs.declared.stop.Evidence.{Evidence}
+use Rattle.asc_base.specs.declared.stop.Evidence.TheVariants.{BadSlot, OffPath, Doubled, Missing, Unexpected, BadTag}
 use Rattle.asc_base.specs.declared.settings.Setting.{Setting}
 use Rattle.asc_base.specs.declared.settings.Setting.TheVariants.{Size, Base, Sets, Ways, Plb, Roots, Ic, Stash}
 use Rattle.asc_base.specs.declared.settings.Setting.TheVariants.{Budget as BudgetSetting, Time, Leak, Rates, First}
@@ -19,6 +21,9 @@ use Rattle.rv32_asm.specs.declared.fault.AsmKind.{AsmKind}
 use Rattle.rv32_asm.specs.declared.fault.AsmKind.TheVariants as asm_kind
 use Rattle.bus_trace.specs.declared.fault.TraceKind.{TraceKind}
 use Rattle.bus_trace.specs.declared.fault.TraceKind.TheVariants.{Form, Range, Cut, Extra}
+use Rattle.secure_machine.specs.declared.report.Ending.{Ending}
+use Rattle.secure_machine.specs.declared.report.Ending.TheVariants as run_ending
+use Rattle.secure_machine.specs.declared.report.Report.{Report as RunReport}
 use Rattle.ascend_words.specs.Tables.{name_text}
 use Rattle.ascend_words.specs.declared.table.Name.{Name}
 use Rattle.ascend_words.specs.declared.table.Name.TheVariants.{Key, Elf as ElfName, Input, Text, Trace as TraceName}
@@ -55,6 +60,39 @@ ending_text Budget = codes "end budget"
 -- the report of a run: how it ended, and how many instructions finished
 abbrev pub report_text : Report → List ℕ
 report_text report = line (ending_text report.ending) ++ line (codes "instructions " ++ decimal report.instructions)
+
+-- the evidence that the memory was altered, as it is printed
+abbrev pub evidence_text : Evidence → List ℕ
+evidence_text (BadSlot bucket slot) = codes "BadSlot " ++ decimal bucket ++ codes " " ++ decimal slot
+evidence_text (OffPath bucket slot) = codes "OffPath " ++ decimal bucket ++ codes " " ++ decimal slot
+evidence_text (Doubled address) = codes "Doubled " ++ decimal address.0
+evidence_text (Missing address counter) = codes "Missing " ++ decimal address.0
+evidence_text (Unexpected address) = codes "Unexpected " ++ decimal address.0
+evidence_text (BadTag message found computed) = codes "BadTag " ++ decimal message.address.0
+
+-- the ending of a run over encrypted memory, as it is printed
+abbrev pub run_ending_text : Ending → List ℕ
+run_ending_text (run_ending.Exit status) = codes "end exit " ++ decimal status
+run_ending_text (run_ending.Trap kind pc) = codes "end trap " ++ kind_text kind ++ codes " " ++ decimal pc
+run_ending_text run_ending.Budget = codes "end budget"
+run_ending_text (run_ending.TimeUp at) = codes "end time " ++ decimal at
+run_ending_text (run_ending.StashFull held) = codes "end stash " ++ decimal held
+run_ending_text (run_ending.Integrity evidence) = codes "end integrity " ++ evidence_text evidence
+run_ending_text run_ending.Device = codes "end device"
+
+-- the report of such a run, with the number of altered replies
+abbrev pub run_text : RunReport → ℕ → List ℕ
+run_text report altered =
+    line (run_ending_text report.ending)
+    ++ line (codes "instructions " ++ decimal report.instructions)
+    ++ line (codes "cycles " ++ decimal report.cycles)
+    ++ line (codes "last " ++ decimal report.last)
+    ++ line (codes "fetches " ++ decimal report.fetches)
+    ++ line (codes "real " ++ decimal report.real)
+    ++ line (codes "dummies " ++ decimal report.dummies)
+    ++ line (codes "choices " ++ decimal report.choices)
+    ++ line (codes "code " ++ decimal report.code)
+    ++ line (codes "altered " ++ decimal altered)
 
 -- the fault of an ELF file, as it is printed: its name, and the index of the program header where it has one
 abbrev pub fault_text : ElfFault → List ℕ

@@ -2,7 +2,7 @@
 ghost use Rattle.std.specs.Prelude.{◌≡◌};
 ghost use Rattle.ascend_top.specs.Command.{bytes_end, end_of, lifted, made_by, run_end};
 ghost use Rattle.ascend_top.specs.FlatRun.{file_in};
-ghost use Rattle.ascend_top.specs.Made.{Ran, Assembled, Listed, Held as MadeHeld};
+ghost use Rattle.ascend_top.specs.Made.{Encrypted as MadeEncrypted, Ran, Assembled, Listed, Held as MadeHeld};
 ghost use Rattle.ascend_top.specs.Status.{status_of_made};
 
 pub(crate) mod asm;
@@ -13,13 +13,17 @@ pub(crate) mod run;
 
 use crate::commands::check::Held;
 use crate::commands::flat::Outcome;
+use crate::commands::run::Encrypted;
 use crate::refusal::Refusal;
+use crate::status;
 use ascend_words::{Name, Words};
 
 /// What a command made, all of whose steps were done.
 #[derive(Debug, Drop)]
 pub(crate) enum Product {
-    /// What a run came to.
+    /// What a run over encrypted memory came to.
+    Encrypted(Encrypted),
+    /// What a flat run came to.
     Ran(Outcome),
     /// The file of an assembled text.
     Assembled(Vec<u8>),
@@ -35,13 +39,24 @@ impl Product {
         ensures { result ≡ status_of_made (made_by self.now) }
     {
         match self {
+            Product::Encrypted(run) => status::of_run(run.report.ending),
             Product::Ran(outcome) => outcome.ending.status(),
             Product::Assembled(_) | Product::Listed(_) | Product::Held(_) => 0,
         }
     }
 }
 
-/// A run's end as a command's.
+/// The end of a run over encrypted memory as a command's.
+pub(crate) fn encrypted(end: Result<Encrypted, Refusal>) -> Result<Product, Refusal>
+    ensures { end_of result ≡ lifted MadeEncrypted end }
+{
+    match end {
+        Ok(run) => Ok(Product::Encrypted(run)),
+        Err(refusal) => Err(refusal),
+    }
+}
+
+/// A flat run's end as a command's.
 pub(crate) fn ran(end: Result<Outcome, Refusal>) -> Result<Product, Refusal>
     ensures { end_of result ≡ lifted Ran (run_end end) }
 {

@@ -1,6 +1,6 @@
 ghost use Rattle.std.specs.Prelude.{◌≡◌};
 ghost use Rattle.ascend_top.specs.FlatRun.{ending_of};
-ghost use Rattle.ascend_top.specs.Status.{status_of_ending};
+ghost use Rattle.ascend_top.specs.Status.{status_of_ending, status_of_run};
 
 use rv32_core::TrapKind;
 
@@ -31,5 +31,20 @@ impl Ending {
             Ending::Trap { .. } => 1,
             Ending::Budget => 9,
         }
+    }
+}
+
+/// The status of a command whose run over encrypted memory ended so.
+pub(crate) fn of_run(ending: secure_machine::Ending) -> u8
+    ensures { result ≡ status_of_run ending }
+{
+    match ending {
+        secure_machine::Ending::Exit { .. } => 0,
+        secure_machine::Ending::Trap { .. } => 1,
+        secure_machine::Ending::Integrity(_) => 6,
+        secure_machine::Ending::StashFull { .. } => 7,
+        secure_machine::Ending::TimeUp { .. } => 8,
+        secure_machine::Ending::Budget => 9,
+        secure_machine::Ending::Device => 10,
     }
 }

@@ -95,19 +95,27 @@ pub(crate) fn read_file<H: Host>(
 }
 
 /// Reads the key file, which has a key's length.
-pub(crate) fn read_key<H: Host>(alloc: Global, name: &str, host: &mut H) -> Result<(), Refusal>
+pub(crate) fn read_key<H: Host>(
+    alloc: Global,
+    name: &str,
+    host: &mut H,
+) -> Result<[u8; KEY_LENGTH], Refusal>
+    ensures key { IfOk result (λ key. (files : Files) → (H.state host.new).files ≡ Some files
+        → key ≡ bytes_in files name.now) }
     ensures read { OnOk result (Does (Reads KeyFile name.now AKey) (H.state host.old) (H.state host.new)) }
     ensures refused { IfErr result (λ refusal.
         Refuses (Reads KeyFile name.now AKey) refusal (H.state host.old) (H.state host.new)) }
 {
-    let key = match read_file(alloc, Source::Key, name, host) {
-        Ok(key) => key,
+    let file = match read_file(alloc, Source::Key, name, host) {
+        Ok(file) => file,
         Err(refusal) => return Err(refusal),
     };
-    if key.len() < KEY_LENGTH {
-        return Err(Refusal::KeyLength { length: key.len() });
+    if file.len() < KEY_LENGTH {
+        return Err(Refusal::KeyLength { length: file.len() });
     }
-    Ok(())
+    let mut key = [0; KEY_LENGTH];
+    key.copy_from_slice(file.as_slice());
+    Ok(key)
 }
 
 /// Reads the ELF file, and lays out its memory.

@@ -1,8 +1,13 @@
 mod assembling;
 mod checking;
+mod running;
+
+ghost use Rattle.std.specs.Prelude.{◌≡◌, ◌<◌, ◌≤◌, ◌^◌};
+ghost use Rattle.bus_watch.specs.Log.{fresh_tap};
 
 use super::*;
-use asc_outside::{Host, HostFault, MemHost};
+use asc_outside::{FaultyMemory, HonestMemory, Host, HostFault, MemHost, UntrustedMemory};
+use bus_watch::Recorder;
 use std::alloc::{AllocError, Global};
 use std::process::Abort;
 use std::test::Fail;
@@ -25,6 +30,11 @@ const HELLO: [u32; 9] = [
 
 /// An ELF file of one segment at 65,536 with these words, and then this text.
 fn elf(alloc: Global, words: &[u32], text: &str) -> Result<Vec<u8>, AllocError> {
+    elf_at(alloc, 65_536, words, text)
+}
+
+/// The same with the segment at this address.
+fn elf_at(alloc: Global, at: u32, words: &[u32], text: &str) -> Result<Vec<u8>, AllocError> {
     let mut code = Vec::new(alloc);
     for word in words {
         code.extend_from_slice(&word.to_le_bytes())?;
@@ -33,13 +43,13 @@ fn elf(alloc: Global, words: &[u32], text: &str) -> Result<Vec<u8>, AllocError> 
     let length = u32::try_from(code.len()).unwrap_or(0);
     let mut file = Vec::new(alloc);
     file.extend_from_slice(b"\x7fELF\x01\x01\x01\0\0\0\0\0\0\0\0\0\x02\0\xf3\0")?;
-    for word in [1, 65_536, 52, 0, 0] {
+    for word in [1, at, 52, 0, 0] {
         file.extend_from_slice(&u32::to_le_bytes(word))?;
     }
     for half in [52, 32, 1, 0, 0, 0] {
         file.extend_from_slice(&u16::to_le_bytes(half))?;
     }
-    for word in [1, 84, 65_536, 65_536, length, length, 7, 4] {
+    for word in [1, 84, at, at, length, length, 7, 4] {
         file.extend_from_slice(&u32::to_le_bytes(word))?;
     }
     file.extend_from_slice(code.as_slice())?;
@@ -80,7 +90,31 @@ fn words(alloc: Global, line: &str) -> Result<Vec<String>, AllocError> {
         .try_collect(alloc)
 }
 
-/// Takes a line's words to a host, and compares the status, what is printed and the file `o`.
+/// Takes a line's words to a host and a memory, and compares the status, what is printed and the file `o`.
+fn compare_over<R: Abort, M: UntrustedMemory>(
+    rt: &R,
+    alloc: Global,
+    line: &str,
+    host: &mut MemHost,
+    memory: &mut M,
+    tap: &mut Recorder,
+    status: u8,
+    printed: &str,
+    output: Option<&str>,
+) -> Result<(), Fail>
+    requires fresh { (M.state memory.old).count ≡ 0 }
+    requires moved { (M.state memory.old).moved < 2 ^ 62 }
+    requires tap { tap.old ≡ fresh_tap }
+{
+    let words = words(alloc, line)?;
+    let ended = ascend(alloc, words.as_slice(), host, memory, tap);
+    assert!(rt; ended == status, "{line}: {ended}");
+    assert!(rt; host.printed() == printed.as_bytes(), "{line}");
+    assert!(rt; host.file("o") == output.map(str::as_bytes), "{line}");
+    Ok(())
+}
+
+/// The same over a memory that does as it is asked.
 fn compare<R: Abort>(
     rt: &R,
     alloc: Global,
@@ -90,30 +124,25 @@ fn compare<R: Abort>(
     printed: &str,
     output: Option<&str>,
 ) -> Result<(), Fail> {
-    let words = words(alloc, line)?;
-    let ended = ascend(alloc, words.as_slice(), host);
-    assert!(rt; ended == status, "{line}: {ended}");
-    assert!(rt; host.printed() == printed.as_bytes(), "{line}");
-    assert!(rt; host.file("o") == output.map(str::as_bytes), "{line}");
-    Ok(())
+    let mut memory = HonestMemory::new(alloc);
+    let mut tap = Recorder::new(alloc);
+    compare_over(
+        rt,
+        alloc,
+        line,
+        host,
+        &mut memory,
+        &mut tap,
+        status,
+        printed,
+        output,
+    )
 }
 
 /// The words, the status, the printed text and the output of `EXIT`.
 const ROWS: [(&str, u8, &str, Option<&str>); 26] = [
     (
-        "run elf=a key=k output=o",
-        0,
-        "end exit 0\ninstructions 2\n",
-        Some(""),
-    ),
-    (
         "flat output=o elf=a",
-        0,
-        "end exit 0\ninstructions 2\n",
-        Some(""),
-    ),
-    (
-        "run elf=a key=k output=o input=i",
         0,
         "end exit 0\ninstructions 2\n",
         Some(""),
@@ -128,12 +157,6 @@ const ROWS: [(&str, u8, &str, Option<&str>); 26] = [
         "flat elf=a output=o budget=1",
         9,
         "end budget\ninstructions 1\n",
-        Some(""),
-    ),
-    (
-        "run elf=a key=k output=o budget=0",
-        9,
-        "end budget\ninstructions 0\n",
         Some(""),
     ),
     (
@@ -153,10 +176,18 @@ const ROWS: [(&str, u8, &str, Option<&str>); 26] = [
     ("", 2, "usage word 1\n", None),
     ("run", 2, "usage word 2\n", None),
     ("run elf=a elf=b", 2, "usage word 3\n", None),
+    ("run elf=a key=k output=o plb=01", 2, "usage word 5\n", None),
+    ("run elf=a key=k output=o plb=0", 4, "setting plb\n", None),
     (
-        "run elf=a key=k output=o budget=01",
-        2,
-        "usage word 5\n",
+        "run elf=a key=k output=o rates=256,256",
+        4,
+        "setting rates\n",
+        None,
+    ),
+    (
+        "run elf=a key=k output=o rates=256",
+        4,
+        "setting first\n",
         None,
     ),
     (
@@ -255,10 +286,6 @@ fn the_input_is_read(rt: HostRuntime) -> Result<(), Fail> {
     let line = "flat elf=a output=o input=i";
     let printed = "end exit 5\ninstructions 11\n";
     compare(&rt, alloc, line, &mut given, 0, printed, Some("hello"))?;
-    let mut none = host(alloc, &[], copy.as_slice())?;
-    let line = "run elf=a key=k output=o";
-    let printed = "end exit 0\ninstructions 11\n";
-    compare(&rt, alloc, line, &mut none, 0, printed, Some(""))?;
     let mut long = host(alloc, &[], copy.as_slice())?;
     let input = vec![in alloc; 0; 1_048_577]?;
     long.add("i", input.as_slice())?;
@@ -268,33 +295,4 @@ fn the_input_is_read(rt: HostRuntime) -> Result<(), Fail> {
     let file = vec![in alloc; 0; 16_777_217]?;
     program.add("a", file.as_slice())?;
     compare(&rt, alloc, line, &mut program, 13, "long elf\n", None)
-}
-
-#[test]
-fn each_call_fails_in_turn(rt: HostRuntime) -> Result<(), Fail> {
-    let alloc = rt.alloc();
-    let hello = elf(alloc, &HELLO, "hello\n")?;
-    let line = "run elf=a key=k output=o input=i";
-    for (number, status, printed, output) in [
-        (0, 0, "end exit 0\ninstructions 9\n", Some("hello\n")),
-        (1, 5, "", None),
-        (2, 5, "", None),
-        (3, 5, "", None),
-        (4, 5, "", None),
-        (5, 5, "", Some("hello\n")),
-    ] {
-        let mut host = host(alloc, &[number], hello.as_slice())?;
-        compare(&rt, alloc, line, &mut host, status, printed, output)?;
-    }
-    // the print of a refusal's text fails
-    let mut host = host(alloc, &[2], hello.as_slice())?;
-    compare(
-        &rt,
-        alloc,
-        "run elf=a key=s output=o",
-        &mut host,
-        4,
-        "",
-        None,
-    )
 }

@@ -7,7 +7,9 @@ use Rattle.ascend_top.specs.Made.{Made}
 use Rattle.ascend_top.specs.Status.{status_of, status_of_refusal}
 use Rattle.ascend_top.specs.declared.refusal.Refusal.{Refusal}
 use Rattle.ascend_top.specs.declared.refusal.Refusal.TheVariants.{Usage, NoMemory}
-use Rattle.ascend_top.proofs.EndLaws.{completes, lost_at_start, refuses_first, tells_nothing, tells_no_text}
+use Rattle.ascend_top.specs.EncryptedRun.{lent_as}
+use Rattle.ascend_top.proofs.EndLaws.{completes, lost_at_start, others_idle, refuses_first, tells_nothing}
+use Rattle.ascend_top.proofs.EndLaws.{tells_no_text}
 use Rattle.ascend_top.proofs.ascend.Goals as goal
 
 -- one answer isn't another
@@ -40,13 +42,15 @@ returns-in-Ok-clause-usage g c word fault = read_right _ word (c.in-Ok.ensures.r
 pub returns-in-Ok-clause-command : goal.returns-in-Ok-clause-command
 returns-in-Ok-clause-command g c read is =
     subst (λ r. (end : Result Made Refusal) × (c.finish.result ≡ status_of end)
-    × CommandEnds r end (g.H.Host.state c.args.host.now) (g.H.Host.state c.finish.new.host))
+    × CommandEnds r (lent_as (g.M.UntrustedMemory.state c.args.memory.now)
+    (g.M.UntrustedMemory.state c.finish.new.memory) c.args.tap.now c.finish.new.tap) end
+    (g.H.Host.state c.args.host.now) (g.H.Host.state c.finish.new.host))
     (read_one _ read (c.in-Ok.ensures.accepted read is)) c.finish.ensures
 
 pub returns-in-Ok-clause-complete : goal.returns-in-Ok-clause-complete
 returns-in-Ok-clause-complete g c read files is told right safe =
     let ends = returns-in-Ok-clause-command g c read is in
-    completes read files c.finish.result (ends.0) _ _ (ends.1) (ends.2) told right safe
+    completes read _ files c.finish.result (ends.0) _ _ (ends.1) (ends.2) told right safe
 
 pub returns-in-Err-Usage-clause-usage : goal.returns-in-Err-Usage-clause-usage
 returns-in-Err-Usage-clause-usage g c word fault =
@@ -76,7 +80,7 @@ returns-in-Err-NoMemory-clause-usage g c word fault = (
 pub returns-in-Err-NoMemory-clause-command : goal.returns-in-Err-NoMemory-clause-command
 returns-in-Err-NoMemory-clause-command g c read is =
     let state = g.H.Host.state c.args.host.now in
-    (Err NoMemory, refl, (NoMemory, state, inl (lost_at_start read.command read.given state), tells_nothing state))
+    (Err NoMemory, refl, (NoMemory, state, inl (record { memory = refl; tap = refl }, lost_at_start read.command read.given state), tells_nothing state))
 
 pub returns-in-Err-NoMemory-clause-complete : goal.returns-in-Err-NoMemory-clause-complete
 returns-in-Err-NoMemory-clause-complete g c read files is told right safe = inl refl
@@ -84,7 +88,7 @@ returns-in-Err-NoMemory-clause-complete g c read files is told right safe = inl 
 pub returns-in-Ok-clause-refused : goal.returns-in-Ok-clause-refused
 returns-in-Ok-clause-refused g c read files refusal is told of first safe =
     let ends = returns-in-Ok-clause-command g c read is in
-    refuses_first read files refusal c.finish.result (ends.0) _ _ (ends.1) (ends.2) told of first safe
+    refuses_first read _ files refusal c.finish.result (ends.0) _ _ (ends.1) (ends.2) told of first safe
 
 pub returns-in-Err-Usage-clause-refused : goal.returns-in-Err-Usage-clause-refused
 returns-in-Err-Usage-clause-refused g c read files refusal is told of first safe =
@@ -93,3 +97,11 @@ returns-in-Err-Usage-clause-refused g c read files refusal is told of first safe
 
 pub returns-in-Err-NoMemory-clause-refused : goal.returns-in-Err-NoMemory-clause-refused
 returns-in-Err-NoMemory-clause-refused g c read files refusal is told of first safe = inl refl
+
+pub returns-in-Ok-clause-others : goal.returns-in-Ok-clause-others
+returns-in-Ok-clause-others g c read is other =
+    let ends = returns-in-Ok-clause-command g c read is in
+    others_idle read _ (ends.0) _ _ other (ends.2)
+
+pub returns-in-Ok-clause-unread : goal.returns-in-Ok-clause-unread
+returns-in-Ok-clause-unread g c word fault = read_right _ word (c.in-Ok.ensures.refused word fault)

@@ -8,7 +8,7 @@ ghost use Rattle.ascend_words.specs.declared.table.Name.TheVariants.{Input as In
 ghost use Rattle.ascend_top.specs.Command.{StepsEnd, run_end};
 ghost use Rattle.ascend_top.specs.Flat.{flat_steps, input_steps, program_steps, report_steps};
 ghost use Rattle.ascend_top.specs.FlatRun.{flat_report, input_in, outcome_report};
-ghost use Rattle.ascend_top.specs.Parts.{CanRun, EndsAs, IsConfigOf, RunEnds, program_report};
+ghost use Rattle.ascend_top.specs.Parts.{CanRun, EndsAs, IsConfigOf, IsProgramOf, RunEnds, program_report};
 ghost use Rattle.ascend_top.specs.Steps.{AllDone, IsRefused};
 
 use crate::commands::file_of;
@@ -19,18 +19,13 @@ use asc_base::{Config, NoMemory};
 use asc_outside::Host;
 use ascend_words::{Name, Words};
 use elf_loader::Image;
-use rv32_core::{Core, Ended, Files, FlatBytes};
+use rv32_core::{Core, Ended, Files, FlatBytes, OUTPUT_LIMIT};
 use std::alloc::Global;
 
-/// The greatest length of the output, in bytes.
-const OUTPUT_LIMIT: usize = 1_048_576;
-
-/// What a run is of: a program in its memory, its input, and how many instructions may finish.
+/// What a run is of: its configuration, a program in its memory, and its input.
 #[derive(Debug, Drop)]
 pub(crate) struct Program {
-    pub base: u32,
-    pub size: u32,
-    pub budget: u64,
+    pub config: Config,
     pub image: Image,
     pub input: Vec<u8>,
 }
@@ -68,8 +63,9 @@ pub(crate) fn read_program<H: Host>(
 ) -> Result<Program, Refusal>
     requires { IsConfigOf (settings_of words.now.given) config.now }
     ensures can { IfOk result CanRun }
-    ensures report { IfOk result (λ program. (files : HostFiles) → (H.state host.new).files ≡ Some files
-        → program_report program ≡ flat_report words.now.given files) }
+    ensures config { IfOk result (λ program. program.config ≡ config.now) }
+    ensures told { IfOk result (λ program. (files : HostFiles) → (H.state host.new).files ≡ Some files
+        → IsProgramOf words.now.given files program) }
     ensures done { OnOk result (AllDone (program_steps (settings_of words.now.given) words.now.given)
         (H.state host.old) (H.state host.new)) }
     ensures refused { IfErr result (λ refusal. IsRefused (program_steps (settings_of words.now.given) words.now.given)
@@ -85,9 +81,7 @@ pub(crate) fn read_program<H: Host>(
         Err(refusal) => return Err(refusal),
     };
     Ok(Program {
-        base: config.base,
-        size: config.size,
-        budget: config.budget,
+        config: *config,
         image,
         input,
     })
@@ -98,15 +92,16 @@ fn run_flat(alloc: Global, program: &Program) -> Result<Outcome, NoMemory>
     requires { CanRun program.now }
     ensures { IfOk result (λ outcome. outcome_report outcome ≡ program_report program.now) }
 {
-    let mut bytes = FlatBytes::new(alloc, program.image.bytes.as_slice(), program.base)?;
+    let config = &program.config;
+    let mut bytes = FlatBytes::new(alloc, program.image.bytes.as_slice(), config.base)?;
     let mut files = Files::new(alloc, program.input.as_slice(), OUTPUT_LIMIT)?;
     let mut core = Core::new(
         program.image.entry,
-        program.base,
-        program.size,
+        config.base,
+        config.size,
         program.image.heap,
     );
-    let (instructions, ending) = step_on(&mut core, &mut bytes, &mut files, program.budget);
+    let (instructions, ending) = step_on(&mut core, &mut bytes, &mut files, config.budget);
     Ok(Outcome {
         instructions,
         ending,

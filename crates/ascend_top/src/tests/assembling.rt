@@ -60,25 +60,16 @@ fn texts_are_assembled_and_listed(rt: HostRuntime) -> Result<(), Fail> {
 fn an_assembled_file_is_listed(rt: HostRuntime) -> Result<(), Fail> {
     let alloc = rt.alloc();
     let mut host = host_with(alloc, &[], b"")?;
-    assert!(rt;
-        ascend(
-            alloc,
-            words(alloc, "asm text=t elf=b")?.as_slice(),
-            &mut host
-        ) == 0
-    );
+    compare(&rt, alloc, "asm text=t elf=b", &mut host, 0, "", None)?;
     let wanted = elf(alloc, &[0x8b7, 0x05d8_8893, 0x73, 0xffdf_f06f], "")?;
     assert!(rt; host.file("b") == Some(wanted.as_slice()));
-    assert!(rt; ascend(alloc, words(alloc, "disasm elf=b")?.as_slice(), &mut host) == 0);
-    assert!(rt; host.printed() == LINES.as_bytes());
+    compare(&rt, alloc, "disasm elf=b", &mut host, 0, LINES, None)?;
     let mut readable = wanted;
     if let Some(flags) = readable.get_mut(76) {
         *flags = 6;
     }
     host.add("c", readable.as_slice())?;
-    assert!(rt; ascend(alloc, words(alloc, "disasm elf=c")?.as_slice(), &mut host) == 0);
-    assert!(rt; host.printed() == LINES.as_bytes());
-    Ok(())
+    compare(&rt, alloc, "disasm elf=c", &mut host, 0, LINES, None)
 }
 
 #[test]

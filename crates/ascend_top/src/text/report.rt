@@ -7,7 +7,7 @@ use crate::status::Ending;
 use rv32_core::TrapKind;
 use std::alloc::{AllocError, Global};
 
-fn kind_name(kind: TrapKind) -> &'static str
+pub(super) fn kind_name(kind: TrapKind) -> &'static str
     ensures { result.now ≡ kind_text kind }
 {
     match kind {
