@@ -41,7 +41,7 @@ run() {
     printf '%b' "$3" >"$work/wanted"
     status=0
     (cd crates/ascend && rt run -- run "elf=$work/$1" "key=$work/key" "output=$work/output") >"$work/log" 2>&1 || status=$?
-    tail -n 2 "$work/log" >"$work/report"
+    tail -n 10 "$work/log" | head -n 2 >"$work/report"
     cmp "$work/report" "$work/wanted"
     printf '%b' "$4" | cmp - "$work/output"
     [ "$status" -eq "$2" ]

@@ -285,7 +285,7 @@ before_free files (step ∷ steps) refusal old new are right told (inr (mid, doe
     free_later refusal old.faults mid.faults new.faults new.faults does.later (omega arith)
     (before_free files steps refusal mid new are.1 right.1 (does_files step old mid are.0 does ∙ told) rest)
 
-still_told : (old new : Option Files) (files : Files) → is_some new ≡ is_some old → old ≡ Some files
+pub still_told : (old new : Option Files) (files : Files) → is_some new ≡ is_some old → old ≡ Some files
     → (after : Files) × (new ≡ Some after)
 still_told old None files e told = let t : is_some old ≡ true = ap (is_some {T = Files}) told in absurd
     (let no : ⊥ = cc in no)
@@ -638,25 +638,25 @@ module _ {A : Type 0} (make : A → Made) (after : A → List Step) (Meant : Fil
     (same : (made : A) → after made ≡ last_steps given (make made))
     (are : (told : Option Files) (made : A) → ((files : Files) → told ≡ Some files → Meant files made)
     → IsMade command given lent told (make made)) (lost : (told : Option Files) → IsLost command given lent told)
-    where
-  pub lift_ends : (end : Result A Refusal) (old new : HostState)
-      → StepsEnd (steps_of command given) after Meant end old new
-      → WorkEnds command given lent (lifted make end) old new
-  lift_ends (Ok made) old new (at, done, told, last) = (
-    at,
-    done,
-    are at.files made told,
-    subst (λ steps. AllDone steps at new) (same made) last,
-  )
-  lift_ends (Err refusal) old new (inl refused) = inl (idle, refused)
-  lift_ends (Err refusal) old new (inr (at, done, inl (e, stays))) = inr (at, done, inl (e, stays, lost at.files))
-  lift_ends (Err refusal) old new (inr (at, done, inr (made, told, refused))) =
-      inr (
-        at,
-        done,
+  where
+    pub lift_ends : (end : Result A Refusal) (old new : HostState)
+        → StepsEnd (steps_of command given) after Meant end old new
+        → WorkEnds command given lent (lifted make end) old new
+    lift_ends (Ok made) old new (at, done, told, last) = (
+      at,
+      done,
+      are at.files made told,
+      subst (λ steps. AllDone steps at new) (same made) last,
+    )
+    lift_ends (Err refusal) old new (inl refused) = inl (idle, refused)
+    lift_ends (Err refusal) old new (inr (at, done, inl (e, stays))) = inr (at, done, inl (e, stays, lost at.files))
+    lift_ends (Err refusal) old new (inr (at, done, inr (made, told, refused))) =
         inr (
-          make made,
-          are at.files made told,
-          subst (λ steps. IsRefused steps refusal at new) (same made) refused,
-        ),
-      )
+          at,
+          done,
+          inr (
+            make made,
+            are at.files made told,
+            subst (λ steps. IsRefused steps refusal at new) (same made) refused,
+          ),
+        )

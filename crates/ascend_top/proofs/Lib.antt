@@ -1,7 +1,9 @@
 pub mod AssembledLaws
 pub mod EndLaws
+pub mod FilesLaws
 pub mod FlatLaws
 pub mod ListingLaws
+pub mod ReportLaws
 pub mod RunLaws
 pub mod StepLaws
 pub mod TraceLaws

@@ -1,12 +1,11 @@
 -- What is reported of a program's run is the flat run of its files.
-use Rattle.std.proofs.Common.{◌≡◌, ◌⊎◌, ℕ, List, [], Option, Some, None, Result, Ok, Err, length, ap, subst, refl, ◌∙◌}
+use Rattle.std.proofs.Common.{◌≡◌, ℕ, List, [], ◌∷◌, Option, Some, None, Result, Ok, Err, length, ap, subst, ◌∙◌}
 use Rattle.std.proofs.Common.{inl, inr, sym}
 use Rattle.std.specs.Prelude.{IfOk}
 use Rattle.asc_base.specs.Settings.{IsConfig}
 use Rattle.asc_base.specs.declared.settings.Config.{Config}
 use Rattle.asc_base.specs.declared.settings.Settings.{Settings}
 use Rattle.asc_outside.specs.Host.{Files, HostState}
-use Rattle.bus_watch.specs.RunEnd.{RanOut}
 use Rattle.secure_machine.specs.Run.{IsTiedButLast, IsTiedOr, IsUnprepared}
 use Rattle.secure_machine.specs.declared.report.Report.{Report as RunReport}
 use Rattle.elf_loader.specs.Elf.{entry_of}
@@ -14,14 +13,16 @@ use Rattle.elf_loader.specs.Layout.{image_bytes, first_break}
 use Rattle.elf_loader.specs.declared.image.Image.{Image}
 use Rattle.rv32_core.specs.FlatRun.{FlatRun, FlatEnding}
 use Rattle.ascend_words.specs.Grammar.{Pair}
-use Rattle.ascend_words.specs.Settings.{settings_of}
-use Rattle.ascend_words.specs.declared.table.Name.TheVariants.{Elf, Key}
+use Rattle.ascend_words.specs.Settings.{settings_of, text_in}
+use Rattle.ascend_words.specs.declared.table.Name.TheVariants.{Elf, Key, Output, Trace}
 use Rattle.ascend_top.specs.FlatRun.{Report, bytes_in, ending_of, file_in, flat_of, flat_report, input_in}
 use Rattle.ascend_top.specs.FlatRun.{outcome_report, report_of, run_over}
 use Rattle.ascend_top.specs.EncryptedRun.{IsRunOf, IsWantOf, Lent}
 use Rattle.ascend_top.specs.Parts.{CanRun, EndsAs, IsConfigOf, IsImageOf, IsProgramOf, program_report}
-use Rattle.ascend_top.specs.Run.{IsBegin, traced}
-use Rattle.ascend_top.specs.Steps.{AllDone, IsRefused, Step, key_length}
+use Rattle.ascend_top.specs.Run.{IsBegin, run_report_steps, traced}
+use Rattle.ascend_top.specs.Steps.{AllDone, Does, IsRefused, Prints, Refuses, Step, Writes, key_length}
+use Rattle.ascend_top.specs.Texts.{run_text}
+use Rattle.ascend_top.specs.declared.commands.run.Encrypted.{Encrypted}
 use Rattle.ascend_top.specs.declared.commands.flat.Program.{Program}
 use Rattle.ascend_top.specs.declared.refusal.Refusal.{Refusal}
 use Rattle.ascend_top.specs.declared.commands.flat.Outcome.{Outcome}
@@ -67,7 +68,7 @@ pub program_reports : (given : List Pair) (told : Option Files) (config : Config
     → IsConfigOf (settings_of given) config → IfOk answer (λ program. program.config ≡ config)
     → IfOk answer (λ program. (files : Files) → told ≡ Some files → IsProgramOf given files program)
     → IfOk answer (λ program. (files : Files) → told ≡ Some files → program_report program ≡ flat_report given files)
-program_reports given told config (Ok program) is same of files e =
+program_reports given told config (Ok program) is same of = λ files e.
     report_is given files program.config.base program.config.size program.config.budget program.image
     program.input.items (ap (λ (c : Config). c.base) same ∙ is.base) (ap (λ (c : Config). c.size) same ∙ is.size)
     (ap (λ (c : Config). c.budget) same ∙ is.budget) (of files e).image (of files e).input
@@ -84,7 +85,7 @@ begins given told settings config key program e is same can long key_is of =
     let now : IsConfigOf (settings_of given) config = subst (λ s. IsConfigOf s config) e is in
     record {
       allowed = now.allowed;
-      config = same ∙ now.config;
+      config = same ∙ now.made;
       is_config = subst IsConfig (sym same) now.is_config;
       image = can.image;
       key_length = long;
@@ -127,3 +128,17 @@ pub traced_then : (o : Option (List ℕ)) (text : List ℕ) (steps : List Step) 
 traced_then None text steps refusal old mid new e refused = subst (λ state. IsRefused steps refusal state new) e refused
 traced_then (Some name) text steps refusal old mid new (after, does, e) refused =
     inr (after, does, subst (λ state. IsRefused steps refusal state new) e refused)
+
+-- the print of the report was refused, behind the write of the output and that of the trace
+pub print_refuses : (given : List Pair) (run : Encrypted) (refusal : Refusal) (old mid after new : HostState)
+    → Does (Writes (file_in given Output) run.report.output.items) old mid
+    → AllDone (traced (text_in given Trace) run.trace.items []) mid after
+    → Refuses (Prints (run_text run.report run.altered)) refusal after new
+    → IsRefused (run_report_steps given run) refusal old new
+print_refuses given run refusal old mid after new does done refuses =
+    inr (
+      mid,
+      does,
+      traced_then (text_in given Trace) run.trace.items (Prints (run_text run.report run.altered) ∷ []) refusal mid after
+          new done (inl refuses),
+    )

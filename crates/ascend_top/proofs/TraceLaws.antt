@@ -1,30 +1,32 @@
 -- The trace of a log that is scheduled by a configuration is in the ranges of traces, where its end and its leaves are.
-use Rattle.std.proofs.Common.{◌≡◌, ◌↔◌, ℕ, suc, ◌+◌, ◌*◌, ◌^◌, ◌<◌, ◌≤◌, Bool, true, false, cond, List, [], ◌∷◌, ◌++◌}
-use Rattle.std.proofs.Common.{length, take, map, refl, sym, ap, subst, ◌∙◌, arith}
-use Rattle.std.specs.Prelude.{nat_lt, zip, fold, max, All, IsTrue}
-use Rattle.std.specs.List.{AllByRecursion, filter, flat_map}
+use Rattle.std.proofs.Common.{◌≡◌, ℕ, zero, suc, ◌+◌, ◌*◌, ◌^◌, ◌<◌, ◌≤◌, Bool, true, false, cond, List, [], ◌∷◌, ◌++◌}
+use Rattle.std.proofs.Common.{get_or, length, take, map, refl, sym, ap, subst, ◌∙◌, arith}
+use Rattle.std.specs.Prelude.{◌&&◌, nat_lt, zip, fold, max, All, IsTrue}
+use Rattle.std.specs.List.{AllByRecursion, filter, list_all}
+use Rattle.std.specs.List.Sorted.{IsStrictlyIncreasing}
 use Rattle.std.proofs.lemmas.Bool.Decides.{nat_tests}
 use Rattle.std.proofs.lemmas.List.{take_all}
 use Rattle.std.proofs.lemmas.List.Elements.{filter_passes}
-use Rattle.asc_base.specs.Settings.{IsConfig, IsFromTo, AreRates, greatest_rate}
+use Rattle.asc_base.specs.Settings.{IsConfig, IsFromTo}
 use Rattle.asc_base.specs.TreeShape.{olat_of}
 use Rattle.asc_base.specs.declared.settings.Config.{Config}
+use Rattle.asc_base.proofs.RateLists.{power_count-le}
 use Rattle.asc_base.proofs.ShapeFacts.{shape_layered}
 use Rattle.bus_watch.specs.declared.log.Event.{Event}
+use Rattle.bus_watch.specs.declared.log.Event.TheVariants.{Access, Drawn, Tagged, Accepted, Chosen, Answered}
 use Rattle.bus_watch.specs.declared.log.Move.{Move}
 use Rattle.bus_watch.specs.Log.{LogLists}
 use Rattle.bus_watch.specs.Path.{slot_moves}
-use Rattle.bus_schedule.specs.Schedule.{moves_before_time}
 use Rattle.bus_schedule.specs.Scheduled.{IsScheduled, log_code}
 use Rattle.bus_schedule.specs.Shown.{leaf_of, leaves_of, starts_of}
-use Rattle.bus_schedule.specs.Timetable.{Public, public_of, count_of, starts, slots_within, timetable}
-use Rattle.bus_schedule.proofs.PublicParts.{count-is, count-power, first-among}
+use Rattle.bus_schedule.specs.Timetable.{Public, public_of, count_of, starts as starts_up_to, slots_within, timetable}
+use Rattle.bus_schedule.proofs.PublicParts.{count-power, first-among}
 use Rattle.bus_schedule.proofs.SlotMoves.{length-slot, slot-begun}
 use Rattle.bus_trace.specs.Grammar.{IsHeader, IsSeen, IsTrace}
 use Rattle.bus_trace.specs.OfLog.{seen_of, seen_in, trace_of}
-use Rattle.bus_trace.specs.declared.trace.Seen.{Seen}
-use Rattle.trace_checker.specs.Checker.{moves_by, shown, slot_by, Fits}
+use Rattle.trace_checker.specs.Checker.{moves_by, shown, slot_by}
 use Rattle.trace_checker.proofs.OfLog.{scheduled_fits}
+use Rattle.ascend_top.specs.Parts.{draws_below}
 
 -- the header of a configuration
 module _ (config : Config) (is : IsConfig config) where
@@ -35,11 +37,11 @@ module _ (config : Config) (is : IsConfig config) where
   header_is =
       let layered = shape_layered config.shape is.is_shape in
       record {
-        levels = (layered.levels_from, layered.levels_to);
+        levels = (layered.levels_from, omega (arith, layered.levels_to));
         rates = record {
           power = count-power config is;
-          rise = subst _ (sym same_rates) is.rates.rise;
-          bounds = subst _ (sym same_rates) is.rates.bounds;
+          rise = subst IsStrictlyIncreasing (sym same_rates) is.rates.rise;
+          bounds = subst (All (IsFromTo 64 1048576)) (sym same_rates) is.rates.bounds;
         };
         first = first-among config is;
         epoch = subst (λ l. IsFromTo (olat_of config.shape.levels + fold max 0 l) 268435456 config.epoch)
@@ -63,6 +65,15 @@ moves_few p end start before =
     let kept = few_kept (λ (m : Move). nat_lt m.time end) (slot_moves p.levels start 0) in
     (omega (arith, some), omega (arith, kept, length-slot p.levels start 0))
 
+-- the number of the first, and the others
+abbrev first_number : List (ℕ × ℕ) → ℕ
+first_number [] = 0
+first_number ((start, number) ∷ slots) = number
+
+abbrev behind : List (ℕ × ℕ) → List (ℕ × ℕ)
+behind [] = []
+behind (slot ∷ slots) = slots
+
 -- each slot is in the ranges, where it starts before an end that is, and has a leaf of the tree
 module _ (p : Public) (end : ℕ) (short : end ≤ 536870912) (moves : List Move) where
   seen_are : (starts leaves : List ℕ) → AllByRecursion (λ start. start < end) starts
@@ -72,11 +83,8 @@ module _ (p : Public) (end : ℕ) (short : end ≤ 536870912) (moves : List Move
   seen_are [] leaves early below e = tt
   seen_are (start ∷ starts) [] early below e = tt
   seen_are (start ∷ starts) (leaf ∷ leaves) early below e =
-      let one : seen_of p.levels moves (start, leaf) ≡ seen_of p.levels moves (start, leaf) = refl in
-      let seen = seen_of p.levels moves (start, leaf) in
-      let number : moves_by p end start ≡ seen.moves = cc in
-      let rest : map (slot_by p end) starts ≡ shown (map (seen_of p.levels moves) (zip starts leaves)) = cc in
-      (
+      let number : moves_by p end start ≡ (seen_of p.levels moves (start, leaf)).moves = ap first_number e in
+      let rest : map (slot_by p end) starts ≡ shown (map (seen_of p.levels moves) (zip starts leaves)) = ap behind e in (
         record {
           start = omega (arith, early.0, short);
           leaf = below.0;
@@ -91,7 +99,7 @@ to_each P (x ∷ xs) all = (all 0 x (omega arith), to_each P xs (λ k d inside. 
 
 of_each : {X : Type 0} (P : X → Type 0) (xs : List X) → AllByRecursion P xs → All P xs
 of_each P [] all k d inside = absurd (omega arith)
-of_each P (x ∷ xs) all 0 d inside = all.0
+of_each P (x ∷ xs) all zero d inside = all.0
 of_each P (x ∷ xs) all (suc k) d inside = of_each P xs all.1 k d (omega arith)
 
 weaker_each : {X : Type 0} (P Q : X → Type 0) (xs : List X) → ((x : X) → P x → Q x) → AllByRecursion P xs
@@ -106,7 +114,7 @@ early_starts : (p : Public) (code end : ℕ) → AllByRecursion (λ start. start
 unfolding timetable
 early_starts p code end =
     weaker_each (λ start. nat_lt start end ≡ true) (λ start. start < end) _ (λ start e. below_end start end e)
-    (to_each _ _ (filter_passes (λ start. nat_lt start end) (starts p code (slots_within p end))))
+    (to_each _ _ (filter_passes (λ start. nat_lt start end) (starts_up_to p code (slots_within p end))))
 
 pub ranges_are : (config : Config) (log : LogLists) (end : ℕ) → IsConfig config
     → IsScheduled (public_of config) end log → end ≤ 536870912
@@ -143,7 +151,45 @@ leaves_each P [] all = tt
 leaves_each P (event ∷ events) all =
     each_append P (leaf_of event) (leaves_of events) (to_each P (leaf_of event) all.0) (leaves_each P events all.1)
 
-pub leaves_all : (P : ℕ → Type 0) (events : List Event) → All (λ event. All P (leaf_of event)) events
-    → All P (leaves_of events)
-leaves_all P events all =
-    of_each P (leaves_of events) (leaves_each P events (to_each (λ event. All P (leaf_of event)) events all))
+-- the leaves of events that all draw below a bound
+drawn_below : (levels : ℕ) (event : Event) → draws_below levels event ≡ true
+    → All (λ leaf. leaf < 2 ^ levels) (leaf_of event)
+drawn_below levels (Access start asked) is k d inside = absurd (omega arith)
+drawn_below levels (Drawn point leaf) is k d inside =
+    to_first k d inside (below_end leaf.0 (2 ^ levels) is)
+  where
+    to_first : (k d : ℕ) → k < 1 → leaf.0 < 2 ^ levels → get_or (leaf.0 ∷ []) k d < 2 ^ levels
+    to_first zero d few below = below
+    to_first (suc k) d few below = absurd (omega arith)
+drawn_below levels (Tagged message) is k d inside = absurd (omega arith)
+drawn_below levels (Accepted message tag) is k d inside = absurd (omega arith)
+drawn_below levels (Chosen index) is k d inside = absurd (omega arith)
+drawn_below levels (Answered line value) is k d inside = absurd (omega arith)
+
+both_true : (a b : Bool) → (a && b) ≡ true → (a ≡ true) × (b ≡ true)
+both_true true true e = (refl, refl)
+both_true true false e = absurd (let no : ⊥ = cc in no)
+both_true false b e = absurd (let no : ⊥ = cc in no)
+
+all_drawn : (levels : ℕ) (events : List Event) → list_all (draws_below levels) events ≡ true
+    → AllByRecursion (λ event. All (λ leaf. leaf < 2 ^ levels) (leaf_of event)) events
+all_drawn levels [] e = tt
+all_drawn levels (event ∷ events) e =
+    let both = both_true (draws_below levels event) (list_all (draws_below levels) events) e in
+    (drawn_below levels event both.0, all_drawn levels events both.1)
+
+is_true : (b : Bool) → IsTrue b → b ≡ true
+is_true true h = refl
+is_true false h = absurd (let no : ⊥ = cc in no)
+
+pub leaves_below : (levels : ℕ) (events : List Event) → IsTrue (list_all (draws_below levels) events)
+    → All (λ leaf. leaf < 2 ^ levels) (leaves_of events)
+leaves_below levels events e =
+    of_each (λ leaf. leaf < 2 ^ levels) (leaves_of events)
+    (leaves_each (λ leaf. leaf < 2 ^ levels) events (all_drawn levels events (is_true _ e)))
+
+pub levels_few : (config : Config) → IsConfig config → (1 ≤ config.shape.levels) × (config.shape.levels ≤ 20)
+levels_few config is = (header_is config is).levels
+
+pub rates_few : (config : Config) → IsConfig config → config.rates.count ≤ 16
+rates_few config is = (power_count-le config.rates.count is.rates.power).1

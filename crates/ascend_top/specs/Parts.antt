@@ -1,5 +1,5 @@
 -- What the parts of a command say.
-use Rattle.std.specs.Prelude.{◌≡◌, ◌⊎◌, ℕ, ◌≤◌, List, [], ◌∷◌, length, Some, IfSome, Result, Ok, Err}
+use Rattle.std.specs.Prelude.{◌≡◌, ◌⊎◌, ℕ, ◌^◌, ◌≤◌, nat_lt, Bool, true, List, [], ◌∷◌, length, Some, IfSome, Result, Ok, Err}
 use Rattle.asc_base.specs.Memory.{IsMemory}
 use Rattle.asc_base.specs.Settings.{AreAllowed, IsConfig, config_of}
 use Rattle.asc_base.specs.declared.settings.Config.{Config}
@@ -8,6 +8,8 @@ use Rattle.asc_outside.specs.Host.{HostState, Files, Reads as ReadsFile}
 use Rattle.asc_outside.specs.declared.host.HostFault.{HostFault}
 use Rattle.asc_outside.specs.declared.host.HostFault.TheVariants.{Failed, TooLong as TooLongFile}
 use Rattle.asc_outside.specs.declared.host.HostFault.TheVariants.{NoMemory as OutOfMemory}
+use Rattle.bus_watch.specs.declared.log.Event.{Event}
+use Rattle.bus_watch.specs.declared.log.Event.TheVariants.{Access, Drawn, Tagged, Accepted, Chosen, Answered}
 use Rattle.elf_loader.specs.Elf.{entry_of}
 use Rattle.elf_loader.specs.Layout.{image_bytes, first_break, marked_lines}
 use Rattle.elf_loader.specs.Memory.{IsImage}
@@ -39,7 +41,7 @@ unwritten OutOfMemory = NoMemory
 -- the settings are in their ranges, and give the configuration; so its numbers are theirs
 pub record IsConfigOf (settings : Settings) (config : Config) : Type 0 where
   pub allowed : AreAllowed settings
-  pub config : config ≡ config_of settings
+  pub made : config ≡ config_of settings
   pub is_config : IsConfig config
   pub memory : IsMemory config.base config.size
   pub base : config.base ≡ settings.base
@@ -72,6 +74,15 @@ pub record CanRun (program : Program) : Type 0 where
 pub record IsProgramOf (given : List Pair) (files : Files) (program : Program) : Type 0 where
   pub image : IsImageOf program.config.base program.config.size files (file_in given Elf) program.image
   pub input : program.input.items ≡ input_in files given
+
+-- an event draws no leaf, or one of a tree of so many levels
+abbrev pub draws_below : ℕ → Event → Bool
+draws_below levels (Access start asked) = true
+draws_below levels (Drawn point leaf) = nat_lt leaf.0 (2 ^ levels)
+draws_below levels (Tagged message) = true
+draws_below levels (Accepted message tag) = true
+draws_below levels (Chosen index) = true
+draws_below levels (Answered line value) = true
 
 -- the report of a program's flat run
 abbrev pub program_report : Program → Report

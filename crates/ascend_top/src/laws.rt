@@ -1,11 +1,20 @@
-//! A law of the crates below, taken together. The call does nothing.
+//! Laws of the crates below, taken together, and of what a run leaves. The calls do nothing.
 
-ghost use Rattle.std.specs.Prelude.{◌≡◌, ℕ, List};
+ghost use Rattle.std.specs.Prelude.{◌≡◌, ℕ, List, Some};
+ghost use Rattle.asc_outside.specs.Host.{Files, HostState};
 ghost use Rattle.elf_loader.specs.Elf.{entry_of};
 ghost use Rattle.elf_loader.specs.Faults.{IsFaultless};
 ghost use Rattle.elf_loader.specs.Layout.{image_bytes};
 ghost use Rattle.rv32_asm.specs.File.{file_of};
+ghost use Rattle.ascend_words.specs.Grammar.{Pair};
+ghost use Rattle.ascend_words.specs.Settings.{text_in};
+ghost use Rattle.ascend_words.specs.declared.table.Name.TheVariants.{Output, Trace};
 ghost use Rattle.ascend_top.specs.Assembled.{IsInside, memory_of};
+ghost use Rattle.ascend_top.specs.FlatRun.{file_in};
+ghost use Rattle.ascend_top.specs.Run.{run_report_steps};
+ghost use Rattle.ascend_top.specs.Steps.{AllDone, PrintsMore};
+ghost use Rattle.ascend_top.specs.Texts.{run_text};
+ghost use Rattle.ascend_top.specs.declared.commands.run.Encrypted.{Encrypted as EncryptedRun};
 
 /// `parse` accepts every file that `assemble` gives, where the program is inside the memory: the memory has the
 /// program's bytes at their place and zeros elsewhere, and the first instruction is the program's first.
@@ -16,4 +25,19 @@ pub fn assembled_files_are_accepted()
         → image_bytes base size (file_of at bytes) ≡ memory_of base size at bytes }
     ensures entry { (base size at : ℕ) (bytes : List ℕ) → IsInside base size at bytes
         → entry_of (file_of at bytes) ≡ at }
+{}
+
+/// Where a run over encrypted memory was reported, the output file is the report's output, unless the file of the trace has
+/// its name; the file of the trace has the trace's text; and the text that was printed is the report's.
+pub fn reported_runs_leave_their_files()
+    ensures output { (given : List Pair) (run : EncryptedRun) (old new : HostState) (files : Files)
+        → AllDone (run_report_steps given run) old new → new.files ≡ Some files
+        → (text_in given Trace ≡ Some (file_in given Output) → ⊥)
+        → files (file_in given Output) ≡ Some run.report.output.items }
+    ensures trace { (given : List Pair) (run : EncryptedRun) (old new : HostState) (files : Files) (name : List ℕ)
+        → AllDone (run_report_steps given run) old new → new.files ≡ Some files → text_in given Trace ≡ Some name
+        → files name ≡ Some run.trace.items }
+    ensures printed { (given : List Pair) (run : EncryptedRun) (old new : HostState)
+        → AllDone (run_report_steps given run) old new
+        → PrintsMore old.printed (run_text run.report run.altered) new.printed }
 {}

@@ -27,12 +27,14 @@ ghost use Rattle.ascend_top.specs.Status.{status_of, status_of_refusal};
 ghost use Rattle.ascend_top.specs.declared.refusal.Refusal.{Refusal as WhyRefused};
 ghost use Rattle.ascend_top.specs.declared.refusal.Refusal.TheVariants.{Usage};
 
-use crate::commands::{Product, asm, assembled, check, disasm, encrypted, flat, held, listed, ran, run};
+use crate::commands::{
+    Product, asm, assembled, check, disasm, encrypted, flat, held, listed, ran, run,
+};
 use crate::refusal::Refusal;
 use asc_outside::{Host, HostFault, UntrustedMemory};
 use ascend_words::{Command, WordFault, Words, read_words};
 use bus_watch::Recorder;
-pub use laws::assembled_files_are_accepted;
+pub use laws::{assembled_files_are_accepted, reported_runs_leave_their_files};
 pub use status::{HOST_FAILED, NO_MEMORY};
 use std::alloc::Global;
 

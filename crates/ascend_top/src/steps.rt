@@ -100,6 +100,7 @@ pub(crate) fn read_key<H: Host>(
     name: &str,
     host: &mut H,
 ) -> Result<[u8; KEY_LENGTH], Refusal>
+    ensures length { IfOk result (λ key. length key ≡ KEY_LENGTH) }
     ensures key { IfOk result (λ key. (files : Files) → (H.state host.new).files ≡ Some files
         → key ≡ bytes_in files name.now) }
     ensures read { OnOk result (Does (Reads KeyFile name.now AKey) (H.state host.old) (H.state host.new)) }

@@ -1,13 +1,15 @@
 //! The text of a run's trace.
 
-ghost use Rattle.std.specs.Prelude.{◌≡◌, ◌↔◌, ◌≤◌, ◌<◌, ◌^◌, All, IsTrue, IfOk};
+ghost use Rattle.std.specs.Prelude.{◌≡◌, ◌≤◌, ◌<◌, ◌^◌, All, IsTrue, IfOk};
 ghost use Rattle.asc_base.specs.Settings.{IsConfig};
 ghost use Rattle.bus_schedule.specs.Scheduled.{IsScheduled};
-ghost use Rattle.bus_schedule.specs.Shown.{leaf_of, leaves_of};
+ghost use Rattle.bus_schedule.specs.Shown.{leaves_of};
 ghost use Rattle.bus_schedule.specs.Timetable.{public_of};
 ghost use Rattle.bus_trace.specs.Grammar.{TraceText};
 ghost use Rattle.bus_trace.specs.OfLog.{trace_of};
 ghost use Rattle.bus_watch.specs.Recorder.{lists_of};
+ghost use Rattle.std.specs.List.{list_all};
+ghost use Rattle.ascend_top.specs.Parts.{draws_below};
 
 use asc_base::{Config, NoMemory};
 use bus_trace::{Header, print};
@@ -20,12 +22,20 @@ const LAST: u64 = 536_870_912;
 /// Whether an event draws no leaf, or one of a tree of so many levels.
 fn draws_within(event: &Event, levels: u32) -> bool
     requires { levels ≤ 20 }
-    ensures { IsTrue result ↔ All (λ leaf. leaf < 2 ^ levels) (leaf_of event.now) }
+    ensures { result ≡ draws_below levels event.now }
 {
     match event {
         Event::Drawn { leaf, .. } => leaf.0 < 1 << levels,
         _ => true,
     }
+}
+
+/// Whether events draw no leaves but those of a tree of so many levels.
+fn are_within(levels: u32, events: &[Event]) -> bool
+    requires { levels ≤ 20 }
+    ensures { result ≡ list_all (draws_below levels) events.now }
+{
+    events.iter().all(|event| draws_within(event, levels))
 }
 
 /// Whether the end and all leaves are in the ranges of a trace. Those of a run are.
@@ -34,7 +44,7 @@ fn is_within(levels: u32, log: &Log, end: u64) -> bool
     ensures end { IsTrue result → end ≤ 536_870_912 }
     ensures leaves { IsTrue result → All (λ leaf. leaf < 2 ^ levels) (leaves_of log.now.events.items) }
 {
-    end <= LAST && log.events.iter().all(|event| draws_within(event, levels))
+    end <= LAST && are_within(levels, log.events.as_slice())
 }
 
 /// The text of the trace of a log that keeps the pace of a configuration up to an end.

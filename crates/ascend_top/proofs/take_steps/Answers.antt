@@ -30,9 +30,9 @@ returns-in-Flat g c =
     let lent = lent_as (g.M.UntrustedMemory.state c.args.memory.now) (g.M.UntrustedMemory.state c.args.memory.now)
     c.args.tap.now c.args.tap.now in
     let idle : IsIdle lent = record { memory = refl; tap = refl } in
-    subst (λ command. WorkEnds command given lent (end_of c.ran-in-Flat.result) old new) (sym c.in-Flat.is
+    subst (λ command. WorkEnds command given lent (end_of c.ran.result) old new) (sym c.in-Flat.is
     ∙ c.command.ensures)
-    (subst (λ end. WorkEnds Flat given lent end old new) (sym c.ran-in-Flat.ensures)
+    (subst (λ end. WorkEnds Flat given lent end old new) (sym c.ran.ensures)
     (lift_ends Ran (report_steps given) (λ files made. made ≡ flat_report given files) Flat given lent idle
     (λ made. refl) (λ told made is. (idle, λ files e. ap Ran (is files e))) (λ told. idle) (run_end c.flat.result) old new c.flat.ensures))
 

@@ -289,15 +289,15 @@ fn each_call_fails_in_turn(rt: HostRuntime) -> Result<(), Fail> {
     )
 }
 
-/// The time of a move, counted from 1, of slots of twelve.
-fn time_of(number: u64) -> u64
+/// The end of a run whose move with this number, counted from 1, fails, of slots of twelve: the cycle after the move's.
+fn end_at(number: u64) -> u64
     requires some { 1 ≤ number }
     requires few { number ≤ 48 }
 {
     let start = 256 + 752 * ((number - 1) / 12);
     match (number - 1) % 12 {
-        read if read < 6 => start + 40 * read,
-        write => start + 256 + 40 * (write - 6),
+        read if read < 6 => start + 40 * read + 1,
+        write => start + 256 + 40 * (write - 6) + 1,
     }
 }
 
@@ -309,7 +309,7 @@ fn each_move_fails_in_turn(rt: HostRuntime) -> Result<(), Fail> {
         let mut host = host(alloc, &[], file.as_slice())?;
         let mut memory = FaultyMemory::new(alloc, vec![in alloc; number]?);
         let mut tap = Recorder::new(alloc);
-        let last = time_of(number) + 1;
+        let last = end_at(number);
         let real = (number - 1) / 12 + 1;
         let numbers = if real < 4 {
             [0, 1, last, 0, real, 0, 0, 0, 0]

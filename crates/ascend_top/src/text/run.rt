@@ -69,7 +69,9 @@ pub(crate) fn run_text(alloc: Global, run: &Encrypted) -> Result<String, AllocEr
     let choices = report.choices;
     let code = report.code;
     let altered = run.altered;
-    let first = format!(in alloc; "{ending}\ninstructions {instructions}\ncycles {cycles}\nlast {last}\n")?;
+    let first = format!(in alloc;
+        "{ending}\ninstructions {instructions}\ncycles {cycles}\nlast {last}\n"
+    )?;
     let second = format!(in alloc; "fetches {fetches}\nreal {real}\ndummies {dummies}\n")?;
     format!(in alloc; "{first}{second}choices {choices}\ncode {code}\naltered {altered}\n")
 }

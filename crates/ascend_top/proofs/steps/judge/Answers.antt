@@ -7,8 +7,8 @@ pub returns-in-Ok-clause-config : goal.returns-in-Ok-clause-config
 returns-in-Ok-clause-config c =
     let numbers = config_numbers c.args.settings.now in
     record {
-      allowed = c.in-Ok.ensures.allowed.0 tt;
-      config = c.in-Ok.ensures.config;
+      allowed = c.in-Ok.ensures.allowed.0 refl;
+      made = c.in-Ok.ensures.config;
       is_config = c.in-Ok.ensures.is_config;
       memory = c.in-Ok.ensures.is_config.memory;
       base = ap (λ (config : Config). config.base) c.in-Ok.ensures.config ∙ numbers.0;
