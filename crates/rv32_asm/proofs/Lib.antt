@@ -13,3 +13,4 @@ pub mod OperandLaws
 pub mod QuietLaws
 pub mod NamedLaws
 pub mod SaidLaws
+pub mod GeneratorLaws

@@ -6,6 +6,7 @@ use Rattle.rv32_asm.specs.Forms.{forms}
 use Rattle.rv32_asm.specs.Scanning.{numbered, named}
 use Rattle.rv32_asm.specs.Values.{multiples}
 use Rattle.rv32_asm.specs.Passes.{program_of}
+use Rattle.rv32_asm.specs.Generator.{data_words}
 use Rattle.rv32_asm.specs.declared.fault.AsmKind.TheVariants.{Range}
 use Rattle.rv32_asm.specs.declared.fault.AsmFault.TheVariants.{Bad}
 
@@ -23,3 +24,10 @@ back = refl
 
 empty : program_of 65536 [] ≡ Ok []
 empty = refl
+
+-- made from a seed of 0 and of 7
+first_word : data_words 0 1 ≡ 0x1405_7b7e ∷ []
+first_word = refl
+
+three_words : data_words 7 3 ≡ 0x7e43_28bc ∷ 0xf4a6_1a7f ∷ 0xe815_5a62 ∷ []
+three_words = refl

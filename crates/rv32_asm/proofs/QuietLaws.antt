@@ -75,7 +75,7 @@ module _ (text : List ℕ) (all : list_all is_quiet text ≡ true) where
       ∙ prefix_all (λ byte. not (byte == 10)) text [] (all_weaker is_quiet
       (λ byte. not (byte == 10)) no_feed text all) refl)
 
-  of_text : list_all is_text_byte text ≡ true
+  pub of_text : list_all is_text_byte text ≡ true
   of_text = all_weaker is_quiet is_text_byte quiet_text text all
 
   no_comments : without_comment text ≡ text
@@ -86,10 +86,14 @@ module _ (text : List ℕ) (all : list_all is_quiet text ≡ true) where
       ap (parts_at text) (outside 58 no_colon text all)
       ∙ if_false (nat_lt (length text) (length text)) (le-ltb (length text) (length text) (omega arith)) _ _
 
-  pub parts_are : after_blanks text ≡ text → parts_of (without_comment text) ≡ record { label = None; rest = text }
-  parts_are front =
+  pub parts_behind : (behind : List ℕ) → after_blanks text ≡ behind
+      → parts_of (without_comment text) ≡ record { label = None; rest = behind }
+  parts_behind behind front =
       ap parts_of no_comments ∙ no_label
       ∙ ap (λ t. let parts : Parts = record { label = None; rest = t } in parts) front
+
+  pub parts_are : after_blanks text ≡ text → parts_of (without_comment text) ≡ record { label = None; rest = text }
+  parts_are front = parts_behind text front
 
   -- the whole program
   pub program_alone : (at : ℕ) (statement : Statement) (bytes : List ℕ) → after_blanks text ≡ text

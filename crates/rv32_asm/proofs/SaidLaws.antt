@@ -22,7 +22,7 @@ use Rattle.rv32_asm.specs.Words.{branch_word, load_word, store_word, immediate_w
 use Rattle.rv32_asm.specs.Forms.{form_word}
 use Rattle.rv32_asm.specs.Operands.{Number, Statement, Plain, Numbered, Relative, Bytes4, statement_with}
 use Rattle.rv32_asm.specs.Values.{is_from_to, is_immediate, is_even, takes_number, with_number, numbered}
-use Rattle.rv32_asm.specs.Passes.{◌>>>◌, instruction_bytes, size, bytes_of, statement_of, program_of}
+use Rattle.rv32_asm.specs.Passes.{◌>>>◌, Labels, instruction_bytes, size, bytes_of, statement_of, program_of}
 use Rattle.rv32_asm.specs.Disassembly.{number_text, upper_text, access_text, number_operand_text, registers_text, instruction_text}
 use Rattle.rv32_asm.proofs.TestLaws.{and_both, all_weaker, all_both, if_true}
 use Rattle.rv32_asm.proofs.DecimalLaws.{is_digit, decimal_is}
@@ -85,7 +85,7 @@ numbered_bytes start i number word place takes same is aligned =
     ∙ instr_bytes i word place is aligned
 
 -- quiet operands
-digits_quiet : (n : ℕ) → n < 2 ^ 64 → list_all is_quiet (decimal n) ≡ true
+pub digits_quiet : (n : ℕ) → n < 2 ^ 64 → list_all is_quiet (decimal n) ≡ true
 digits_quiet n small = all_weaker is_digit is_quiet (digit_passes is_quiet refl) (decimal n) (decimal_is n small).all
 
 register_quiet : (register : ℕ) → register < 32 → list_all is_quiet (register_text register) ≡ true
@@ -185,11 +185,15 @@ registers_is : (name : List ℕ) (rd rs1 rs2 : ℕ)
     → name ++ comma_text rd (comma_text rs1 (32 ∷ register_text rs2)) ≡ registers_text name rd rs1 rs2
 registers_is name rd rs1 rs2 = simp append_assoc
 
--- a number alone
-pub number_said : (word : ℕ) → word < 2 ^ 32 → IsSaid word (number_text word)
-number_said word small =
-    said form.Word (32 ∷ decimal word) (Bytes4 (Number (pos word))) word refl (digits_quiet word (omega arith))
-    (ap (option_map Bytes4) (lone_target (pos word) (omega arith))) (λ place. refl) value
+-- a number alone, and its bytes whatever labels there are
+pub number_bytes : (word place : ℕ) (labels : Labels) → word < 2 ^ 32 → place % 4 ≡ 0
+    → bytes_of (Bytes4 (Number (pos word))) place labels ≡ Ok (to_le_bytes w32 word)
+number_bytes word place labels small aligned =
+    ap (λ w. w >>> λ word. Ok (to_le_bytes w32 word))
+    (if_true ((place % 4 == 0) && is_from_to (neg_ℤ (pos 2_147_483_648)) (pos 4_294_967_295) (pos word))
+    (and_both (place % 4 == 0) _ (eq-eqb (place % 4) 0 aligned) (le-leb word 4_294_967_295 (omega arith)))
+    (Ok (low_word (pos word))) (Err kind.Range))
+    ∙ ap (λ w. Ok (to_le_bytes w32 w)) low
   where
     whole : word % 2 ^ 32 ≡ word
     whole = omega arith
@@ -197,13 +201,19 @@ number_said word small =
     low : low_word (pos word) ≡ word
     low = whole
 
-    value : (place : ℕ) → place % 4 ≡ 0 → bytes_of (Bytes4 (Number (pos word))) place [] ≡ Ok (to_le_bytes w32 word)
-    value place aligned =
-        ap (λ w. w >>> λ word. Ok (to_le_bytes w32 word))
-        (if_true ((place % 4 == 0) && is_from_to (neg_ℤ (pos 2_147_483_648)) (pos 4_294_967_295) (pos word))
-        (and_both (place % 4 == 0) _ (eq-eqb (place % 4) 0 aligned) (le-leb word 4_294_967_295 (omega arith)))
-        (Ok (low_word (pos word))) (Err kind.Range))
-        ∙ ap (λ w. Ok (to_le_bytes w32 w)) low
+number_with : (word : ℕ) → word < 2 ^ 32
+    → statement_with form.Word (32 ∷ decimal word) ≡ Some (Bytes4 (Number (pos word)))
+number_with word small = ap (option_map Bytes4) (lone_target (pos word) (omega arith))
+
+pub number_statement : (word : ℕ) → word < 2 ^ 32
+    → statement_of (number_text word) ≡ Ok (Some (Bytes4 (Number (pos word))))
+number_statement word small =
+    statement_named form.Word (32 ∷ decimal word) (Bytes4 (Number (pos word))) refl (number_with word small)
+
+pub number_said : (word : ℕ) → word < 2 ^ 32 → IsSaid word (number_text word)
+number_said word small =
+    said form.Word (32 ∷ decimal word) (Bytes4 (Number (pos word))) word refl (digits_quiet word (omega arith))
+    (number_with word small) (λ place. refl) (λ place aligned. number_bytes word place [] small aligned)
 
 -- a text that is chosen by a test
 either : (P : List ℕ → Type 0) (test : Bool) (x y : List ℕ) → (test ≡ true → P x) → P y → P (if test then x else y)

@@ -11,3 +11,4 @@ pub mod Passes
 pub mod PassViews
 pub mod File
 pub mod Disassembly
+pub mod Generator

@@ -1,6 +1,7 @@
 //! Statements, and the words that LLVM's assembler gives for them (`tools/statement_rows.py`).
 
 mod assembling;
+mod generating;
 
 use super::*;
 use std::alloc::Global;

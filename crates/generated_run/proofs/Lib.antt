@@ -1,0 +1,12 @@
+pub mod LeadLaws
+pub mod Cells
+pub mod Steps
+pub mod Coded
+pub mod Turn
+pub mod Finish
+pub mod Loop
+pub mod Whole
+pub mod Image
+pub mod Accepted
+pub mod Programs
+pub mod Worked

@@ -1,0 +1,4 @@
+pub mod Hash
+pub mod Leads
+pub mod States
+pub mod Written
