@@ -99,9 +99,9 @@ pub returns-in-Err-NoMemory-clause-refused : goal.returns-in-Err-NoMemory-clause
 returns-in-Err-NoMemory-clause-refused g c read files refusal is told of first safe = inl refl
 
 pub returns-in-Ok-clause-others : goal.returns-in-Ok-clause-others
-returns-in-Ok-clause-others g c read is other =
+returns-in-Ok-clause-others g c read is not_run not_gen =
     let ends = returns-in-Ok-clause-command g c read is in
-    others_idle read _ (ends.0) _ _ other (ends.2)
+    others_idle read _ (ends.0) _ _ (not_run, not_gen) (ends.2)
 
 pub returns-in-Ok-clause-unread : goal.returns-in-Ok-clause-unread
 returns-in-Ok-clause-unread g c word fault = read_right _ word (c.in-Ok.ensures.refused word fault)
