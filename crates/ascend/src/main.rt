@@ -29,13 +29,7 @@ fn run<R: Files + Print + Env + AllocGlobal>(rt: &R) -> u8 {
     let mut host = StdHost::new(rt);
     let mut memory = HonestMemory::new(alloc);
     let mut tap = Recorder::new(alloc);
-    ascend_top::ascend(
-        alloc,
-        words.as_slice(),
-        &mut host,
-        &mut memory,
-        &mut tap,
-    )
+    ascend_top::ascend(alloc, words.as_slice(), &mut host, &mut memory, &mut tap)
 }
 
 fn main(rt: HostRuntime) -> ExitCode {

@@ -121,7 +121,8 @@ named_done (Some name) text steps old mid new (after, does, e) done =
     (after, does, subst (λ state. AllDone steps state new) e done)
 
 pub named_refused : (o : Option (List ℕ)) (text : List ℕ) (steps : List Step) (refusal : Refusal)
-    (old new : HostState) → IsRefused (where_named o text []) refusal old new → IsRefused (where_named o text steps) refusal old new
+    (old new : HostState) → IsRefused (where_named o text []) refusal old new
+    → IsRefused (where_named o text steps) refusal old new
 named_refused None text steps refusal old new refused = absurd refused
 named_refused (Some name) text steps refusal old new (inl refuses) = inl refuses
 named_refused (Some name) text steps refusal old new (inr (mid, does, none)) = absurd none
@@ -140,12 +141,9 @@ pub print_refuses : (given : List Pair) (run : Encrypted) (refusal : Refusal) (o
     → Refuses (Prints (run_text run.report run.altered)) refusal after new
     → IsRefused (run_report_steps given run) refusal old new
 print_refuses given run refusal old mid after new does done refuses =
-    inr (
-      mid,
-      does,
-      named_then (text_in given Trace) run.trace.items (Prints (run_text run.report run.altered) ∷ []) refusal mid after
-          new done (inl refuses),
-    )
+    let print : List Step = Prints (run_text run.report run.altered) ∷ [] in
+    let rest = named_then (text_in given Trace) run.trace.items print refusal mid after new done (inl refuses) in
+    inr (mid, does, rest)
 
 -- Where the steps of `run` or `gen` before its run were done, and it began so, its run and the steps after it end its
 -- work.

@@ -24,6 +24,7 @@ use Rattle.bus_schedule.proofs.PublicParts.{count-power, first-among}
 use Rattle.bus_schedule.proofs.SlotMoves.{length-slot, slot-begun}
 use Rattle.bus_trace.specs.Grammar.{IsHeader, IsSeen, IsTrace}
 use Rattle.bus_trace.specs.OfLog.{seen_of, seen_in, trace_of}
+use Rattle.bus_trace.specs.declared.trace.Seen.{Seen}
 use Rattle.trace_checker.specs.Checker.{moves_by, shown, slot_by}
 use Rattle.trace_checker.proofs.OfLog.{scheduled_fits}
 use Rattle.ascend_top.specs.Parts.{draws_below}
@@ -84,7 +85,8 @@ module _ (p : Public) (end : ℕ) (short : end ≤ 536870912) (moves : List Move
   seen_are (start ∷ starts) [] early below e = tt
   seen_are (start ∷ starts) (leaf ∷ leaves) early below e =
       let number : moves_by p end start ≡ (seen_of p.levels moves (start, leaf)).moves = ap first_number e in
-      let rest : map (slot_by p end) starts ≡ shown (map (seen_of p.levels moves) (zip starts leaves)) = ap behind e in (
+      let seen : List Seen = map (seen_of p.levels moves) (zip starts leaves) in
+      let rest : map (slot_by p end) starts ≡ shown seen = ap behind e in (
         record {
           start = omega (arith, early.0, short);
           leaf = below.0;

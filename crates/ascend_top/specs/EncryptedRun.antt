@@ -31,8 +31,9 @@ pub record IsIdle (lent : Lent) : Type 0 where
   pub tap : lent.tap' ≡ lent.tap
 
 -- A run of a program over its input, with the keys of a master key, leaves this of memory and tap, and is reported so.
--- Its log keeps the pace up to the reported end, and its choices tell no more bits than the settings allow; it starts as
--- many slots as are reported; it is tied to what the memory was asked; a failure has its cause; and the ending is right.
+-- Its log keeps the pace up to the reported end, and its choices tell no more bits than the settings allow. It starts
+-- as many slots as are reported, and is tied to what the memory was asked. A failure has its cause, and the ending is
+-- right.
 pub record IsRunOf (config : Config) (image : Image) (input key : List ℕ) (lent : Lent) (report : Report)
     : Type 0 where
   pub pace : KeepsPace config report.last lent.tap'.log

@@ -1,6 +1,6 @@
 -- What the parts of a command say.
-use Rattle.std.specs.Prelude.{◌≡◌, ◌⊎◌, ℕ, ◌^◌, ◌≤◌, nat_lt, Bool, true, List, [], ◌∷◌, length, Some, IfSome}
-use Rattle.std.specs.Prelude.{Result, Ok, Err}
+use Rattle.std.specs.Prelude.{◌≡◌, ◌⊎◌, ℕ, ◌^◌, ◌≤◌, nat_lt, Bool, true}
+use Rattle.std.specs.Prelude.{List, [], ◌∷◌, length, Some, IfSome, Result, Ok, Err}
 use Rattle.asc_base.specs.Memory.{IsMemory}
 use Rattle.asc_base.specs.Settings.{AreAllowed, IsConfig, config_of}
 use Rattle.asc_base.specs.declared.settings.Config.{Config}

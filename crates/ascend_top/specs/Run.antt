@@ -57,8 +57,8 @@ pub record IsBegin (command : Command) (given : List Pair) (told : Option Files)
   pub key : (files : Files) → told ≡ Some files → begin.key ≡ bytes_in files (file_in given Key)
   pub program : IsProgramBy command given told begin.program
 
--- A run that began so comes to this: it ran; it counts the altered replies; and where a file is named for its trace, the
--- text is that of the log's trace up to the reported end.
+-- A run that began so comes to this: it ran; it counts the altered replies; and where a file is named for its trace,
+-- the text is that of the log's trace up to the reported end.
 pub record IsOutcome (given : List Pair) (begin : Begin) (lent : Lent) (run : Encrypted) : Type 0 where
   pub runs : IsRunOf begin.program.config begin.program.image begin.program.input.items begin.key lent run.report
   pub altered : run.altered ≡ length lent.tap'.log.altered

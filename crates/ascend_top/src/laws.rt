@@ -27,8 +27,8 @@ pub fn assembled_files_are_accepted()
         → entry_of (file_of at bytes) ≡ at }
 {}
 
-/// Where a run over encrypted memory was reported, the output file is the report's output, unless the file of the trace has
-/// its name; the file of the trace has the trace's text; and the text that was printed is the report's.
+/// Where a run over encrypted memory was reported, the output file is the report's output, unless the file of the trace
+/// has its name; the file of the trace has the trace's text; and the text that was printed is the report's.
 pub fn reported_runs_leave_their_files()
     ensures output { (given : List Pair) (run : EncryptedRun) (old new : HostState) (files : Files)
         → AllDone (run_report_steps given run) old new → new.files ≡ Some files

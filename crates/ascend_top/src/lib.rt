@@ -43,20 +43,22 @@ use std::alloc::Global;
 ///
 /// | Status | Comes where |
 /// |---|---|
-/// | 0, 1, 9 | the run ended by exit, by a trap, with its budget; its output was written and its report printed |
+/// | 0, 1, 9 | a run ended by exit, by a trap, with its budget |
+/// | 6, 7 | a run ended with evidence that the memory was altered, with more in the stash than the settings allow |
+/// | 8, 10 | a run ended with its time, as the memory failed |
 /// | 0 | the text was assembled and its file written; the program's statements were printed; the trace holds |
 /// | 2 | the words break a rule, or a required one is missing |
 /// | 3 | the ELF file, or that of a made program, has a fault, the first of which is printed |
 /// | 4 | a setting or number is out of range, the key file is shorter than a key, the text has a fault or is no trace's |
 /// | 5 | a call of the host failed |
-/// | 6, 7, 8, 10 | the run ended with evidence that the memory was altered, with too many entries in the stash, with its time, or as the memory failed; its files were written and its report printed |
 /// | 11 | there is no memory |
 /// | 12 | no choices of rates make the slots of the trace |
 /// | 13 | a file is too long, in bytes: trace 67,108,864, ELF 16,777,216, text 4,194,304, input 1,048,576, key 32 |
 ///
-/// The text of a refusal is printed, but for statuses 5 and 11. With these two, as with those of a run, the output file
-/// is the run's whole output wherever its write was asked and isn't the call that failed: so where only the print of the
-/// report failed.
+/// With the statuses of a run its output was written, and its trace where a file is named for it, and its report was
+/// printed. The text of a refusal is printed, but for statuses 5 and 11. With these two the output file is the run's
+/// whole output wherever its write was asked and isn't the call that failed: so where only the print of the report
+/// failed.
 pub fn ascend<H: Host, M: UntrustedMemory>(
     alloc: Global,
     words: &[String],

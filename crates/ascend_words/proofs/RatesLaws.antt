@@ -1,5 +1,6 @@
 -- How the rates of a text are read, part by part.
-use Rattle.std.proofs.Common.{◌≡◌, ◌≢◌, suc, ℕ, ◌+◌, ◌<◌, ◌≤◌, Bool, true, false, cond, eqb, List, [], ◌∷◌, ◌++◌, length}
+use Rattle.std.proofs.Common.{◌≡◌, ◌≢◌, suc, ℕ, ◌+◌, ◌<◌, ◌≤◌, Bool}
+use Rattle.std.proofs.Common.{true, false, cond, eqb, List, [], ◌∷◌, ◌++◌, length}
 use Rattle.std.proofs.Common.{get_or, Option, Some, None, refl, sym, ap, ◌∙◌, append_assoc, length-append, arith}
 use Rattle.std.specs.Prelude.{◌-◌, nat_le, option_map, option_and_then, replicate, slice_set}
 use Rattle.std.proofs.lemmas.Bool.Decides.{nat_tests}
@@ -179,6 +180,3 @@ with_rate_is rates rate numbers few e =
     ap (λ l. made l (rates.count + 1)) (with_more rates.list rates.count rate numbers few list count)
     ∙ ap (λ n. made ((numbers ++ rate ∷ []) ++ replicate (16 - length (numbers ++ rate ∷ [])) 0) n)
     (ap (λ k. k + 1) count ∙ sym (length-append numbers (rate ∷ [])))
-
-pub found_few : (text : List ℕ) (found : WideRates) (rest : List ℕ) (i : ℕ) → Reading text found rest i → found.count ≡ i
-found_few text found rest i reading = ap (λ (r : WideRates). r.count) reading.holds ∙ reading.counted

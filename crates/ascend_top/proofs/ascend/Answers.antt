@@ -80,7 +80,8 @@ returns-in-Err-NoMemory-clause-usage g c word fault = (
 pub returns-in-Err-NoMemory-clause-command : goal.returns-in-Err-NoMemory-clause-command
 returns-in-Err-NoMemory-clause-command g c read is =
     let state = g.H.Host.state c.args.host.now in
-    (Err NoMemory, refl, (NoMemory, state, inl (record { memory = refl; tap = refl }, lost_at_start read.command read.given state), tells_nothing state))
+    let lost = lost_at_start read.command read.given state in
+    (Err NoMemory, refl, (NoMemory, state, inl (record { memory = refl; tap = refl }, lost), tells_nothing state))
 
 pub returns-in-Err-NoMemory-clause-complete : goal.returns-in-Err-NoMemory-clause-complete
 returns-in-Err-NoMemory-clause-complete g c read files is told right safe = inl refl

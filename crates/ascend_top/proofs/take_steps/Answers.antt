@@ -46,7 +46,8 @@ returns-in-Flat g c =
     (subst (λ end. WorkEnds Flat given lent end old new) (sym c.ran.ensures)
     (lift_ends Ran (report_steps given) (λ files made. made ≡ flat_report given files) Flat given lent idle
     (λ e. absurd (let no : ⊥ = cc in no))
-    (λ made. refl) (λ told made is. (idle, λ files e. ap Ran (is files e))) (λ told. idle) (run_end c.flat.result) old new c.flat.ensures))
+    (λ made. refl) (λ told made is. (idle, λ files e. ap Ran (is files e))) (λ told. idle)
+    (run_end c.flat.result) old new c.flat.ensures))
 
 pub returns-in-Asm : goal.returns-in-Asm
 returns-in-Asm g c =
@@ -56,11 +57,13 @@ returns-in-Asm g c =
     let lent = lent_as (g.M.UntrustedMemory.state c.args.memory.now) (g.M.UntrustedMemory.state c.args.memory.now)
     c.args.tap.now c.args.tap.now in
     let idle : IsIdle lent = record { memory = refl; tap = refl } in
-    subst (λ command. WorkEnds command given lent (end_of c.assembled.result) old new) (sym c.in-Asm.is ∙ c.command.ensures)
+    subst (λ command. WorkEnds command given lent (end_of c.assembled.result) old new) (sym c.in-Asm.is
+    ∙ c.command.ensures)
     (subst (λ end. WorkEnds Asm given lent end old new) (sym c.assembled.ensures)
     (lift_ends Assembled (write_steps given) (λ files made. made ≡ asm_file given files) Asm given lent idle
     (λ e. absurd (let no : ⊥ = cc in no))
-    (λ made. refl) (λ told made is. (idle, λ files e. ap Assembled (is files e))) (λ told. idle) (bytes_end (λ file. file.items) c.asm.result) old new c.asm.ensures))
+    (λ made. refl) (λ told made is. (idle, λ files e. ap Assembled (is files e))) (λ told. idle)
+    (bytes_end (λ file. file.items) c.asm.result) old new c.asm.ensures))
 
 pub returns-in-Disasm : goal.returns-in-Disasm
 returns-in-Disasm g c =
@@ -70,11 +73,13 @@ returns-in-Disasm g c =
     let lent = lent_as (g.M.UntrustedMemory.state c.args.memory.now) (g.M.UntrustedMemory.state c.args.memory.now)
     c.args.tap.now c.args.tap.now in
     let idle : IsIdle lent = record { memory = refl; tap = refl } in
-    subst (λ command. WorkEnds command given lent (end_of c.listed.result) old new) (sym c.in-Disasm.is ∙ c.command.ensures)
+    subst (λ command. WorkEnds command given lent (end_of c.listed.result) old new) (sym c.in-Disasm.is
+    ∙ c.command.ensures)
     (subst (λ end. WorkEnds Disasm given lent end old new) (sym c.listed.ensures)
     (lift_ends Listed print_steps (λ files made. made ≡ disasm_listing given files) Disasm given lent idle
     (λ e. absurd (let no : ⊥ = cc in no))
-    (λ made. refl) (λ told made is. (idle, λ files e. ap Listed (is files e))) (λ told. idle) (bytes_end (λ text. text.items) c.disasm.result) old new c.disasm.ensures))
+    (λ made. refl) (λ told made is. (idle, λ files e. ap Listed (is files e))) (λ told. idle)
+    (bytes_end (λ text. text.items) c.disasm.result) old new c.disasm.ensures))
 
 pub returns-in-Check : goal.returns-in-Check
 returns-in-Check g c =
@@ -84,7 +89,8 @@ returns-in-Check g c =
     let lent = lent_as (g.M.UntrustedMemory.state c.args.memory.now) (g.M.UntrustedMemory.state c.args.memory.now)
     c.args.tap.now c.args.tap.now in
     let idle : IsIdle lent = record { memory = refl; tap = refl } in
-    subst (λ command. WorkEnds command given lent (end_of c.held.result) old new) (sym c.in-Check.is ∙ c.command.ensures)
+    subst (λ command. WorkEnds command given lent (end_of c.held.result) old new) (sym c.in-Check.is
+    ∙ c.command.ensures)
     (subst (λ end. WorkEnds Check given lent end old new) (sym c.held.ensures)
     (lift_ends (λ held. Held held.code held.bits) (λ held. held_steps held.code held.bits)
     (λ files held. AreHeld given files held.code held.bits) Check given lent idle

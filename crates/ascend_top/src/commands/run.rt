@@ -80,7 +80,8 @@ fn run_over<M: UntrustedMemory>(
     ensures ran { IfOk result (IsRunOf begin.now.program.config begin.now.program.image begin.now.program.input.items
         begin.now.key (lent_as (M.state memory.old) (M.state memory.new) tap.old tap.new)) }
     ensures wanting { OnErr result (IsWantOf begin.now.program.config begin.now.program.image
-        begin.now.program.input.items begin.now.key (lent_as (M.state memory.old) (M.state memory.new) tap.old tap.new)) }
+        begin.now.program.input.items begin.now.key
+        (lent_as (M.state memory.old) (M.state memory.new) tap.old tap.new)) }
 {
     let program = &begin.program;
     let levels = program.config.shape.levels;
@@ -115,9 +116,11 @@ fn run_traced<M: UntrustedMemory>(
     requires no_events { tap.old.log.events ≡ [] }
     requires no_moves { tap.old.log.moves ≡ [] }
     requires no_altered { tap.old.log.altered ≡ [] }
-    ensures ran { IfOk result (IsOutcome words.now.given begin.now (lent_as (M.state memory.old) (M.state memory.new) tap.old tap.new)) }
+    ensures ran { IfOk result (IsOutcome words.now.given begin.now
+        (lent_as (M.state memory.old) (M.state memory.new) tap.old tap.new)) }
     ensures wanting { OnErr result (IsWantOf begin.now.program.config begin.now.program.image
-        begin.now.program.input.items begin.now.key (lent_as (M.state memory.old) (M.state memory.new) tap.old tap.new)) }
+        begin.now.program.input.items begin.now.key
+        (lent_as (M.state memory.old) (M.state memory.new) tap.old tap.new)) }
 {
     let report = match run_over(alloc, begin, memory, tap) {
         Ok(report) => report,

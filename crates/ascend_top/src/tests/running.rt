@@ -158,8 +158,8 @@ fn small_runs_end(rt: HostRuntime) -> Result<(), Fail> {
     Ok(())
 }
 
-/// Programs at 65,536 with the default settings and the text that is behind them, the words, the status, the ending, the
-/// report's numbers and the output.
+/// Programs at 65,536 with the default settings and the text that is behind them, the words, the status, the ending,
+/// the report's numbers and the output.
 const DEFAULT_ROWS: [(&[u32], &str, &str, u8, &str, [u64; 9], &str); 3] = [
     (
         &EXIT,
