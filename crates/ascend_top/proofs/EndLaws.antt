@@ -7,12 +7,13 @@ use Rattle.std.specs.List.{AllByRecursion}
 use Rattle.asc_base.specs.declared.settings.Settings.{Settings}
 use Rattle.asc_outside.specs.Host.{Files, HostState, IsLonger}
 use Rattle.asc_outside.specs.Rose.{Rose}
+use Rattle.elf_loader.specs.Faults.{IsFaultless}
 use Rattle.ascend_words.specs.Grammar.{Pair, Read}
 use Rattle.ascend_words.specs.Settings.{text_in, settings_of}
 use Rattle.ascend_words.specs.declared.table.Command.{Command}
-use Rattle.ascend_words.specs.declared.table.Command.TheVariants.{Run, Flat, Asm, Disasm, Check}
+use Rattle.ascend_words.specs.declared.table.Command.TheVariants.{Run, Flat, Asm, Disasm, Check, Gen}
 use Rattle.ascend_words.specs.declared.table.Name.{Name}
-use Rattle.ascend_words.specs.declared.table.Name.TheVariants.{Input, At, Trace as TraceName}
+use Rattle.ascend_words.specs.declared.table.Name.TheVariants.{Input, At, Save, Trace as TraceName}
 use Rattle.bus_trace.specs.Trace.{TraceLists}
 use Rattle.bus_trace.proofs.OneTrace.{no_fault, one_trace}
 use Rattle.trace_checker.specs.Checker.{Says}
@@ -25,7 +26,7 @@ use Rattle.rv32_asm.specs.File.{assembled}
 use Rattle.ascend_top.specs.Command.{AreRight, CommandEnds, Completes, IsFirstRefusal, IsLost, IsMade, IsOfFiles}
 use Rattle.ascend_top.specs.Command.{StepsEnd}
 use Rattle.ascend_top.specs.EncryptedRun.{IsIdle, Lent}
-use Rattle.ascend_top.specs.Run.{traced}
+use Rattle.ascend_top.specs.Gen.{gen_file}
 use Rattle.ascend_top.specs.Command.{Tells, WorkEnds, last_steps, lifted, steps_of}
 use Rattle.ascend_top.specs.Flat.{input_steps, program_steps}
 use Rattle.ascend_top.specs.Asm.{place_in}
@@ -34,7 +35,7 @@ use Rattle.ascend_top.specs.Status.{status_of, status_of_refusal}
 use Rattle.ascend_top.specs.Steps.{AText, ATrace, IsChecked, IsInRange, IsNumberCause, JudgesNumber, Keeps}
 use Rattle.ascend_top.specs.Steps.{AKey, AllDone, AnElf, Breaks, Does, IsCause, IsDone, IsReadCause}
 use Rattle.ascend_top.specs.Steps.{IsRefused, IsRight, IsSettingCause, IsWriteCause, IsWrong, Judges, Prints, Reads}
-use Rattle.ascend_top.specs.Steps.{Refuses, Rule, Step, Writes, limit_of}
+use Rattle.ascend_top.specs.Steps.{IsLoadCause, Loads, Refuses, Rule, Step, Writes, limit_of, where_named}
 use Rattle.ascend_top.specs.Texts.{refusal_text, run_text}
 use Rattle.ascend_top.specs.declared.refusal.Refusal.{Refusal}
 use Rattle.ascend_top.specs.declared.refusal.Refusal.TheVariants.{Usage, OutOfRange, Elf, KeyLength, TooLong, Host}
@@ -86,6 +87,7 @@ lost_at_start Flat given state = inl (judge_lost (settings_of given) state)
 lost_at_start Asm given state = inl (number_lost At (place_in given) state)
 lost_at_start Disasm given state = inl (judge_lost (settings_of given) state)
 lost_at_start Check given state = inl (read_lost_at_start _ _ _ state)
+lost_at_start Gen given state = inl (judge_lost (settings_of given) state)
 
 pub tells_nothing : (state : HostState) → Tells NoMemory NoMemory state state
 tells_nothing state = record {
@@ -111,6 +113,7 @@ abbrev IsReading : Step → Type 0
 IsReading (Judges settings) = Unit {0}
 IsReading (JudgesNumber name number) = Unit {0}
 IsReading (Reads source name rule) = Unit {0}
+IsReading (Loads bytes base size) = Unit {0}
 IsReading (Writes name bytes) = ⊥
 IsReading (Prints text) = ⊥
 
@@ -118,6 +121,7 @@ does_files : (step : Step) (old new : HostState) → IsReading step → Does ste
 does_files (Judges settings) old new is does = does.files
 does_files (JudgesNumber name number) old new is does = does.files
 does_files (Reads source name rule) old new is does = does.files
+does_files (Loads bytes base size) old new is does = does.files
 does_files (Writes name bytes) old new is does = absurd is
 does_files (Prints text) old new is does = absurd is
 
@@ -136,12 +140,50 @@ input_reading : (o : Option (List ℕ)) → AllByRecursion IsReading (input_step
 input_reading None = tt
 input_reading (Some name) = (tt, tt)
 
-steps_reading : (command : Command) (given : List Pair) → AllByRecursion IsReading (steps_of command given)
-steps_reading Run given = (tt, (tt, (tt, input_reading (text_in given Input))))
-steps_reading Flat given = (tt, (tt, input_reading (text_in given Input)))
-steps_reading Asm given = (tt, (tt, tt))
-steps_reading Disasm given = (tt, (tt, tt))
-steps_reading Check given = (tt, tt)
+-- every command but `gen` leaves all files before its work
+pub steps_reading : (command : Command) (given : List Pair) → (command ≡ Gen → ⊥)
+    → AllByRecursion IsReading (steps_of command given)
+steps_reading Run given other = (tt, (tt, (tt, input_reading (text_in given Input))))
+steps_reading Flat given other = (tt, (tt, input_reading (text_in given Input)))
+steps_reading Asm given other = (tt, (tt, tt))
+steps_reading Disasm given other = (tt, (tt, tt))
+steps_reading Check given other = (tt, tt)
+steps_reading Gen given other = absurd (other refl)
+
+-- a step that asks no file
+abbrev IsBlind : Step → Type 0
+IsBlind (Judges settings) = Unit {0}
+IsBlind (JudgesNumber name number) = Unit {0}
+IsBlind (Reads source name rule) = ⊥
+IsBlind (Loads bytes base size) = Unit {0}
+IsBlind (Writes name bytes) = Unit {0}
+IsBlind (Prints text) = Unit {0}
+
+-- behind the first write no step asks a file
+abbrev IsOrderly : List Step → Type 0
+IsOrderly [] = Unit {0}
+IsOrderly (Writes name bytes ∷ steps) = AllByRecursion IsBlind steps
+IsOrderly (step ∷ steps) = IsOrderly steps
+
+input_orderly : (o : Option (List ℕ)) → IsOrderly (input_steps o)
+input_orderly None = tt
+input_orderly (Some name) = tt
+
+named_orderly : (o : Option (List ℕ)) (bytes loaded : List ℕ) (base size : ℕ)
+    → IsOrderly (where_named o bytes (Loads loaded base size ∷ []))
+named_orderly None bytes loaded base size = tt
+named_orderly (Some name) bytes loaded base size = (tt, tt)
+
+-- the steps of every command before its work are so
+steps_orderly : (command : Command) (given : List Pair) → IsOrderly (steps_of command given)
+steps_orderly Run given = input_orderly (text_in given Input)
+steps_orderly Flat given = input_orderly (text_in given Input)
+steps_orderly Asm given = tt
+steps_orderly Disasm given = tt
+steps_orderly Check given = tt
+steps_orderly Gen given =
+    named_orderly (text_in given Save) (gen_file given) (gen_file given) (settings_of given).base
+    (settings_of given).size
 
 -- the input was read, where a file is named, which left all files
 pub input_files : (o : Option (List ℕ)) (old new : HostState) → AllDone (input_steps o) old new → new.files ≡ old.files
@@ -244,6 +286,12 @@ read_free files source name rule (Usage word) right cause = absurd cause
 read_free files source name rule (OutOfRange setting) right cause = absurd cause
 read_free files source name rule (NumberOutOfRange other) right cause = absurd cause
 
+load_free : (base size : ℕ) (bytes : List ℕ) (refusal : Refusal) → IsFaultless base size bytes
+    → IsLoadCause base size bytes refusal → HasNone refusal
+load_free base size bytes (Elf fault) done cause = absurd (done fault cause.present)
+load_free base size bytes NoMemory done cause = inl refl
+load_free base size bytes refusal done cause = absurd cause
+
 write_free : (refusal : Refusal) → IsWriteCause refusal → HasNone refusal
 write_free Host cause = inr refl
 write_free NoMemory cause = inl refl
@@ -262,6 +310,7 @@ cause_free : (files : Files) (step : Step) (refusal : Refusal) → IsDone files 
 cause_free files (Judges settings) refusal done cause = setting_free settings files refusal done cause
 cause_free files (JudgesNumber name number) refusal done cause = number_free name number refusal done cause
 cause_free files (Reads source name rule) refusal done cause = read_free files source name rule refusal done cause
+cause_free files (Loads bytes base size) refusal done cause = load_free base size bytes refusal done cause
 cause_free files (Writes name bytes) refusal done cause = write_free refusal cause
 cause_free files (Prints text) refusal done cause = write_free refusal cause
 
@@ -275,27 +324,95 @@ step_free files step refusal old new done told refuses = go (cause_free files st
     go (inl e) = inl e
     go (inr e) = inr (e, refuses.fault e)
 
-before_free : (files : Files) (steps : List Step) (refusal : Refusal) (old new : HostState)
-    → AllByRecursion IsReading steps → AllByRecursion (IsDone files) steps
-    → old.files ≡ Some files → IsRefused steps refusal old new → IsFree refusal old.faults new.faults
-before_free files [] refusal old new are right told refused = absurd refused
-before_free files (step ∷ steps) refusal old new are right told (inl refuses) = step_free files step refusal old new
-    right.0 told refuses
-before_free files (step ∷ steps) refusal old new are right told (inr (mid, does, rest)) =
-    free_later refusal old.faults mid.faults new.faults new.faults does.later (omega arith)
-    (before_free files steps refusal mid new are.1 right.1 (does_files step old mid are.0 does ∙ told) rest)
-
 pub still_told : (old new : Option Files) (files : Files) → is_some new ≡ is_some old → old ≡ Some files
     → (after : Files) × (new ≡ Some after)
 still_told old None files e told = let t : is_some old ≡ true = ap (is_some {T = Files}) told in absurd
     (let no : ⊥ = cc in no)
 still_told old (Some after) files e told = (after, refl)
 
+-- whatever step was done, the files are still told
+does_told : (step : Step) (old mid : HostState) (files : Files) → Does step old mid → old.files ≡ Some files
+    → (after : Files) × (mid.files ≡ Some after)
+does_told (Judges settings) old mid files does told = (files, does.files ∙ told)
+does_told (JudgesNumber name number) old mid files does told = (files, does.files ∙ told)
+does_told (Reads source name rule) old mid files does told = (files, does.files ∙ told)
+does_told (Loads bytes base size) old mid files does told = (files, does.files ∙ told)
+does_told (Writes name bytes) old mid files does told =
+    still_told old.files mid.files files (does.files.0).told told
+does_told (Prints text) old mid files does told = (files, does.files ∙ told)
+
+all_told : (steps : List Step) (old new : HostState) (files : Files) → AllDone steps old new → old.files ≡ Some files
+    → (after : Files) × (new.files ≡ Some after)
+all_told [] old new files e told = (files, ap (λ (s : HostState). s.files) e ∙ told)
+all_told (step ∷ steps) old new files (mid, does, rest) told =
+    let after = does_told step old mid files does told in all_told steps mid new after.0 rest after.1
+
+-- these steps say the same of the files that there are now as of those before all steps: they are the same, or no step
+-- asks one
+abbrev IsOver : Files → Files → List Step → Type 0
+IsOver files now steps = ((files ≡ now) × IsOrderly steps) ⊎ AllByRecursion IsBlind steps
+
+blind_done : (a b : Files) (step : Step) → IsBlind step → IsDone a step → IsDone b step
+blind_done a b (Judges settings) is done = done
+blind_done a b (JudgesNumber name number) is done = done
+blind_done a b (Reads source name rule) is done = absurd is
+blind_done a b (Loads bytes base size) is done = done
+blind_done a b (Writes name bytes) is done = done
+blind_done a b (Prints text) is done = done
+
+blind_cause : (a b : Files) (step : Step) (refusal : Refusal) → IsBlind step → IsCause a step refusal
+    → IsCause b step refusal
+blind_cause a b (Judges settings) refusal is cause = cause
+blind_cause a b (JudgesNumber name number) refusal is cause = cause
+blind_cause a b (Reads source name rule) refusal is cause = absurd is
+blind_cause a b (Loads bytes base size) refusal is cause = cause
+blind_cause a b (Writes name bytes) refusal is cause = cause
+blind_cause a b (Prints text) refusal is cause = cause
+
+over_done : (files now : Files) (step : Step) (steps : List Step) → IsOver files now (step ∷ steps)
+    → IsDone files step → IsDone now step
+over_done files now step steps (inl (same, orderly)) done = subst (λ f. IsDone f step) same done
+over_done files now step steps (inr blind) done = blind_done files now step blind.0 done
+
+over_cause : (files now : Files) (step : Step) (steps : List Step) (refusal : Refusal) → IsOver files now (step ∷ steps)
+    → IsCause files step refusal → IsCause now step refusal
+over_cause files now step steps refusal (inl (same, orderly)) cause = subst (λ f. IsCause f step refusal) same cause
+over_cause files now step steps refusal (inr blind) cause = blind_cause files now step refusal blind.0 cause
+
+-- the same after the first of them was done
+abbrev StillOver : Files → List Step → HostState → Type 0
+StillOver files steps state = (after : Files) × (state.files ≡ Some after) × IsOver files after steps
+
+still_over : (files now : Files) (step : Step) (steps : List Step) (old mid : HostState)
+    → IsOver files now (step ∷ steps) → old.files ≡ Some now → Does step old mid → StillOver files steps mid
+still_over files now step steps old mid (inr blind) told does =
+    let after = does_told step old mid now does told in (after.0, after.1, inr blind.1)
+still_over files now (Judges settings) steps old mid (inl over) told does = (now, does.files ∙ told, inl over)
+still_over files now (JudgesNumber name number) steps old mid (inl over) told does =
+    (now, does.files ∙ told, inl over)
+still_over files now (Reads source name rule) steps old mid (inl over) told does = (now, does.files ∙ told, inl over)
+still_over files now (Loads bytes base size) steps old mid (inl over) told does = (now, does.files ∙ told, inl over)
+still_over files now (Writes name bytes) steps old mid (inl over) told does =
+    let after = does_told (Writes name bytes) old mid now does told in (after.0, after.1, inr over.1)
+still_over files now (Prints text) steps old mid (inl over) told does = (now, does.files ∙ told, inl over)
+
+before_free : (files now : Files) (steps : List Step) (refusal : Refusal) (old new : HostState)
+    → IsOver files now steps → AllByRecursion (IsDone files) steps
+    → old.files ≡ Some now → IsRefused steps refusal old new → IsFree refusal old.faults new.faults
+before_free files now [] refusal old new over right told refused = absurd refused
+before_free files now (step ∷ steps) refusal old new over right told (inl refuses) =
+    step_free now step refusal old new (over_done files now step steps over right.0) told refuses
+before_free files now (step ∷ steps) refusal old new over right told (inr (mid, does, rest)) =
+    let still = still_over files now step steps old mid over told does in
+    free_later refusal old.faults mid.faults new.faults new.faults does.later (omega arith)
+    (before_free files still.0 steps refusal mid new still.2 right.1 still.1 rest)
+
 -- a step that writes or prints
 abbrev IsLast : Step → Type 0
 IsLast (Judges settings) = ⊥
 IsLast (JudgesNumber name number) = ⊥
 IsLast (Reads source name rule) = ⊥
+IsLast (Loads bytes base size) = ⊥
 IsLast (Writes name bytes) = Unit {0}
 IsLast (Prints text) = Unit {0}
 
@@ -303,17 +420,9 @@ last_done : (files : Files) (step : Step) → IsLast step → IsDone files step
 last_done files (Judges settings) is = absurd is
 last_done files (JudgesNumber name number) is = absurd is
 last_done files (Reads source name rule) is = absurd is
+last_done files (Loads bytes base size) is = absurd is
 last_done files (Writes name bytes) is = tt
 last_done files (Prints text) is = tt
-
-last_told : (step : Step) (old mid : HostState) (files : Files) → IsLast step → Does step old mid
-    → old.files ≡ Some files → (after : Files) × (mid.files ≡ Some after)
-last_told (Judges settings) old mid files is does told = absurd is
-last_told (JudgesNumber name number) old mid files is does told = absurd is
-last_told (Reads source name rule) old mid files is does told = absurd is
-last_told (Writes name bytes) old mid files is does told =
-    still_told old.files mid.files files (does.files.0).told told
-last_told (Prints text) old mid files is does told = (files, does.files ∙ told)
 
 -- writes and prints are refused as is free
 last_free : (files : Files) (steps : List Step) (refusal : Refusal) (old new : HostState)
@@ -323,19 +432,19 @@ last_free files [] refusal old new are told refused = absurd refused
 last_free files (step ∷ steps) refusal old new are told (inl refuses) =
     step_free files step refusal old new (last_done files step are.0) told refuses
 last_free files (step ∷ steps) refusal old new are told (inr (mid, does, rest)) =
-    let still = last_told step old mid files are.0 does told in
+    let still = does_told step old mid files does told in
     free_later refusal old.faults mid.faults new.faults new.faults does.later (omega arith)
     (last_free still.0 steps refusal mid new are.1 still.1 rest)
 
-traced_last : (o : Option (List ℕ)) (text : List ℕ) (steps : List Step) → AllByRecursion IsLast steps
-    → AllByRecursion IsLast (traced o text steps)
-traced_last None text steps are = are
-traced_last (Some name) text steps are = (tt, are)
+named_last : (o : Option (List ℕ)) (text : List ℕ) (steps : List Step) → AllByRecursion IsLast steps
+    → AllByRecursion IsLast (where_named o text steps)
+named_last None text steps are = are
+named_last (Some name) text steps are = (tt, are)
 
 -- what follows the work are writes and prints
 made_last : (given : List Pair) (made : Made) → AllByRecursion IsLast (last_steps given made)
 made_last given (Encrypted run) =
-    (tt, traced_last (text_in given TraceName) run.trace.items (Prints (run_text run.report run.altered) ∷ []) (tt, tt))
+    (tt, named_last (text_in given TraceName) run.trace.items (Prints (run_text run.report run.altered) ∷ []) (tt, tt))
 made_last given (Ran report) = (tt, (tt, tt))
 made_last given (Assembled file) = (tt, tt)
 made_last given (Listed text) = (tt, tt)
@@ -345,26 +454,23 @@ steps_free : (read : Read) (lent : Lent) (files : Files) (refusal : Refusal) (ol
     → old.files ≡ Some files → AreRight read files → WorkEnds read.command read.given lent (Err refusal) old new
     → IsFree refusal old.faults new.faults
 steps_free read lent files refusal old new told right (inl (idle, refused)) =
-    before_free files (steps_of read.command read.given) refusal old new (steps_reading read.command read.given)
-    right told refused
+    before_free files files (steps_of read.command read.given) refusal old new
+    (inl (refl, steps_orderly read.command read.given)) right told refused
 steps_free read lent files refusal old new told right (inr (at, done, inl (e, same, lost))) = inl e
 steps_free read lent files refusal old new told right (inr (at, done, inr (made, meant, refused))) =
-    let reading = steps_reading read.command read.given in
+    let still = all_told (steps_of read.command read.given) old at files done told in
     free_later refusal old.faults at.faults new.faults new.faults
     (all_later (steps_of read.command read.given) old at done) (omega arith)
-    (last_free files (last_steps read.given made) refusal at new (made_last read.given made)
-    (all_files (steps_of read.command read.given) old at reading done ∙ told) refused)
+    (last_free still.0 (last_steps read.given made) refusal at new (made_last read.given made) still.1 refused)
 
 pub completes : (read : Read) (lent : Lent) (files : Files) (status : ℕ) (end : Result Made Refusal)
     (old new : HostState) → status ≡ status_of end → CommandEnds read lent end old new
     → old.files ≡ Some files → AreRight read files → ¬ Rose old.faults new.faults
     → Completes read files lent status old new
 completes read lent files status (Ok made) old new is (at, before, meant, after) told right safe =
-    let reading = steps_reading read.command read.given in
     inr (
       made,
-      subst (λ o. IsMade read.command read.given lent o made)
-          (all_files (steps_of read.command read.given) old at reading before ∙ told) meant,
+      subst (λ o. IsMade read.command read.given lent o made) told meant,
       is,
       (at, before, meant, after),
     )
@@ -377,32 +483,37 @@ completes read lent files status (Err end) old new is (refusal, mid, steps, tell
     go (inl same) (inl none) = inl (is ∙ ap status_of_refusal (same ∙ none))
     go (inl same) (inr (host, rose)) = absurd (safe (omega (arith, rose, tells.later)))
 
--- every command but `run` leaves memory and tap as they were
+-- every command but `run` and `gen` leaves memory and tap as they were
+abbrev IsOther : Command → Type 0
+IsOther command = (command ≡ Run → ⊥) × (command ≡ Gen → ⊥)
+
 made_idle : (command : Command) (given : List Pair) (lent : Lent) (told : Option Files) (made : Made)
-    → (command ≡ Run → ⊥) → IsMade command given lent told made → IsIdle lent
-made_idle Run given lent told made other is = absurd (other refl)
+    → IsOther command → IsMade command given lent told made → IsIdle lent
+made_idle Run given lent told made other is = absurd (other.0 refl)
 made_idle Flat given lent told made other is = is.0
 made_idle Asm given lent told made other is = is.0
 made_idle Disasm given lent told made other is = is.0
 made_idle Check given lent told made other is = is.0
+made_idle Gen given lent told made other is = absurd (other.1 refl)
 
 lost_idle : (command : Command) (given : List Pair) (lent : Lent) (told : Option Files)
-    → (command ≡ Run → ⊥) → IsLost command given lent told → IsIdle lent
-lost_idle Run given lent told other is = absurd (other refl)
+    → IsOther command → IsLost command given lent told → IsIdle lent
+lost_idle Run given lent told other is = absurd (other.0 refl)
 lost_idle Flat given lent told other is = is
 lost_idle Asm given lent told other is = is
 lost_idle Disasm given lent told other is = is
 lost_idle Check given lent told other is = is
+lost_idle Gen given lent told other is = absurd (other.1 refl)
 
 pub others_idle : (read : Read) (lent : Lent) (end : Result Made Refusal) (old new : HostState)
-    → (read.command ≡ Run → ⊥) → CommandEnds read lent end old new → IsIdle lent
+    → IsOther read.command → CommandEnds read lent end old new → IsIdle lent
 others_idle read lent (Ok made) old new other (at, before, meant, after) =
-    made_idle read.command read.given lent at.files made other meant
+    made_idle read.command read.given lent old.files made other meant
 others_idle read lent (Err end) old new other (refusal, mid, inl (idle, refused), tells) = idle
 others_idle read lent (Err end) old new other (refusal, mid, inr (at, done, inl (e, same, lost)), tells) =
-    lost_idle read.command read.given lent at.files other lost
+    lost_idle read.command read.given lent old.files other lost
 others_idle read lent (Err end) old new other (refusal, mid, inr (at, done, inr (made, meant, refused)), tells) =
-    made_idle read.command read.given lent at.files made other meant
+    made_idle read.command read.given lent old.files made other meant
 
 -- a refusal that isn't a failure of the host or want of memory is none that has its cause elsewhere
 of_files_not_free : {P : Type 0} (refusal : Refusal) → IsOfFiles refusal → HasNone refusal → P
@@ -560,44 +671,57 @@ number_agrees name number (NumberOutOfRange x) NoMemory h k of = absurd of
 number_agrees name number (NumberOutOfRange x) b h k of = absurd k
 number_agrees name number a b h k of = absurd h
 
+load_agrees : (base size : ℕ) (bytes : List ℕ) (a b : Refusal) → IsLoadCause base size bytes a
+    → IsLoadCause base size bytes b → IsOfFiles b → Agrees a b
+load_agrees base size bytes NoMemory b h k of = inl (inl refl)
+load_agrees base size bytes (Elf x) (Elf y) h k of = inr refl
+load_agrees base size bytes (Elf x) NoMemory h k of = absurd of
+load_agrees base size bytes (Elf x) b h k of = absurd k
+load_agrees base size bytes a b h k of = absurd h
+
 cause_agrees : (files : Files) (step : Step) (a b : Refusal) → IsCause files step a → IsCause files step b
     → IsOfFiles b → Agrees a b
 cause_agrees files (Judges settings) a b h k of = setting_agrees settings a b h k of
 cause_agrees files (JudgesNumber name number) a b h k of = number_agrees name number a b h k of
 cause_agrees files (Reads source name rule) a b h k of = read_agrees files source name rule a b h k of
+cause_agrees files (Loads bytes base size) a b h k of = load_agrees base size bytes a b h k of
 cause_agrees files (Writes name bytes) a b h k of = of_files_not_free b of (write_free b k)
 cause_agrees files (Prints text) a b h k of = of_files_not_free b of (write_free b k)
 
 -- where a refusal comes first over the files, the steps aren't all done, and are refused with its status or as is free
 module _ (files : Files) (refusal : Refusal) (of : IsOfFiles refusal) where
-  pub never_done : (steps : List Step) (old at : HostState) → AllByRecursion IsReading steps → old.files ≡ Some files
-      → AllDone steps old at
-      → IsFirstRefusal files steps refusal → ⊥
-  never_done [] old at are told done first = first
-  never_done (step ∷ steps) old at are told (mid, does, rest) (inl cause) =
-      of_files_not_free refusal of (cause_free files step refusal (does.done files told) cause)
-  never_done (step ∷ steps) old at are told (mid, does, rest) (inr (right, first)) =
-      never_done steps mid at are.1 (does_files step old mid are.0 does ∙ told) rest first
+  pub never_done : (now : Files) (steps : List Step) (old at : HostState) → IsOver files now steps
+      → old.files ≡ Some now → AllDone steps old at → IsFirstRefusal files steps refusal → ⊥
+  never_done now [] old at over told done first = first
+  never_done now (step ∷ steps) old at over told (mid, does, rest) (inl cause) =
+      of_files_not_free refusal of (cause_free now step refusal (does.done now told)
+      (over_cause files now step steps refusal over cause))
+  never_done now (step ∷ steps) old at over told (mid, does, rest) (inr (right, first)) =
+      let still = still_over files now step steps old mid over told does in
+      never_done still.0 steps mid at still.2 still.1 rest first
 
-  pub refused_first : (steps : List Step) (other : Refusal) (old new : HostState) → AllByRecursion IsReading steps
-      → old.files ≡ Some files → IsRefused steps other old new
+  pub refused_first : (now : Files) (steps : List Step) (other : Refusal) (old new : HostState)
+      → IsOver files now steps → old.files ≡ Some now → IsRefused steps other old new
       → IsFirstRefusal files steps refusal → IsFree other old.faults new.faults
       ⊎ (status_of_refusal other ≡ status_of_refusal refusal)
-  refused_first [] other old new are told refused first = absurd first
-  refused_first (step ∷ steps) other old new are told (inl refuses) (inl cause) =
-      go (cause_agrees files step other refusal (refuses.cause files told) cause of)
+  refused_first now [] other old new over told refused first = absurd first
+  refused_first now (step ∷ steps) other old new over told (inl refuses) (inl cause) =
+      go (cause_agrees now step other refusal (refuses.cause now told)
+      (over_cause files now step steps refusal over cause) of)
     where
       go : Agrees other refusal → IsFree other old.faults new.faults
           ⊎ (status_of_refusal other ≡ status_of_refusal refusal)
       go (inl (inl e)) = inl (inl e)
       go (inl (inr e)) = inl (inr (e, refuses.fault e))
       go (inr e) = inr e
-  refused_first (step ∷ steps) other old new are told (inl refuses) (inr (right, first)) = inl
-      (step_free files step other old new right told refuses)
-  refused_first (step ∷ steps) other old new are told (inr (mid, does, rest)) (inl cause) =
-      of_files_not_free refusal of (cause_free files step refusal (does.done files told) cause)
-  refused_first (step ∷ steps) other old new are told (inr (mid, does, rest)) (inr (right, first)) =
-      go (refused_first steps other mid new are.1 (does_files step old mid are.0 does ∙ told) rest first)
+  refused_first now (step ∷ steps) other old new over told (inl refuses) (inr (right, first)) = inl
+      (step_free now step other old new (over_done files now step steps over right) told refuses)
+  refused_first now (step ∷ steps) other old new over told (inr (mid, does, rest)) (inl cause) =
+      of_files_not_free refusal of (cause_free now step refusal (does.done now told)
+      (over_cause files now step steps refusal over cause))
+  refused_first now (step ∷ steps) other old new over told (inr (mid, does, rest)) (inr (right, first)) =
+      let still = still_over files now step steps old mid over told does in
+      go (refused_first still.0 steps other mid new still.2 still.1 rest first)
     where
       go : IsFree other mid.faults new.faults ⊎ (status_of_refusal other ≡ status_of_refusal refusal)
           → IsFree other old.faults new.faults ⊎ (status_of_refusal other ≡ status_of_refusal refusal)
@@ -611,18 +735,18 @@ pub refuses_first : (read : Read) (lent : Lent) (files : Files) (refusal : Refus
     → IsFirstRefusal files (steps_of read.command read.given) refusal
     → ¬ Rose old.faults new.faults → (status ≡ 11) ⊎ (status ≡ status_of_refusal refusal)
 refuses_first read lent files refusal status (Ok made) old new is (at, before, meant, after) told of first safe =
-    absurd (never_done files refusal of (steps_of read.command read.given) old at
-    (steps_reading read.command read.given) told before first)
+    absurd (never_done files refusal of files (steps_of read.command read.given) old at
+    (inl (refl, steps_orderly read.command read.given)) told before first)
 refuses_first read lent files refusal status (Err end) old new is (other, mid, steps, tells) told of first safe = go
     tells.same (ends steps)
   where
     ends : WorkEnds read.command read.given lent (Err other) old mid
         → IsFree other old.faults mid.faults ⊎ (status_of_refusal other ≡ status_of_refusal refusal)
-    ends (inl (idle, refused)) = refused_first files refusal of (steps_of read.command read.given) other old mid
-        (steps_reading read.command read.given) told refused first
+    ends (inl (idle, refused)) = refused_first files refusal of files (steps_of read.command read.given) other old mid
+        (inl (refl, steps_orderly read.command read.given)) told refused first
     ends (inr (at, before, rest)) =
-        absurd (never_done files refusal of (steps_of read.command read.given) old at
-        (steps_reading read.command read.given) told before first)
+        absurd (never_done files refusal of files (steps_of read.command read.given) old at
+        (inl (refl, steps_orderly read.command read.given)) told before first)
 
     go : (end ≡ other) ⊎ (IsSome (refusal_text other) × (end ≡ NoMemory)) → IsFree other old.faults mid.faults
         ⊎ (status_of_refusal other ≡ status_of_refusal refusal)
@@ -634,29 +758,35 @@ refuses_first read lent files refusal status (Err end) old new is (other, mid, s
 
 -- the end of one command's work, which leaves memory and tap, is a command's
 module _ {A : Type 0} (make : A → Made) (after : A → List Step) (Meant : Files → A → Type 0) (command : Command)
-    (given : List Pair) (lent : Lent) (idle : IsIdle lent)
+    (given : List Pair) (lent : Lent) (idle : IsIdle lent) (not_gen : command ≡ Gen → ⊥)
     (same : (made : A) → after made ≡ last_steps given (make made))
     (are : (told : Option Files) (made : A) → ((files : Files) → told ≡ Some files → Meant files made)
     → IsMade command given lent told (make made)) (lost : (told : Option Files) → IsLost command given lent told)
   where
+    meant : (old at : HostState) (made : A) → AllDone (steps_of command given) old at
+        → ((files : Files) → at.files ≡ Some files → Meant files made)
+        → (files : Files) → old.files ≡ Some files → Meant files made
+    meant old at made done told files e =
+        told files (all_files (steps_of command given) old at (steps_reading command given not_gen) done ∙ e)
+
     pub lift_ends : (end : Result A Refusal) (old new : HostState)
         → StepsEnd (steps_of command given) after Meant end old new
         → WorkEnds command given lent (lifted make end) old new
     lift_ends (Ok made) old new (at, done, told, last) = (
       at,
       done,
-      are at.files made told,
+      are old.files made (meant old at made done told),
       subst (λ steps. AllDone steps at new) (same made) last,
     )
     lift_ends (Err refusal) old new (inl refused) = inl (idle, refused)
-    lift_ends (Err refusal) old new (inr (at, done, inl (e, stays))) = inr (at, done, inl (e, stays, lost at.files))
+    lift_ends (Err refusal) old new (inr (at, done, inl (e, stays))) = inr (at, done, inl (e, stays, lost old.files))
     lift_ends (Err refusal) old new (inr (at, done, inr (made, told, refused))) =
         inr (
           at,
           done,
           inr (
             make made,
-            are at.files made told,
+            are old.files made (meant old at made done told),
             subst (λ steps. IsRefused steps refusal at new) (same made) refused,
           ),
         )

@@ -5,8 +5,8 @@ use Rattle.ascend_words.specs.Grammar.{Pair}
 use Rattle.ascend_words.specs.Settings.{text_in}
 use Rattle.ascend_words.specs.declared.table.Name.TheVariants.{Output, Trace}
 use Rattle.ascend_top.specs.FlatRun.{file_in}
-use Rattle.ascend_top.specs.Run.{run_report_steps, traced}
-use Rattle.ascend_top.specs.Steps.{AllDone, Prints, PrintsMore, Writes}
+use Rattle.ascend_top.specs.Run.{run_report_steps}
+use Rattle.ascend_top.specs.Steps.{AllDone, Prints, PrintsMore, Writes, where_named}
 use Rattle.ascend_top.specs.Texts.{run_text}
 use Rattle.ascend_top.specs.declared.commands.run.Encrypted.{Encrypted}
 use Rattle.ascend_top.proofs.EndLaws.{still_told}
@@ -26,7 +26,7 @@ print_alone text old new (after, does, e) = (
 
 -- the text is printed behind the write of a trace, where one is named
 traced_printed : (o : Option (List ℕ)) (trace text : List ℕ) (old new : HostState)
-    → AllDone (traced o trace (Prints text ∷ [])) old new → PrintsMore old.printed text new.printed
+    → AllDone (where_named o trace (Prints text ∷ [])) old new → PrintsMore old.printed text new.printed
 traced_printed None trace text old new done = (print_alone text old new done).1
 traced_printed (Some name) trace text old new (after, does, rest) =
     subst (λ p. PrintsMore p text new.printed) (nothing_more old.printed after.printed does.printed)
@@ -49,7 +49,7 @@ other_stays name other bytes old new files stay differs was told =
 
 written_stays : (o : Option (List ℕ)) (output bytes trace text : List ℕ) (old new : HostState) (files : Files)
     → (o ≡ Some output → ⊥) → ((before : Files) → old.files ≡ Some before → before output ≡ Some bytes)
-    → AllDone (traced o trace (Prints text ∷ [])) old new → new.files ≡ Some files → files output ≡ Some bytes
+    → AllDone (where_named o trace (Prints text ∷ [])) old new → new.files ≡ Some files → files output ≡ Some bytes
 written_stays None output bytes trace text old new files differs was done told =
     was files (sym (print_alone text old new done).0 ∙ told)
 written_stays (Some name) output bytes trace text old new files differs was (after, does, rest) told =
@@ -81,4 +81,4 @@ module _ (given : List Pair) (run : Encrypted) (old new : HostState)
   trace_file name files told named =
       let (mid, does, rest) = done in
       traced_file name run.trace.items text mid new files
-      (subst (λ o. AllDone (traced o run.trace.items (Prints text ∷ [])) mid new) named rest) told
+      (subst (λ o. AllDone (where_named o run.trace.items (Prints text ∷ [])) mid new) named rest) told

@@ -1,15 +1,16 @@
 -- A run over encrypted memory carries the headline.
-use Rattle.std.proofs.Common.{◌≡◌, ◌⊎◌, ℕ, List, Option, Result, Ok, Err, inl, inr, subst}
+use Rattle.std.proofs.Common.{◌⊎◌, ℕ, List, Option, Result, Ok, Err, inl, inr}
 use Rattle.asc_outside.specs.Host.{Files, HostState}
 use Rattle.secure_machine.specs.declared.report.Report.{Report}
 use Rattle.ascend_words.specs.Grammar.{Pair, Read}
 use Rattle.ascend_words.specs.declared.table.Command.{Command}
-use Rattle.ascend_words.specs.declared.table.Command.TheVariants.{Run}
-use Rattle.ascend_top.specs.Command.{CommandEnds, IsMade, WorkEnds}
+use Rattle.ascend_words.specs.declared.table.Command.TheVariants.{Run, Flat, Asm, Disasm, Check, Gen}
+use Rattle.ascend_top.specs.Command.{CommandEnds, IsLost, IsMade, WorkEnds}
 use Rattle.ascend_top.specs.EncryptedRun.{IsRunOf, IsWantOf, Lent}
-use Rattle.ascend_top.specs.Headline.{CarriesHeadline, Headline, IsCutShort, IsFlatOrPrefix, IsForged}
+use Rattle.ascend_top.specs.Headline.{CarriesHeadline, Headline, IsCutShort, IsFlatOrPrefix, IsForged, RunsEncrypted}
 use Rattle.ascend_top.specs.Made.{Made, Encrypted, Ran, Assembled, Listed, Held}
-use Rattle.ascend_top.specs.Run.{IsRun, RunWants}
+use Rattle.ascend_top.specs.Run.{IsRun}
+use Rattle.ascend_top.specs.declared.commands.run.Encrypted.{Encrypted as EncryptedRun}
 use Rattle.ascend_top.specs.declared.commands.flat.Program.{Program}
 use Rattle.ascend_top.specs.declared.refusal.Refusal.{Refusal}
 
@@ -48,42 +49,57 @@ cut_short program key lent is = record {
   };
 }
 
-made_carries : (given : List Pair) (lent : Lent) (told : Option Files) (made : Made) → IsMade Run given lent told made
-    → CarriesHeadline given lent
-made_carries given lent told (Encrypted run) is = inr (
+run_carried : (command : Command) (given : List Pair) (lent : Lent) (told : Option Files) (run : EncryptedRun)
+    → IsRun command given told lent run → CarriesHeadline command given lent
+run_carried command given lent told run is = inr (
   told,
   is.begin,
   is.begins,
   inl (run.report, headline_of is.begin.program is.begin.key lent run.report is.outcome.runs),
 )
-made_carries given lent told (Ran report) is = absurd is
-made_carries given lent told (Assembled file) is = absurd is
-made_carries given lent told (Listed text) is = absurd is
-made_carries given lent told (Held code bits) is = absurd is
 
-lost_carries : (given : List Pair) (lent : Lent) (told : Option Files) → RunWants given told lent
-    → CarriesHeadline given lent
-lost_carries given lent told is =
+made_carries : (command : Command) (given : List Pair) (lent : Lent) (told : Option Files) (made : Made)
+    → RunsEncrypted command → IsMade command given lent told made → CarriesHeadline command given lent
+made_carries Run given lent told (Encrypted run) yes is = run_carried Run given lent told run is
+made_carries Run given lent told (Ran report) yes is = absurd is
+made_carries Run given lent told (Assembled file) yes is = absurd is
+made_carries Run given lent told (Listed text) yes is = absurd is
+made_carries Run given lent told (Held code bits) yes is = absurd is
+made_carries Gen given lent told (Encrypted run) yes is = run_carried Gen given lent told run is
+made_carries Gen given lent told (Ran report) yes is = absurd is
+made_carries Gen given lent told (Assembled file) yes is = absurd is
+made_carries Gen given lent told (Listed text) yes is = absurd is
+made_carries Gen given lent told (Held code bits) yes is = absurd is
+made_carries Flat given lent told made yes is = absurd yes
+made_carries Asm given lent told made yes is = absurd yes
+made_carries Disasm given lent told made yes is = absurd yes
+made_carries Check given lent told made yes is = absurd yes
+
+lost_carries : (command : Command) (given : List Pair) (lent : Lent) (told : Option Files)
+    → RunsEncrypted command → IsLost command given lent told → CarriesHeadline command given lent
+lost_carries Run given lent told yes is =
     inr (told, is.begin, is.begins, inr (cut_short is.begin.program is.begin.key lent is.wants))
+lost_carries Gen given lent told yes is =
+    inr (told, is.begin, is.begins, inr (cut_short is.begin.program is.begin.key lent is.wants))
+lost_carries Flat given lent told yes is = absurd yes
+lost_carries Asm given lent told yes is = absurd yes
+lost_carries Disasm given lent told yes is = absurd yes
+lost_carries Check given lent told yes is = absurd yes
 
-work_carries : (given : List Pair) (lent : Lent) (end : Result Made Refusal) (old new : HostState)
-    → WorkEnds Run given lent end old new → CarriesHeadline given lent
-work_carries given lent (Ok made) old new (at, done, is, last) = made_carries given lent at.files made is
-work_carries given lent (Err refusal) old new (inl (idle, refused)) = inl idle
-work_carries given lent (Err refusal) old new (inr (at, done, inl (none, same, lost))) =
-    lost_carries given lent at.files lost
-work_carries given lent (Err refusal) old new (inr (at, done, inr (made, is, refused))) =
-    made_carries given lent at.files made is
+work_carries : (command : Command) (given : List Pair) (lent : Lent) (end : Result Made Refusal) (old new : HostState)
+    → RunsEncrypted command → WorkEnds command given lent end old new → CarriesHeadline command given lent
+work_carries command given lent (Ok made) old new yes (at, done, is, last) =
+    made_carries command given lent old.files made yes is
+work_carries command given lent (Err refusal) old new yes (inl (idle, refused)) = inl idle
+work_carries command given lent (Err refusal) old new yes (inr (at, done, inl (none, same, lost))) =
+    lost_carries command given lent old.files yes lost
+work_carries command given lent (Err refusal) old new yes (inr (at, done, inr (made, is, refused))) =
+    made_carries command given lent old.files made yes is
 
-ends_carry : (given : List Pair) (lent : Lent) (end : Result Made Refusal) (old new : HostState)
-    → CommandEnds (record { command = Run; given = given }) lent end old new → CarriesHeadline given lent
-ends_carry given lent (Ok made) old new ends = work_carries given lent (Ok made) old new ends
-ends_carry given lent (Err end) old new (refusal, mid, work, tells) =
-    work_carries given lent (Err refusal) old mid work
-
--- The command `run` carries the headline.
-pub run_carries : (read : Read) (lent : Lent) (end : Result Made Refusal) (old new : HostState) → read.command ≡ Run
-    → CommandEnds read lent end old new → CarriesHeadline read.given lent
-run_carries read lent end old new is ends =
-    ends_carry read.given lent end old new (subst (λ (command : Command). CommandEnds
-    (record { command = command; given = read.given }) lent end old new) is ends)
+-- A command whose program runs over encrypted memory carries the headline.
+pub ends_carry : (read : Read) (lent : Lent) (end : Result Made Refusal) (old new : HostState)
+    → RunsEncrypted read.command → CommandEnds read lent end old new → CarriesHeadline read.command read.given lent
+ends_carry read lent (Ok made) old new yes ends =
+    work_carries read.command read.given lent (Ok made) old new yes ends
+ends_carry read lent (Err end) old new yes (refusal, mid, work, tells) =
+    work_carries read.command read.given lent (Err refusal) old mid yes work

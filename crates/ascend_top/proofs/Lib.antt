@@ -2,6 +2,7 @@ pub mod AssembledLaws
 pub mod EndLaws
 pub mod FilesLaws
 pub mod FlatLaws
+pub mod GenLaws
 pub mod ListingLaws
 pub mod ReportLaws
 pub mod RunLaws

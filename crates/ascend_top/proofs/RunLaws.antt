@@ -25,15 +25,19 @@ use Rattle.elf_loader.specs.declared.image.Image.{Image}
 use Rattle.rv32_core.specs.FlatRun.{FlatRun, FlatEnding}
 use Rattle.ascend_words.specs.Grammar.{Pair}
 use Rattle.ascend_words.specs.Settings.{settings_of, text_in}
+use Rattle.ascend_words.specs.declared.table.Command.{Command}
 use Rattle.ascend_words.specs.declared.table.Name.TheVariants.{Elf, Key, Output, Trace}
+use Rattle.ascend_top.specs.Command.{IsLost, IsMade, WorkEnds, lifted, steps_of}
 use Rattle.ascend_top.specs.FlatRun.{Report, bytes_in, ending_of, file_in, flat_of, flat_report, input_in}
 use Rattle.ascend_top.specs.FlatRun.{outcome_report, report_of, run_over}
 use Rattle.secure_machine.proofs.LastMoves.{ends_with_move}
 use Rattle.ascend_top.specs.EncryptedRun.{IsRunOf, IsWantOf, Lent, keys_from}
+use Rattle.ascend_top.specs.Made.{Encrypted as MadeEncrypted}
 use Rattle.ascend_top.specs.Parts.{CanRun, EndsAs, IsConfigOf, IsImageOf, IsProgramOf, program_report}
-use Rattle.ascend_top.specs.Run.{IsBegin, run_report_steps, traced}
-use Rattle.ascend_top.specs.Steps.{AllDone, Does, IsRefused, Prints, Refuses, Step, Writes, key_length}
+use Rattle.ascend_top.specs.Run.{BegunEnds, IsBegin, IsOutcome, IsProgramBy, IsRun, RunWants, run_report_steps}
+use Rattle.ascend_top.specs.Steps.{AllDone, Does, IsRefused, Prints, Refuses, Step, Writes, key_length, where_named}
 use Rattle.ascend_top.specs.Texts.{run_text}
+use Rattle.ascend_top.specs.declared.commands.run.Begin.{Begin}
 use Rattle.ascend_top.specs.declared.commands.run.Encrypted.{Encrypted}
 use Rattle.ascend_top.specs.declared.commands.flat.Program.{Program}
 use Rattle.ascend_top.specs.declared.refusal.Refusal.{Refusal}
@@ -56,7 +60,7 @@ report_over budget entry base size heap bytes input = report_of (run_over budget
 module _ (given : List Pair) (files : Files) (base size budget : ℕ) (image : Image) (input : List ℕ) where
   pub report_is : base ≡ (settings_of given).base → size ≡ (settings_of given).size
       → budget ≡ (settings_of given).budget
-      → IsImageOf base size files (file_in given Elf) image → input ≡ input_in files given
+      → IsImageOf base size (bytes_in files (file_in given Elf)) image → input ≡ input_in files given
       → report_over budget image.entry base size image.heap image.bytes.items input ≡ flat_report given files
   unfolding flat_report flat_of
   report_is base_is size_is budget_is is input_is =
@@ -87,13 +91,13 @@ program_reports given told config (Ok program) is same of = λ files e.
 program_reports given told config (Err refusal) is same of = tt
 
 -- a run begins so
-pub begins : (given : List Pair) (told : Option Files) (settings : Settings) (config : Config) (key : List ℕ)
-    (program : Program) → settings ≡ settings_of given → IsConfigOf settings config → program.config ≡ config
+pub begins : (command : Command) (given : List Pair) (told : Option Files) (settings : Settings) (config : Config)
+    (key : List ℕ) (program : Program) → settings ≡ settings_of given → IsConfigOf settings config → program.config ≡ config
     → CanRun program → length key ≡ key_length
     → ((files : Files) → told ≡ Some files → key ≡ bytes_in files (file_in given Key))
-    → ((files : Files) → told ≡ Some files → IsProgramOf given files program)
-    → IsBegin given told (record { key = key; program = program })
-begins given told settings config key program e is same can long key_is of =
+    → IsProgramBy command given told program
+    → IsBegin command given told (record { key = key; program = program })
+begins command given told settings config key program e is same can long key_is of =
     let now : IsConfigOf (settings_of given) config = subst (λ s. IsConfigOf s config) e is in
     record {
       allowed = now.allowed;
@@ -125,36 +129,36 @@ wanting config image input key lent report is = record {
     tied (inl whole) = inl (inl whole)
     tied (inr none) = inr none.tap_is
 
--- the write of a trace, where one is named, and then the steps after it
-pub traced_done : (o : Option (List ℕ)) (text : List ℕ) (steps : List Step) (old mid new : HostState)
-    → AllDone (traced o text []) old mid → AllDone steps mid new → AllDone (traced o text steps) old new
-traced_done None text steps old mid new e done = subst (λ state. AllDone steps state new) e done
-traced_done (Some name) text steps old mid new (after, does, e) done =
+-- the write of a file, where one is named, and then the steps after it
+pub named_done : (o : Option (List ℕ)) (text : List ℕ) (steps : List Step) (old mid new : HostState)
+    → AllDone (where_named o text []) old mid → AllDone steps mid new → AllDone (where_named o text steps) old new
+named_done None text steps old mid new e done = subst (λ state. AllDone steps state new) e done
+named_done (Some name) text steps old mid new (after, does, e) done =
     (after, does, subst (λ state. AllDone steps state new) e done)
 
-pub traced_refused : (o : Option (List ℕ)) (text : List ℕ) (steps : List Step) (refusal : Refusal)
-    (old new : HostState) → IsRefused (traced o text []) refusal old new
-    → IsRefused (traced o text steps) refusal old new
-traced_refused None text steps refusal old new refused = absurd refused
-traced_refused (Some name) text steps refusal old new (inl refuses) = inl refuses
-traced_refused (Some name) text steps refusal old new (inr (mid, does, none)) = absurd none
+pub named_refused : (o : Option (List ℕ)) (text : List ℕ) (steps : List Step) (refusal : Refusal)
+    (old new : HostState) → IsRefused (where_named o text []) refusal old new
+    → IsRefused (where_named o text steps) refusal old new
+named_refused None text steps refusal old new refused = absurd refused
+named_refused (Some name) text steps refusal old new (inl refuses) = inl refuses
+named_refused (Some name) text steps refusal old new (inr (mid, does, none)) = absurd none
 
-pub traced_then : (o : Option (List ℕ)) (text : List ℕ) (steps : List Step) (refusal : Refusal)
-    (old mid new : HostState) → AllDone (traced o text []) old mid → IsRefused steps refusal mid new
-    → IsRefused (traced o text steps) refusal old new
-traced_then None text steps refusal old mid new e refused = subst (λ state. IsRefused steps refusal state new) e refused
-traced_then (Some name) text steps refusal old mid new (after, does, e) refused =
+pub named_then : (o : Option (List ℕ)) (text : List ℕ) (steps : List Step) (refusal : Refusal)
+    (old mid new : HostState) → AllDone (where_named o text []) old mid → IsRefused steps refusal mid new
+    → IsRefused (where_named o text steps) refusal old new
+named_then None text steps refusal old mid new e refused = subst (λ state. IsRefused steps refusal state new) e refused
+named_then (Some name) text steps refusal old mid new (after, does, e) refused =
     inr (after, does, subst (λ state. IsRefused steps refusal state new) e refused)
 
 -- the print of the report was refused, behind the write of the output and that of the trace
 pub print_refuses : (given : List Pair) (run : Encrypted) (refusal : Refusal) (old mid after new : HostState)
     → Does (Writes (file_in given Output) run.report.output.items) old mid
-    → AllDone (traced (text_in given Trace) run.trace.items []) mid after
+    → AllDone (where_named (text_in given Trace) run.trace.items []) mid after
     → Refuses (Prints (run_text run.report run.altered)) refusal after new
     → IsRefused (run_report_steps given run) refusal old new
 print_refuses given run refusal old mid after new does done refuses =
     let print : List Step = Prints (run_text run.report run.altered) ∷ [] in
-    let rest = traced_then (text_in given Trace) run.trace.items print refusal mid after new done (inl refuses) in
+    let rest = named_then (text_in given Trace) run.trace.items print refusal mid after new done (inl refuses) in
     inr (mid, does, rest)
 
 -- What the clauses of a run say of its report, in one record.
@@ -196,3 +200,22 @@ module _ (config : Config) (image : Image) (input key : List ℕ) (lent : Lent) 
     honest = honest;
     refines = refines;
   }
+
+-- Where the steps of `run` or `gen` before its run were done, and it began so, its run and the steps after it end its
+-- work.
+module _ (command : Command) (given : List Pair) (lent : Lent) (begin : Begin) (old at new : HostState)
+    (made : (run : Encrypted) → IsRun command given old.files lent run
+    → IsMade command given lent old.files (MadeEncrypted run))
+    (lost : RunWants command given old.files lent → IsLost command given lent old.files)
+    (before : AllDone (steps_of command given) old at) (is : IsBegin command given old.files begin)
+  where
+    is_run : (run : Encrypted) → IsOutcome given begin lent run → IsRun command given old.files lent run
+    is_run run outcome = record { begin = begin; begins = is; outcome = outcome }
+
+    pub begun_ends : (end : Result Encrypted Refusal) → BegunEnds given begin lent end at new
+        → WorkEnds command given lent (lifted MadeEncrypted end) old new
+    begun_ends (Ok run) (outcome, done) = (at, before, made run (is_run run outcome), done)
+    begun_ends (Err refusal) (inl (none, same, wants)) =
+        inr (at, before, inl (none, same, lost (record { begin = begin; begins = is; wants = wants })))
+    begun_ends (Err refusal) (inr (run, outcome, refused)) =
+        inr (at, before, inr (MadeEncrypted run, made run (is_run run outcome), refused))

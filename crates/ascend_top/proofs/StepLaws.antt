@@ -12,11 +12,12 @@ use Rattle.asc_outside.specs.declared.host.HostFault.{HostFault}
 use Rattle.asc_outside.specs.declared.host.HostFault.TheVariants.{Failed, TooLong as TooLongFile}
 use Rattle.asc_outside.specs.declared.host.HostFault.TheVariants.{NoMemory as OutOfMemory}
 use Rattle.bus_trace.specs.declared.fault.TraceKind.{TraceKind}
+use Rattle.elf_loader.specs.Faults.{IsFaultless, IsFirstFault as IsFirstElfFault}
 use Rattle.elf_loader.specs.declared.fault.ElfFault.{ElfFault}
 use Rattle.ascend_top.specs.FlatRun.{bytes_in}
 use Rattle.ascend_top.specs.Parts.{WasRead, unread, unwritten}
 use Rattle.ascend_top.specs.Steps.{AsksMore, PrintsMore, Breaks, Keeps, Does, Refuses, Rule, Judges, JudgesNumber}
-use Rattle.ascend_top.specs.Steps.{Reads, Writes, Prints, IsInRange, IsWrong, limit_of}
+use Rattle.ascend_top.specs.Steps.{IsInRange, IsRefused, IsWrong, Loads, Reads, Writes, Prints, limit_of, where_named}
 use Rattle.ascend_words.specs.declared.table.Name.{Name}
 use Rattle.rv32_asm.specs.declared.fault.AsmKind.{AsmKind}
 use Rattle.ascend_top.specs.declared.refusal.Refusal.{Refusal}
@@ -80,6 +81,61 @@ number_misjudged name number state beyond = record {
   later = omega arith;
   asked = asks_none state.asked state.asked refl;
 }
+
+-- a file was loaded, or has a fault
+pub loaded : (bytes : List ℕ) (base size : ℕ) (state : HostState) → IsFaultless base size bytes
+    → Does (Loads bytes base size) state state
+loaded bytes base size state faultless = record {
+  done = λ files told. faultless;
+  files = refl;
+  printed = prints_none state.printed state.printed refl;
+  later = omega arith;
+  asked = asks_none state.asked state.asked refl;
+}
+
+pub load_refused : (bytes : List ℕ) (base size : ℕ) (fault : ElfFault) (state : HostState)
+    → IsFirstElfFault base size bytes fault → Refuses (Loads bytes base size) (Elf fault) state state
+load_refused bytes base size fault state first = record {
+  cause = λ files told. first;
+  fault = λ e. absurd (let no : ⊥ = cc in no);
+  files = refl;
+  printed = refl;
+  later = omega arith;
+  asked = asks_none state.asked state.asked refl;
+}
+
+pub load_lost : (bytes : List ℕ) (base size : ℕ) (state : HostState)
+    → Refuses (Loads bytes base size) NoMemory state state
+load_lost bytes base size state = record {
+  cause = λ files told. tt;
+  fault = λ e. absurd (let no : ⊥ = cc in no);
+  files = refl;
+  printed = refl;
+  later = omega arith;
+  asked = inl refl;
+}
+
+others_same : (name : List ℕ) (told : Option Files) → OthersStay name told told
+others_same name told = record {
+  told = refl;
+  others = λ before after b a other differs.
+      let same : ◌≡◌ {A = Option Files} (Some before) (Some after) = sym b ∙ a in
+      let one : before ≡ after = cc in
+      ap (λ (files : Files). files other) (sym one);
+}
+
+-- a file that is written where one is named, and then loaded: there was no memory for it
+pub made_lost : (o : Option (List ℕ)) (bytes loaded : List ℕ) (base size : ℕ) (state : HostState)
+    → IsRefused (where_named o bytes (Loads loaded base size ∷ [])) NoMemory state state
+made_lost None bytes loaded base size state = inl (load_lost loaded base size state)
+made_lost (Some name) bytes loaded base size state = inl (record {
+  cause = λ files told. tt;
+  fault = λ e. absurd (let no : ⊥ = cc in no);
+  files = others_same name state.files;
+  printed = refl;
+  later = omega arith;
+  asked = inl refl;
+})
 
 -- the read of a file was refused
 pub read_refused : (T : Type 0) (source : Source) (name : List ℕ) (rule : Rule) (fault : HostFault)

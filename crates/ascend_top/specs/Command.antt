@@ -6,13 +6,14 @@ use Rattle.asc_outside.specs.Host.{HostCall, Prints as PrintsText, HostState, Fi
 use Rattle.asc_outside.specs.Rose.{Rose}
 use Rattle.ascend_words.specs.Grammar.{Pair, Read}
 use Rattle.ascend_words.specs.declared.table.Command.{Command}
-use Rattle.ascend_words.specs.declared.table.Command.TheVariants.{Run, Flat, Asm, Disasm, Check}
+use Rattle.ascend_words.specs.declared.table.Command.TheVariants.{Run, Flat, Asm, Disasm, Check, Gen}
 use Rattle.ascend_top.specs.Asm.{asm_steps, asm_file, write_steps}
 use Rattle.ascend_top.specs.Check.{check_steps, held_steps, AreHeld}
 use Rattle.ascend_top.specs.Disasm.{disasm_steps, disasm_listing, print_steps}
 use Rattle.ascend_top.specs.Flat.{flat_steps, report_steps}
 use Rattle.ascend_top.specs.FlatRun.{Report, flat_report, outcome_report}
 use Rattle.ascend_top.specs.EncryptedRun.{IsIdle, Lent}
+use Rattle.ascend_top.specs.Gen.{gen_steps}
 use Rattle.ascend_top.specs.Made.{Made, Encrypted, Ran, Assembled, Listed, Held}
 use Rattle.ascend_top.specs.Run.{IsRun, RunWants, run_report_steps, run_steps}
 use Rattle.ascend_top.specs.Status.{status_of_made}
@@ -33,6 +34,7 @@ steps_of Flat given = flat_steps given
 steps_of Asm given = asm_steps given
 steps_of Disasm given = disasm_steps given
 steps_of Check given = check_steps given
+steps_of Gen given = gen_steps given
 
 -- what a command's work is meant to come to over these files, where it is no run over encrypted memory: the report of
 -- the flat run, the text's file, the program's lines, or what a check says of the trace
@@ -43,18 +45,22 @@ IsMeant Asm given files made = made ≡ Assembled (asm_file given files)
 IsMeant Disasm given files made = made ≡ Listed (disasm_listing given files)
 IsMeant Check given files (Held code bits) = AreHeld given files code bits
 IsMeant Check given files made = ⊥
+IsMeant Gen given files made = ⊥
 
--- What a command's work comes to, over files that are told or not: `run` to a run over the memory and the tap, every
--- other command to what is meant where files are told, and it leaves memory and tap as they were.
+-- What a command's work comes to, over files that are told or not: `run` and `gen` to a run over the memory and the
+-- tap, every other command to what is meant where files are told, and it leaves memory and tap as they were.
 abbrev pub IsMade : Command → List Pair → Lent → Option Files → Made → Type 0
-IsMade Run given lent told (Encrypted run) = IsRun given told lent run
+IsMade Run given lent told (Encrypted run) = IsRun Run given told lent run
 IsMade Run given lent told made = ⊥
+IsMade Gen given lent told (Encrypted run) = IsRun Gen given told lent run
+IsMade Gen given lent told made = ⊥
 IsMade command given lent told made =
     IsIdle lent × ((files : Files) → told ≡ Some files → IsMeant command given files made)
 
 -- what there is where it found no memory
 abbrev pub IsLost : Command → List Pair → Lent → Option Files → Type 0
-IsLost Run given lent told = RunWants given told lent
+IsLost Run given lent told = RunWants Run given told lent
+IsLost Gen given lent told = RunWants Gen given told lent
 IsLost command given lent told = IsIdle lent
 
 -- the steps after it
@@ -81,17 +87,17 @@ StepsEnd {A} before after Meant (Err refusal) old new =
     ⊎ ((made : A) × ((files : Files) → at.files ≡ Some files → Meant files made)
     × IsRefused (after made) refusal at new)))
 
--- The same of a command's own steps and work, with what it leaves of memory and tap. Where a step before its work was
--- refused, these are as they were.
+-- The same of a command's own steps and work, over the files as they were before it, with what it leaves of memory and
+-- tap. Where a step before its work was refused, these are as they were.
 abbrev pub WorkEnds : Command → List Pair → Lent → Result Made Refusal → HostState → HostState → Type 0
 WorkEnds command given lent (Ok made) old new =
-    (at : HostState) × AllDone (steps_of command given) old at × IsMade command given lent at.files made
+    (at : HostState) × AllDone (steps_of command given) old at × IsMade command given lent old.files made
     × AllDone (last_steps given made) at new
 WorkEnds command given lent (Err refusal) old new =
     (IsIdle lent × IsRefused (steps_of command given) refusal old new)
     ⊎ ((at : HostState) × AllDone (steps_of command given) old at
-    × (((refusal ≡ NoMemory) × (new ≡ at) × IsLost command given lent at.files)
-    ⊎ ((made : Made) × IsMade command given lent at.files made
+    × (((refusal ≡ NoMemory) × (new ≡ at) × IsLost command given lent old.files)
+    ⊎ ((made : Made) × IsMade command given lent old.files made
     × IsRefused (last_steps given made) refusal at new)))
 
 -- the print of a text, if there is one

@@ -17,6 +17,8 @@ use Rattle.secure_machine.specs.LastMove.{IsAfter}
 use Rattle.secure_machine.specs.Run.{IsFlatReport}
 use Rattle.secure_machine.specs.declared.report.Report.{Report}
 use Rattle.ascend_words.specs.Grammar.{Pair}
+use Rattle.ascend_words.specs.declared.table.Command.{Command}
+use Rattle.ascend_words.specs.declared.table.Command.TheVariants.{Run, Flat, Asm, Disasm, Check, Gen}
 use Rattle.ascend_top.specs.EncryptedRun.{IsIdle, Lent, keys_from}
 use Rattle.ascend_top.specs.Run.{IsBegin}
 use Rattle.ascend_top.specs.declared.commands.flat.Program.{Program}
@@ -57,10 +59,19 @@ pub record IsCutShort (program : Program) (lent : Lent) : Type 0 where
   pub after : IsAfter lent.tap'.log.moves end
   pub always : IsAlways program.config lent end
 
--- The command `run` carries the headline. Either nothing was asked of the memory; or the words, settings, key, program
--- and input were accepted, and the headline holds of what was reported; or memory ran out.
-abbrev pub CarriesHeadline : List Pair → Lent → Type 0
-CarriesHeadline given lent =
+-- the commands whose programs run over encrypted memory
+abbrev pub RunsEncrypted : Command → Type 0
+RunsEncrypted Run = Unit {0}
+RunsEncrypted Gen = Unit {0}
+RunsEncrypted Flat = ⊥
+RunsEncrypted Asm = ⊥
+RunsEncrypted Disasm = ⊥
+RunsEncrypted Check = ⊥
+
+-- Such a command carries the headline. Either nothing was asked of the memory; or the words, settings, key, program and
+-- input were accepted, and the headline holds of what was reported; or memory ran out.
+abbrev pub CarriesHeadline : Command → List Pair → Lent → Type 0
+CarriesHeadline command given lent =
     IsIdle lent
-    ⊎ ((told : Option Files) × (begin : Begin) × IsBegin given told begin
+    ⊎ ((told : Option Files) × (begin : Begin) × IsBegin command given told begin
     × (((report : Report) × Headline begin.program begin.key lent report) ⊎ IsCutShort begin.program lent))

@@ -6,6 +6,7 @@ pub mod Disasm
 pub mod EncryptedRun
 pub mod Flat
 pub mod FlatRun
+pub mod Gen
 pub mod Headline
 pub mod Made
 pub mod Parts

@@ -58,12 +58,12 @@ pub record WasRead (source : Source) (name bytes : List ℕ) (old new : HostStat
   pub later : old.faults ≤ new.faults
   pub asked : AsksMore old.asked (ReadsFile name ∷ []) new.asked
 
--- an image is that of the file of this name
-pub record IsImageOf (base size : ℕ) (files : Files) (name : List ℕ) (image : Image) : Type 0 where
-  pub bytes : image.bytes.items ≡ image_bytes base size (bytes_in files name)
-  pub entry : image.entry ≡ entry_of (bytes_in files name)
-  pub heap : image.heap ≡ first_break base size (bytes_in files name)
-  pub marked : image.marked.items ≡ marked_lines base size (bytes_in files name)
+-- an image is that of an ELF file
+pub record IsImageOf (base size : ℕ) (elf : List ℕ) (image : Image) : Type 0 where
+  pub bytes : image.bytes.items ≡ image_bytes base size elf
+  pub entry : image.entry ≡ entry_of elf
+  pub heap : image.heap ≡ first_break base size elf
+  pub marked : image.marked.items ≡ marked_lines base size elf
 
 -- what a run needs of its program: an image of a memory
 pub record CanRun (program : Program) : Type 0 where
@@ -73,7 +73,7 @@ pub record CanRun (program : Program) : Type 0 where
 -- a program is that of the files that words name: its image is that of the ELF file, and its input that of the input
 -- file, and else empty
 pub record IsProgramOf (given : List Pair) (files : Files) (program : Program) : Type 0 where
-  pub image : IsImageOf program.config.base program.config.size files (file_in given Elf) program.image
+  pub image : IsImageOf program.config.base program.config.size (bytes_in files (file_in given Elf)) program.image
   pub input : program.input.items ≡ input_in files given
 
 -- an event draws no leaf, or one of a tree of so many levels

@@ -1,7 +1,7 @@
 -- The steps of commands. Each has the call that it asks of the host, what it takes to be done, and the refusals that it
 -- may end with, each with its cause.
-use Rattle.std.specs.Prelude.{◌≡◌, ◌⊎◌, ℕ, ◌≤◌, ◌<◌, ◌%◌, IsOk, Err, List, [], ◌∷◌, ◌++◌, length, Option, Some}
-use Rattle.std.specs.Prelude.{IfSome, option_map}
+use Rattle.std.specs.Prelude.{◌≡◌, ◌⊎◌, ℕ, ◌≤◌, ◌<◌, ◌%◌, ◌^◌, IsOk, Err, List, [], ◌∷◌, ◌++◌, length, Option}
+use Rattle.std.specs.Prelude.{IfSome, None, Some, option_map}
 use Rattle.asc_base.specs.Settings.{AreAllowed, IsFirstFault as IsFirstSetting}
 use Rattle.asc_base.specs.declared.settings.Settings.{Settings}
 use Rattle.asc_outside.specs.Host.{HostCall, Reads as ReadsFile, Writes as WritesFile, Prints as PrintsText}
@@ -17,7 +17,7 @@ use Rattle.trace_checker.specs.declared.verdict.Verdict.TheVariants.{Holds, Fail
 use Rattle.rv32_asm.specs.File.{assembled}
 use Rattle.rv32_asm.specs.declared.fault.AsmFault.TheVariants.{Bad}
 use Rattle.ascend_words.specs.declared.table.Name.{Name}
-use Rattle.ascend_words.specs.declared.table.Name.TheVariants.{At}
+use Rattle.ascend_words.specs.declared.table.Name.TheVariants.{At, Seed, Words}
 use Rattle.ascend_top.specs.declared.refusal.Refusal.{Refusal}
 use Rattle.ascend_top.specs.declared.refusal.Refusal.TheVariants.{Usage, OutOfRange, Elf, KeyLength, TooLong, Host}
 use Rattle.ascend_top.specs.declared.refusal.Refusal.TheVariants.{NoMemory, NumberOutOfRange, Assembler, Trace, Fails}
@@ -69,25 +69,36 @@ Breaks ATrace bytes (Trace number kind) = IsFirstTraceFault bytes number kind
 Breaks ATrace bytes (Fails number found wanted) = IsChecked bytes (FailsAt number found wanted)
 Breaks rule bytes refusal = ⊥
 
--- the numbers that a name may be given: a place is a multiple of four below 4,294,901,760
+-- the numbers that a name may be given: a place is a multiple of four below 4,294,901,760, a program is made from a
+-- number below 2^32, and has 1 to 65,536 data words
 abbrev pub IsInRange : Name → ℕ → Type 0
 IsInRange At number = (number % 4 ≡ 0) × (number < 4_294_901_760)
+IsInRange Seed number = number < 2 ^ 32
+IsInRange Words number = (1 ≤ number) × (number ≤ 65_536)
 IsInRange name number = Unit {0}
 
--- A step of a command: it judges the settings, judges the number of a name, reads the file of this name, writes these
--- bytes to the file of this name, or prints this text.
+-- A step of a command: it judges the settings, judges the number of a name, reads the file of this name, loads these
+-- bytes, which no file has to have, as a program into the memory of `size` bytes from `base` on, writes these bytes to
+-- the file of this name, or prints this text.
 pub data Step : Type 0 where
   Judges : Settings → Step
   JudgesNumber : Name → (number : ℕ) → Step
   Reads : Source → (name : List ℕ) → Rule → Step
+  Loads : (bytes : List ℕ) → (base size : ℕ) → Step
   Writes : (name bytes : List ℕ) → Step
   Prints : (text : List ℕ) → Step
+
+-- the write of a file, where one is named, and then these steps
+abbrev pub where_named : Option (List ℕ) → (bytes : List ℕ) → List Step → List Step
+where_named None bytes steps = steps
+where_named (Some name) bytes steps = Writes name bytes ∷ steps
 
 -- the call that a step asks of the host, if it asks one
 abbrev pub calls_of : Step → List HostCall
 calls_of (Judges settings) = []
 calls_of (JudgesNumber name number) = []
 calls_of (Reads source name rule) = ReadsFile name ∷ []
+calls_of (Loads bytes base size) = []
 calls_of (Writes name bytes) = WritesFile name ∷ []
 calls_of (Prints text) = PrintsText ∷ []
 
@@ -96,6 +107,7 @@ abbrev pub print_of : Step → List ℕ
 print_of (Judges settings) = []
 print_of (JudgesNumber name number) = []
 print_of (Reads source name rule) = []
+print_of (Loads bytes base size) = []
 print_of (Writes name bytes) = []
 print_of (Prints text) = text
 
@@ -118,6 +130,7 @@ abbrev pub IsDone : Files → Step → Type 0
 IsDone files (Judges settings) = AreAllowed settings
 IsDone files (JudgesNumber name number) = IsInRange name number
 IsDone files (Reads source name rule) = IsRight files source name rule
+IsDone files (Loads bytes base size) = IsFaultless base size bytes
 IsDone files (Writes name bytes) = Unit {0}
 IsDone files (Prints text) = Unit {0}
 
@@ -148,6 +161,12 @@ IsNumberCause name number (NumberOutOfRange other) = (other ≡ name) × ¬ IsIn
 IsNumberCause name number NoMemory = Unit {0}
 IsNumberCause name number refusal = ⊥
 
+-- bytes that are loaded have a fault, the first
+abbrev pub IsLoadCause : (base size : ℕ) → List ℕ → Refusal → Type 0
+IsLoadCause base size bytes (Elf fault) = IsFirstFault base size bytes fault
+IsLoadCause base size bytes NoMemory = Unit {0}
+IsLoadCause base size bytes refusal = ⊥
+
 -- a write and a print are refused where the host fails or there is no memory
 abbrev pub IsWriteCause : Refusal → Type 0
 IsWriteCause Host = Unit {0}
@@ -159,6 +178,7 @@ abbrev pub IsCause : Files → Step → Refusal → Type 0
 IsCause files (Judges settings) refusal = IsSettingCause settings refusal
 IsCause files (JudgesNumber name number) refusal = IsNumberCause name number refusal
 IsCause files (Reads source name rule) refusal = IsReadCause files source name rule refusal
+IsCause files (Loads bytes base size) refusal = IsLoadCause base size bytes refusal
 IsCause files (Writes name bytes) refusal = IsWriteCause refusal
 IsCause files (Prints text) refusal = IsWriteCause refusal
 
@@ -175,6 +195,7 @@ abbrev pub LeavesFiles : Step → Option Files → Option Files → Type 0
 LeavesFiles (Judges settings) old new = new ≡ old
 LeavesFiles (JudgesNumber name number) old new = new ≡ old
 LeavesFiles (Reads source name rule) old new = new ≡ old
+LeavesFiles (Loads bytes base size) old new = new ≡ old
 LeavesFiles (Writes name bytes) old new = OthersStay name old new × IfSome new (λ files. files name ≡ Some bytes)
 LeavesFiles (Prints text) old new = new ≡ old
 
@@ -191,6 +212,7 @@ abbrev pub SparesFiles : Step → Option Files → Option Files → Type 0
 SparesFiles (Judges settings) old new = new ≡ old
 SparesFiles (JudgesNumber name number) old new = new ≡ old
 SparesFiles (Reads source name rule) old new = new ≡ old
+SparesFiles (Loads bytes base size) old new = new ≡ old
 SparesFiles (Writes name bytes) old new = OthersStay name old new
 SparesFiles (Prints text) old new = new ≡ old
 
@@ -199,6 +221,7 @@ abbrev pub SparesPrinted : Step → Option (List ℕ) → Option (List ℕ) → 
 SparesPrinted (Judges settings) old new = new ≡ old
 SparesPrinted (JudgesNumber name number) old new = new ≡ old
 SparesPrinted (Reads source name rule) old new = new ≡ old
+SparesPrinted (Loads bytes base size) old new = new ≡ old
 SparesPrinted (Writes name bytes) old new = new ≡ old
 SparesPrinted (Prints text) old new = Unit {0}
 

@@ -1,21 +1,25 @@
 //! The commands, each with its steps.
-ghost use Rattle.std.specs.Prelude.{◌≡◌};
+ghost use Rattle.std.specs.Prelude.{◌≡◌, [], IfErr, OnOk};
 ghost use Rattle.ascend_top.specs.Command.{bytes_end, end_of, lifted, made_by, run_end};
 ghost use Rattle.ascend_top.specs.FlatRun.{file_in};
 ghost use Rattle.ascend_top.specs.Made.{Encrypted as MadeEncrypted, Ran, Assembled, Listed, Held as MadeHeld};
 ghost use Rattle.ascend_top.specs.Status.{status_of_made};
+ghost use Rattle.ascend_top.specs.Steps.{AllDone, IsRefused, where_named};
+ghost use Rattle.ascend_words.specs.Settings.{text_in};
 
 pub(crate) mod asm;
 pub(crate) mod check;
 pub(crate) mod disasm;
 pub(crate) mod flat;
+pub(crate) mod generated;
 pub(crate) mod run;
 
 use crate::commands::check::Held;
 use crate::commands::flat::Outcome;
 use crate::commands::run::Encrypted;
 use crate::refusal::Refusal;
-use crate::status;
+use crate::{status, steps};
+use asc_outside::Host;
 use ascend_words::{Name, Words};
 
 /// What a command made, all of whose steps were done.
@@ -101,4 +105,22 @@ pub(crate) fn file_of(words: &Words, name: Name) -> &str
     ensures { result.now ≡ file_in words.now.given name }
 {
     words.text(name).unwrap_or("")
+}
+
+/// Writes the file that a name is given, where it is given one.
+pub(crate) fn write_where_named<H: Host>(
+    words: &Words,
+    name: Name,
+    bytes: &[u8],
+    host: &mut H,
+) -> Result<(), Refusal>
+    ensures done { OnOk result (AllDone (where_named (text_in words.now.given name) bytes.now [])
+        (H.state host.old) (H.state host.new)) }
+    ensures refused { IfErr result (λ refusal. IsRefused (where_named (text_in words.now.given name) bytes.now [])
+        refusal (H.state host.old) (H.state host.new)) }
+{
+    match words.text(name) {
+        Some(name) => steps::write_file(name, bytes, host),
+        None => Ok(()),
+    }
 }

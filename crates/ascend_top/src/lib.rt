@@ -1,8 +1,8 @@
 //! The commands of `ascend`, over any host, memory and tap.
 //!
 //! A command is a list of steps: numbers are judged, files are read, a program is run, assembled or listed, or a trace
-//! is checked, files are written, a text is printed. The first refusal ends it, and its text is printed. `run` alone
-//! asks the memory and tells the tap.
+//! is checked, files are written, a text is printed. The first refusal ends it, and its text is printed. `run` and `gen`
+//! alone ask the memory and tell the tap.
 #![tactic(auto)]
 
 mod commands;
@@ -18,18 +18,18 @@ ghost use Rattle.std.specs.Prelude.{◌≡◌, ◌⊎◌, ◌<◌, ◌^◌, ℕ,
 ghost use Rattle.asc_outside.specs.Host.{Files};
 ghost use Rattle.asc_outside.specs.Rose.{Rose};
 ghost use Rattle.ascend_words.specs.Grammar.{Read, IsFault, IsWords, texts};
-ghost use Rattle.ascend_words.specs.declared.table.Command.TheVariants.{Run};
+ghost use Rattle.ascend_words.specs.declared.table.Command.TheVariants.{Gen, Run};
 ghost use Rattle.ascend_top.specs.Command.{AreRight, CommandEnds, Completes, IsFirstRefusal, IsOfFiles, WorkEnds};
 ghost use Rattle.ascend_top.specs.Command.{Tells, end_of, steps_of};
 ghost use Rattle.ascend_top.specs.EncryptedRun.{IsIdle, lent_as};
-ghost use Rattle.ascend_top.specs.Headline.{CarriesHeadline};
+ghost use Rattle.ascend_top.specs.Headline.{CarriesHeadline, RunsEncrypted};
 ghost use Rattle.ascend_top.specs.Made.{Made};
 ghost use Rattle.ascend_top.specs.Status.{status_of, status_of_refusal};
 ghost use Rattle.ascend_top.specs.declared.refusal.Refusal.{Refusal as WhyRefused};
 ghost use Rattle.ascend_top.specs.declared.refusal.Refusal.TheVariants.{Usage};
 
 use crate::commands::{
-    Product, asm, assembled, check, disasm, encrypted, flat, held, listed, ran, run,
+    Product, asm, assembled, check, disasm, encrypted, flat, generated, held, listed, ran, run,
 };
 use crate::refusal::Refusal;
 use asc_outside::{Host, HostFault, UntrustedMemory};
@@ -39,18 +39,18 @@ pub use laws::{assembled_files_are_accepted, reported_runs_leave_their_files};
 pub use status::{HOST_FAILED, NO_MEMORY};
 use std::alloc::Global;
 
-/// Runs a command, and answers its status. `run` runs a program over the memory, whose moves the tap notes; before it
-/// the memory isn't prepared, and the tap was told nothing.
+/// Runs a command, and answers its status. `run` and `gen` run a program over the memory, whose moves the tap notes;
+/// before it the memory isn't prepared, and the tap was told nothing.
 ///
 /// | Status | Comes where |
 /// |---|---|
 /// | 0, 1, 9 | a run ended by exit, by a trap, with its budget |
-/// | 6, 7 | `run` ended with evidence that the memory was altered, with more in the stash than the settings allow |
-/// | 8, 10 | `run` ended with its time, as the memory failed |
+/// | 6, 7 | a run ended with evidence that the memory was altered, with more in the stash than the settings allow |
+/// | 8, 10 | a run ended with its time, as the memory failed |
 /// | 0 | the text was assembled and its file written; the program's statements were printed; the trace holds |
 /// | 2 | the words break a rule, or a required one is missing |
-/// | 3 | the ELF file has a fault, the first of which is printed |
-/// | 4 | a setting isn't in its range, the key file has fewer than 32 bytes, the text has a fault, or is no trace's |
+/// | 3 | the ELF file, or that of a made program, has a fault, the first of which is printed |
+/// | 4 | a setting or number is out of range, the key file is shorter than a key, the text has a fault or is no trace's |
 /// | 5 | a call of the host failed |
 /// | 11 | there is no memory |
 /// | 12 | no choices of rates make the slots of the trace |
@@ -81,9 +81,11 @@ pub fn ascend<H: Host, M: UntrustedMemory>(
         × CommandEnds read (lent_as (M.state memory.old) (M.state memory.new) tap.old tap.new) end
         (H.state host.old) (H.state host.new) }
     ensures others { (read : Read) → IsWords (texts words.now) read → (read.command ≡ Run → ⊥)
+        → (read.command ≡ Gen → ⊥)
         → IsIdle (lent_as (M.state memory.old) (M.state memory.new) tap.old tap.new) }
-    ensures headline { (read : Read) → IsWords (texts words.now) read → read.command ≡ Run
-        → CarriesHeadline read.given (lent_as (M.state memory.old) (M.state memory.new) tap.old tap.new) }
+    ensures headline { (read : Read) → IsWords (texts words.now) read → RunsEncrypted read.command
+        → CarriesHeadline read.command read.given
+        (lent_as (M.state memory.old) (M.state memory.new) tap.old tap.new) }
     ensures complete { (read : Read) (files : Files) → IsWords (texts words.now) read
         → (H.state host.old).files ≡ Some files → AreRight read files
         → ¬ Rose (H.state host.old).faults (H.state host.new).faults
@@ -148,6 +150,7 @@ fn take_steps<H: Host, M: UntrustedMemory>(
         Command::Asm => assembled(asm::asm(alloc, words, host)),
         Command::Disasm => listed(disasm::disasm(alloc, words, host)),
         Command::Check => held(check::check(alloc, words, host)),
+        Command::Gen => { encrypted(generated::run_generated(alloc, words, host, memory, tap)) }
     }
 }
 

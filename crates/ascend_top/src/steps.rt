@@ -9,12 +9,13 @@ ghost use Rattle.elf_loader.specs.Memory.{IsImage};
 ghost use Rattle.ascend_top.specs.Asm.{file_of_text};
 ghost use Rattle.ascend_top.specs.FlatRun.{bytes_in};
 ghost use Rattle.ascend_top.specs.Parts.{IsImageOf, WasRead, IsConfigOf, unread, unwritten};
-ghost use Rattle.ascend_top.specs.Steps.{AKey, AnElf, AText, ATrace, Anything, IsChecked, Judges, JudgesNumber, Reads};
-ghost use Rattle.ascend_top.specs.Steps.{Writes, Prints, Rule, Does, Refuses};
+ghost use Rattle.ascend_top.specs.Steps.{AKey, AnElf, AText, ATrace, Anything, IsChecked, Judges, JudgesNumber, Loads};
+ghost use Rattle.ascend_top.specs.Steps.{Reads, Writes, Prints, Rule, Does, Refuses};
 ghost use Rattle.ascend_top.specs.declared.refusal.Source.TheVariants.{Key as KeyFile, Elf as ElfFile};
 ghost use Rattle.ascend_top.specs.declared.refusal.Source.TheVariants.{Text as TextFile, Trace as TraceFile};
 ghost use Rattle.trace_checker.specs.declared.verdict.Verdict.TheVariants.{Holds};
-ghost use Rattle.ascend_words.specs.declared.table.Name.TheVariants.{At as AtName};
+ghost use Rattle.ascend_words.specs.declared.table.Name.TheVariants.{At as AtName, Seed as SeedName};
+ghost use Rattle.ascend_words.specs.declared.table.Name.TheVariants.{Words as WordsName};
 
 use crate::commands::check::Held;
 use crate::refusal::{KEY_LENGTH, Refusal, Source};
@@ -52,6 +53,34 @@ pub(crate) fn judge_place(at: u64) -> Result<u32, Refusal>
         return Err(Refusal::NumberOutOfRange(Name::At));
     }
     Ok(at as u32)
+}
+
+/// Judges the number that a program is to be made from.
+pub(crate) fn judge_seed(seed: u64) -> Result<u32, Refusal>
+    ensures seed { IfOk result (λ judged. judged ≡ seed) }
+    ensures judged { OnOk result ((state : HostState) → Does (JudgesNumber SeedName seed) state state) }
+    ensures refused { IfErr result (λ refusal. (state : HostState)
+        → Refuses (JudgesNumber SeedName seed) refusal state state) }
+{
+    if seed >= 4_294_967_296 {
+        return Err(Refusal::NumberOutOfRange(Name::Seed));
+    }
+    Ok(seed as u32)
+}
+
+/// Judges how many data words a made program is to have.
+pub(crate) fn judge_count(count: u64) -> Result<u32, Refusal>
+    ensures count { IfOk result (λ judged. judged ≡ count) }
+    ensures some { IfOk result (λ judged. 1 ≤ judged) }
+    ensures most { IfOk result (λ judged. judged ≤ 65_536) }
+    ensures judged { OnOk result ((state : HostState) → Does (JudgesNumber WordsName count) state state) }
+    ensures refused { IfErr result (λ refusal. (state : HostState)
+        → Refuses (JudgesNumber WordsName count) refusal state state) }
+{
+    if count < 1 || count > 65_536 {
+        return Err(Refusal::NumberOutOfRange(Name::Words));
+    }
+    Ok(count as u32)
 }
 
 /// Why a command is refused whose host refuses to read the file.
@@ -130,7 +159,7 @@ pub(crate) fn read_elf<H: Host>(
     requires { IsMemory base size }
     ensures memory { IfOk result (IsImage base size) }
     ensures image { IfOk result (λ image. (files : Files) → (H.state host.new).files ≡ Some files
-        → IsImageOf base size files name.now image) }
+        → IsImageOf base size (bytes_in files name.now) image) }
     ensures read { OnOk result (Does (Reads ElfFile name.now (AnElf base size)) (H.state host.old) (H.state host.new)) }
     ensures refused { IfErr result (λ refusal.
         Refuses (Reads ElfFile name.now (AnElf base size)) refusal (H.state host.old) (H.state host.new)) }
@@ -140,6 +169,22 @@ pub(crate) fn read_elf<H: Host>(
         Err(refusal) => return Err(refusal),
     };
     match elf_loader::parse(alloc, file.as_slice(), base, size) {
+        Ok(image) => Ok(image),
+        Err(ElfFault::NoMemory) => Err(Refusal::NoMemory),
+        Err(fault) => Err(Refusal::Elf(fault)),
+    }
+}
+
+/// Loads a file that wasn't read, and lays out its memory.
+pub(crate) fn load(alloc: Global, file: &[u8], base: u32, size: u32) -> Result<Image, Refusal>
+    requires { IsMemory base size }
+    ensures memory { IfOk result (IsImage base size) }
+    ensures image { IfOk result (IsImageOf base size file.now) }
+    ensures loaded { OnOk result ((state : HostState) → Does (Loads file.now base size) state state) }
+    ensures refused { IfErr result (λ refusal. (state : HostState)
+        → Refuses (Loads file.now base size) refusal state state) }
+{
+    match elf_loader::parse(alloc, file, base, size) {
         Ok(image) => Ok(image),
         Err(ElfFault::NoMemory) => Err(Refusal::NoMemory),
         Err(fault) => Err(Refusal::Elf(fault)),

@@ -1,5 +1,6 @@
 mod assembling;
 mod checking;
+mod generating;
 mod running;
 
 ghost use Rattle.std.specs.Prelude.{◌≡◌, ◌<◌, ◌≤◌, ◌^◌};

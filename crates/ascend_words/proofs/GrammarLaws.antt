@@ -17,11 +17,11 @@ use Rattle.ascend_words.specs.Reading.{pair_of, pairs, IsMisfit}
 use Rattle.ascend_words.specs.Tables.{commanded, command_text, commands, is_same, name_text, named, names}
 use Rattle.ascend_words.specs.declared.given.Given.{Given}
 use Rattle.ascend_words.specs.declared.table.Command.{Command}
-use Rattle.ascend_words.specs.declared.table.Command.TheVariants.{Run, Flat, Asm, Disasm, Check}
+use Rattle.ascend_words.specs.declared.table.Command.TheVariants.{Run, Flat, Asm, Disasm, Check, Gen}
 use Rattle.ascend_words.specs.declared.table.Name.{Name}
 use Rattle.ascend_words.specs.declared.table.Name.TheVariants.{Elf, Key, Output, Input, Text, Trace, At, Size, Base}
 use Rattle.ascend_words.specs.declared.table.Name.TheVariants.{Sets, Ways, Plb, Roots, Ic, Stash, Budget, Time, Leak}
-use Rattle.ascend_words.specs.declared.table.Name.TheVariants.{Rates, First, Epoch}
+use Rattle.ascend_words.specs.declared.table.Name.TheVariants.{Rates, First, Epoch, Save, Seed, Words}
 use Rattle.ascend_words.proofs.NumberLaws.{both_true}
 
 -- The laws of the tables, each with one case for each row.
@@ -32,6 +32,7 @@ commanded-text Flat = refl
 commanded-text Asm = refl
 commanded-text Disasm = refl
 commanded-text Check = refl
+commanded-text Gen = refl
 
 pub named-text : (name : Name) → named (name_text name) ≡ Some name
 named-text Elf = refl
@@ -40,7 +41,10 @@ named-text Output = refl
 named-text Input = refl
 named-text Text = refl
 named-text Trace = refl
+named-text Save = refl
 named-text At = refl
+named-text Seed = refl
+named-text Words = refl
 named-text Size = refl
 named-text Base = refl
 named-text Sets = refl
@@ -67,7 +71,10 @@ name_lacks Output = refl
 name_lacks Input = refl
 name_lacks Text = refl
 name_lacks Trace = refl
+name_lacks Save = refl
 name_lacks At = refl
+name_lacks Seed = refl
+name_lacks Words = refl
 name_lacks Size = refl
 name_lacks Base = refl
 name_lacks Sets = refl

@@ -4,17 +4,17 @@ use Rattle.std.specs.Prelude.{ℕ, List, [], ◌∷◌, codes, Bool, ◌||◌, O
 use Rattle.std.specs.List.{find, list_any}
 use Rattle.std.specs.Str.{bytes_eq}
 use Rattle.ascend_words.specs.declared.table.Command.{Command}
-use Rattle.ascend_words.specs.declared.table.Command.TheVariants.{Run, Flat, Asm, Disasm, Check}
+use Rattle.ascend_words.specs.declared.table.Command.TheVariants.{Run, Flat, Asm, Disasm, Check, Gen}
 use Rattle.ascend_words.specs.declared.table.Kind.{Kind}
 use Rattle.ascend_words.specs.declared.table.Kind.TheVariants.{File, Number, Rates as Numbers}
 use Rattle.ascend_words.specs.declared.table.Name.{Name}
 use Rattle.ascend_words.specs.declared.table.Name.TheVariants.{Elf, Key, Output, Input, Text, Trace, At, Size, Base}
 use Rattle.ascend_words.specs.declared.table.Name.TheVariants.{Sets, Ways, Plb, Roots, Ic, Stash, Budget, Time, Leak}
-use Rattle.ascend_words.specs.declared.table.Name.TheVariants.{Rates, First, Epoch}
+use Rattle.ascend_words.specs.declared.table.Name.TheVariants.{Rates, First, Epoch, Save, Seed, Words}
 
 -- the commands
 abbrev pub commands : List Command
-commands = Run ∷ Flat ∷ Asm ∷ Disasm ∷ Check ∷ []
+commands = Run ∷ Flat ∷ Asm ∷ Disasm ∷ Check ∷ Gen ∷ []
 
 abbrev pub command_text : Command → List ℕ
 command_text Run = codes "run"
@@ -22,6 +22,7 @@ command_text Flat = codes "flat"
 command_text Asm = codes "asm"
 command_text Disasm = codes "disasm"
 command_text Check = codes "check"
+command_text Gen = codes "gen"
 
 abbrev pub required : Command → List Name
 required Run = Elf ∷ Key ∷ Output ∷ []
@@ -29,6 +30,7 @@ required Flat = Elf ∷ Output ∷ []
 required Asm = Text ∷ Elf ∷ []
 required Disasm = Elf ∷ []
 required Check = Trace ∷ []
+required Gen = Seed ∷ Words ∷ Key ∷ Output ∷ []
 
 abbrev pub optional : Command → List Name
 optional Run =
@@ -38,12 +40,15 @@ optional Flat = Input ∷ Size ∷ Base ∷ Budget ∷ []
 optional Asm = At ∷ []
 optional Disasm = Size ∷ Base ∷ []
 optional Check = []
+optional Gen =
+    Save ∷ Trace ∷ Size ∷ Base ∷ Sets ∷ Ways ∷ Plb ∷ Roots ∷ Ic ∷ Stash ∷ Budget ∷ Time ∷ Leak ∷ Rates ∷ First
+    ∷ Epoch ∷ []
 
 -- the names
 abbrev pub names : List Name
 names =
-    Elf ∷ Key ∷ Output ∷ Input ∷ Text ∷ Trace ∷ At ∷ Size ∷ Base ∷ Sets ∷ Ways ∷ Plb ∷ Roots ∷ Ic ∷ Stash ∷ Budget
-    ∷ Time ∷ Leak ∷ Rates ∷ First ∷ Epoch ∷ []
+    Elf ∷ Key ∷ Output ∷ Input ∷ Text ∷ Trace ∷ Save ∷ At ∷ Seed ∷ Words ∷ Size ∷ Base ∷ Sets ∷ Ways ∷ Plb ∷ Roots
+    ∷ Ic ∷ Stash ∷ Budget ∷ Time ∷ Leak ∷ Rates ∷ First ∷ Epoch ∷ []
 
 abbrev pub name_text : Name → List ℕ
 name_text Elf = codes "elf"
@@ -52,7 +57,10 @@ name_text Output = codes "output"
 name_text Input = codes "input"
 name_text Text = codes "text"
 name_text Trace = codes "trace"
+name_text Save = codes "save"
 name_text At = codes "at"
+name_text Seed = codes "seed"
+name_text Words = codes "words"
 name_text Size = codes "size"
 name_text Base = codes "base"
 name_text Sets = codes "sets"
@@ -75,7 +83,10 @@ kind_of Output = File
 kind_of Input = File
 kind_of Text = File
 kind_of Trace = File
+kind_of Save = File
 kind_of At = Number
+kind_of Seed = Number
+kind_of Words = Number
 kind_of Size = Number
 kind_of Base = Number
 kind_of Sets = Number

@@ -17,6 +17,8 @@ pub enum Command {
     Disasm,
     /// Checks a trace.
     Check,
+    /// Makes a program, and runs it on the processor.
+    Gen,
 }
 
 /// The name of a word.
@@ -34,8 +36,14 @@ pub enum Name {
     Text,
     /// The file of a trace.
     Trace,
+    /// The file that a made program is written to.
+    Save,
     /// Where the assembled program begins.
     At,
+    /// The number that a program is made from.
+    Seed,
+    /// The data words of a made program.
+    Words,
     /// The bytes of memory.
     Size,
     /// The first address of memory.
@@ -78,23 +86,27 @@ pub(crate) enum Kind {
 }
 
 /// Every command.
-const COMMANDS: [Command; 5] = [
+const COMMANDS: [Command; 6] = [
     Command::Run,
     Command::Flat,
     Command::Asm,
     Command::Disasm,
     Command::Check,
+    Command::Gen,
 ];
 
 /// Every name.
-const NAMES: [Name; 21] = [
+const NAMES: [Name; 24] = [
     Name::Elf,
     Name::Key,
     Name::Output,
     Name::Input,
     Name::Text,
     Name::Trace,
+    Name::Save,
     Name::At,
+    Name::Seed,
+    Name::Words,
     Name::Size,
     Name::Base,
     Name::Sets,
@@ -122,6 +134,7 @@ impl Command {
             Command::Asm => "asm",
             Command::Disasm => "disasm",
             Command::Check => "check",
+            Command::Gen => "gen",
         }
     }
 
@@ -141,6 +154,7 @@ impl Command {
             Command::Asm => &[Name::Text, Name::Elf],
             Command::Disasm => &[Name::Elf],
             Command::Check => &[Name::Trace],
+            Command::Gen => &[Name::Seed, Name::Words, Name::Key, Name::Output],
         }
     }
 
@@ -171,6 +185,24 @@ impl Command {
             Command::Asm => &[Name::At],
             Command::Disasm => &[Name::Size, Name::Base],
             Command::Check => &[],
+            Command::Gen => &[
+                Name::Save,
+                Name::Trace,
+                Name::Size,
+                Name::Base,
+                Name::Sets,
+                Name::Ways,
+                Name::Plb,
+                Name::Roots,
+                Name::Ic,
+                Name::Stash,
+                Name::Budget,
+                Name::Time,
+                Name::Leak,
+                Name::Rates,
+                Name::First,
+                Name::Epoch,
+            ],
         }
     }
 
@@ -201,7 +233,10 @@ impl Name {
             Name::Input => "input",
             Name::Text => "text",
             Name::Trace => "trace",
+            Name::Save => "save",
             Name::At => "at",
+            Name::Seed => "seed",
+            Name::Words => "words",
             Name::Size => "size",
             Name::Base => "base",
             Name::Sets => "sets",
@@ -230,11 +265,17 @@ impl Name {
         ensures { result ≡ kind_of self }
     {
         match self {
-            Name::Elf | Name::Key | Name::Output | Name::Input | Name::Text | Name::Trace => {
-                Kind::File
-            }
+            Name::Elf
+            | Name::Key
+            | Name::Output
+            | Name::Input
+            | Name::Text
+            | Name::Trace
+            | Name::Save => Kind::File,
             Name::Rates => Kind::Rates,
             Name::At
+            | Name::Seed
+            | Name::Words
             | Name::Size
             | Name::Base
             | Name::Sets

@@ -3,7 +3,7 @@ use std::alloc::{AllocError, Global};
 use std::test::Fail;
 
 /// Words that are right: the line, and the text of `output`.
-const READ: [(&str, Command, &str); 11] = [
+const READ: [(&str, Command, &str); 13] = [
     ("run elf=a key=k output=o", Command::Run, "o"),
     ("run output=o key=k elf=a", Command::Run, "o"),
     ("run key=k output=o elf=a", Command::Run, "o"),
@@ -27,10 +27,16 @@ const READ: [(&str, Command, &str); 11] = [
         Command::Run,
         "o",
     ),
+    ("gen seed=0 words=1 key=k output=o", Command::Gen, "o"),
+    (
+        "gen save=s trace=t size=1 rates=2 output=o words=9999999999 key=k seed=9999999999",
+        Command::Gen,
+        "o",
+    ),
 ];
 
 /// Words that are wrong: the line, and the number of the first word that breaks a rule.
-const REFUSED: [(&str, u64); 44] = [
+const REFUSED: [(&str, u64); 49] = [
     ("", 1),
     ("run", 2),
     ("flat", 2),
@@ -78,6 +84,11 @@ const REFUSED: [(&str, u64); 44] = [
     ("disasm elf=a output=o", 3),
     ("check trace=t elf=a", 3),
     ("check elf=a", 2),
+    ("gen seed=0 key=k output=o", 5),
+    ("gen words=1 key=k output=o", 5),
+    ("gen seed=0 words=1 output=o", 5),
+    ("gen seed=0 words=1 key=k output=o elf=a", 6),
+    ("gen seed=0 words=1 key=k output=o input=i", 6),
 ];
 
 fn words_of(alloc: Global, line: &str) -> Result<Vec<String>, AllocError> {
@@ -144,6 +155,9 @@ fn settings_are_the_given_ones_and_else_the_defaults(rt: HostRuntime) -> Result<
     assert!(rt; words.text(Name::Text) == Some("t") && words.text(Name::At).is_none());
     let words = read_line(rt.alloc(), "disasm elf=a base=4096")?;
     assert!(rt; words.command() == Command::Disasm && words.settings().base == 4_096);
+    let words = read_line(rt.alloc(), "gen seed=0 words=12 key=k output=o save=s")?;
+    assert!(rt; words.number(Name::Seed) == Some(0) && words.number(Name::Words) == Some(12));
+    assert!(rt; words.text(Name::Save) == Some("s") && words.text(Name::Words).is_none());
     let words = read_line(rt.alloc(), "check trace=t")?;
     assert!(rt; words.command() == Command::Check && words.text(Name::Trace) == Some("t"));
     Ok(())

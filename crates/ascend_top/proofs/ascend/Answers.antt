@@ -10,7 +10,7 @@ use Rattle.ascend_top.specs.declared.refusal.Refusal.TheVariants.{Usage, NoMemor
 use Rattle.ascend_top.specs.EncryptedRun.{lent_as}
 use Rattle.ascend_top.proofs.EndLaws.{completes, lost_at_start, others_idle, refuses_first, tells_nothing}
 use Rattle.ascend_top.proofs.EndLaws.{tells_no_text}
-use Rattle.ascend_top.proofs.HeadlineLaws.{run_carries}
+use Rattle.ascend_top.proofs.HeadlineLaws.{ends_carry}
 use Rattle.ascend_top.proofs.ascend.Goals as goal
 
 -- one answer isn't another
@@ -101,22 +101,22 @@ pub returns-in-Err-NoMemory-clause-refused : goal.returns-in-Err-NoMemory-clause
 returns-in-Err-NoMemory-clause-refused g c read files refusal is told of first safe = inl refl
 
 pub returns-in-Ok-clause-others : goal.returns-in-Ok-clause-others
-returns-in-Ok-clause-others g c read is other =
+returns-in-Ok-clause-others g c read is not_run not_gen =
     let ends = returns-in-Ok-clause-command g c read is in
-    others_idle read _ (ends.0) _ _ other (ends.2)
+    others_idle read _ (ends.0) _ _ (not_run, not_gen) (ends.2)
 
 pub returns-in-Ok-clause-unread : goal.returns-in-Ok-clause-unread
 returns-in-Ok-clause-unread g c word fault = read_right _ word (c.in-Ok.ensures.refused word fault)
 
 pub returns-in-Ok-clause-headline : goal.returns-in-Ok-clause-headline
-returns-in-Ok-clause-headline g c read is run =
+returns-in-Ok-clause-headline g c read is yes =
     let ends = returns-in-Ok-clause-command g c read is in
-    run_carries read _ (ends.0) _ _ run (ends.2)
+    ends_carry read _ (ends.0) _ _ yes (ends.2)
 
 pub returns-in-Err-Usage-clause-headline : goal.returns-in-Err-Usage-clause-headline
-returns-in-Err-Usage-clause-headline g c read is run =
+returns-in-Err-Usage-clause-headline g c read is yes =
     let accepted = rw c.in-Err-Usage.field-0-is at c.in-Err-Usage.ensures.accepted in
     wrong_right c.in-Err-Usage.word read (accepted read is)
 
 pub returns-in-Err-NoMemory-clause-headline : goal.returns-in-Err-NoMemory-clause-headline
-returns-in-Err-NoMemory-clause-headline g c read is run = inl (record { memory = refl; tap = refl })
+returns-in-Err-NoMemory-clause-headline g c read is yes = inl (record { memory = refl; tap = refl })

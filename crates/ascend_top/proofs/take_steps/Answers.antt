@@ -1,5 +1,5 @@
 use Rattle.std.proofs.Common.{◌≡◌, ◌∙◌, ap, sym, refl, subst}
-use Rattle.ascend_words.specs.declared.table.Command.TheVariants.{Run, Flat, Asm, Disasm, Check}
+use Rattle.ascend_words.specs.declared.table.Command.TheVariants.{Run, Flat, Asm, Disasm, Check, Gen}
 use Rattle.ascend_top.specs.Asm.{asm_file, write_steps}
 use Rattle.ascend_top.specs.Check.{AreHeld, held_steps}
 use Rattle.ascend_top.specs.Command.{WorkEnds, bytes_end, end_of, run_end}
@@ -22,6 +22,17 @@ returns-in-Run g c =
     ∙ c.command.ensures)
     (subst (λ end. WorkEnds Run given lent end old new) (sym c.encrypted.ensures) c.run.ensures)
 
+pub returns-in-Gen : goal.returns-in-Gen
+returns-in-Gen g c =
+    let given = c.args.words.now.given in
+    let old = g.H.Host.state c.args.host.now in
+    let new = g.H.Host.state c.run_generated.new.host in
+    let lent = lent_as (g.M.UntrustedMemory.state c.args.memory.now)
+    (g.M.UntrustedMemory.state c.run_generated.new.memory) c.args.tap.now c.run_generated.new.tap in
+    subst (λ command. WorkEnds command given lent (end_of c.encrypted-in-Gen.result) old new) (sym c.in-Gen.is
+    ∙ c.command.ensures)
+    (subst (λ end. WorkEnds Gen given lent end old new) (sym c.encrypted-in-Gen.ensures) c.run_generated.ensures)
+
 pub returns-in-Flat : goal.returns-in-Flat
 returns-in-Flat g c =
     let given = c.args.words.now.given in
@@ -34,6 +45,7 @@ returns-in-Flat g c =
     ∙ c.command.ensures)
     (subst (λ end. WorkEnds Flat given lent end old new) (sym c.ran.ensures)
     (lift_ends Ran (report_steps given) (λ files made. made ≡ flat_report given files) Flat given lent idle
+    (λ e. absurd (let no : ⊥ = cc in no))
     (λ made. refl) (λ told made is. (idle, λ files e. ap Ran (is files e))) (λ told. idle)
     (run_end c.flat.result) old new c.flat.ensures))
 
@@ -49,6 +61,7 @@ returns-in-Asm g c =
     ∙ c.command.ensures)
     (subst (λ end. WorkEnds Asm given lent end old new) (sym c.assembled.ensures)
     (lift_ends Assembled (write_steps given) (λ files made. made ≡ asm_file given files) Asm given lent idle
+    (λ e. absurd (let no : ⊥ = cc in no))
     (λ made. refl) (λ told made is. (idle, λ files e. ap Assembled (is files e))) (λ told. idle)
     (bytes_end (λ file. file.items) c.asm.result) old new c.asm.ensures))
 
@@ -64,6 +77,7 @@ returns-in-Disasm g c =
     ∙ c.command.ensures)
     (subst (λ end. WorkEnds Disasm given lent end old new) (sym c.listed.ensures)
     (lift_ends Listed print_steps (λ files made. made ≡ disasm_listing given files) Disasm given lent idle
+    (λ e. absurd (let no : ⊥ = cc in no))
     (λ made. refl) (λ told made is. (idle, λ files e. ap Listed (is files e))) (λ told. idle)
     (bytes_end (λ text. text.items) c.disasm.result) old new c.disasm.ensures))
 
@@ -80,4 +94,5 @@ returns-in-Check g c =
     (subst (λ end. WorkEnds Check given lent end old new) (sym c.held.ensures)
     (lift_ends (λ held. Held held.code held.bits) (λ held. held_steps held.code held.bits)
     (λ files held. AreHeld given files held.code held.bits) Check given lent idle
+    (λ e. absurd (let no : ⊥ = cc in no))
     (λ made. refl) (λ told made is. (idle, is)) (λ told. idle) c.check.result old new c.check.ensures))

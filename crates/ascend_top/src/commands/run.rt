@@ -6,14 +6,12 @@ ghost use Rattle.bus_watch.specs.Same.{IsSameBus};
 ghost use Rattle.elf_loader.specs.Memory.{IsImage};
 ghost use Rattle.ascend_top.specs.EncryptedRun.{IsRunOf, IsWantOf, lent_as};
 ghost use Rattle.ascend_top.specs.Made.{Encrypted as MadeEncrypted};
-ghost use Rattle.ascend_top.specs.Run.{IsBegin, IsOutcome, run_report_steps, run_steps, traced};
+ghost use Rattle.ascend_top.specs.Run.{BegunEnds, IsBegin, IsOutcome, run_report_steps, run_steps};
 ghost use Rattle.ascend_top.specs.Steps.{AllDone, IsRefused};
-ghost use Rattle.ascend_words.specs.Settings.{text_in};
 ghost use Rattle.ascend_words.specs.declared.table.Command.TheVariants.{Run};
-ghost use Rattle.ascend_words.specs.declared.table.Name.TheVariants.{Trace as TraceName};
 
-use crate::commands::file_of;
 use crate::commands::flat::{Program, read_program};
+use crate::commands::{file_of, write_where_named};
 use crate::refusal::{KEY_LENGTH, Refusal};
 use crate::{steps, text, traces};
 use asc_base::NoMemory;
@@ -46,7 +44,7 @@ pub(crate) struct Encrypted {
 
 /// The steps of `run` before its run.
 fn prepare<H: Host>(alloc: Global, words: &Words, host: &mut H) -> Result<Begin, Refusal>
-    ensures begin { IfOk result (IsBegin words.now.given (H.state host.new).files) }
+    ensures begin { IfOk result (IsBegin Run words.now.given (H.state host.old).files) }
     ensures done { OnOk result (AllDone (run_steps words.now.given) (H.state host.old) (H.state host.new)) }
     ensures refused { IfErr result (λ refusal.
         IsRefused (run_steps words.now.given) refusal (H.state host.old) (H.state host.new)) }
@@ -169,19 +167,6 @@ fn run_traced<M: UntrustedMemory>(
     }
 }
 
-/// Writes the file of the trace, where one is named.
-fn write_trace<H: Host>(words: &Words, trace: &[u8], host: &mut H) -> Result<(), Refusal>
-    ensures done { OnOk result (AllDone (traced (text_in words.now.given TraceName) trace.now [])
-        (H.state host.old) (H.state host.new)) }
-    ensures refused { IfErr result (λ refusal. IsRefused (traced (text_in words.now.given TraceName) trace.now [])
-        refusal (H.state host.old) (H.state host.new)) }
-{
-    match words.text(Name::Trace) {
-        Some(name) => steps::write_file(name, trace, host),
-        None => Ok(()),
-    }
-}
-
 /// Writes the output file and that of the trace, where one is named, and prints the report.
 fn report<H: Host>(
     alloc: Global,
@@ -199,13 +184,43 @@ fn report<H: Host>(
         Ok(()) => {}
         Err(refusal) => return Err(refusal),
     }
-    match write_trace(words, run.trace.as_slice(), host) {
+    match write_where_named(words, Name::Trace, run.trace.as_slice(), host) {
         Ok(()) => {}
         Err(refusal) => return Err(refusal),
     }
     match text::run_text(alloc, run) {
         Ok(text) => steps::print(text.as_bytes(), host),
         Err(_) => Err(Refusal::NoMemory),
+    }
+}
+
+/// Runs what a run is of over a memory and its tap, and does the steps after it.
+pub(crate) fn run_and_report<H: Host, M: UntrustedMemory>(
+    alloc: Global,
+    words: &Words,
+    begin: &Begin,
+    host: &mut H,
+    memory: &mut M,
+    tap: &mut Recorder,
+) -> Result<Encrypted, Refusal>
+    requires config { IsConfig begin.now.program.config }
+    requires image { IsImage begin.now.program.config.base begin.now.program.config.size begin.now.program.image }
+    requires fresh { (M.state memory.old).count ≡ 0 }
+    requires moved { (M.state memory.old).moved < 2 ^ 62 }
+    requires no_events { tap.old.log.events ≡ [] }
+    requires no_moves { tap.old.log.moves ≡ [] }
+    requires no_altered { tap.old.log.altered ≡ [] }
+    ensures { BegunEnds words.now.given begin.now
+        (lent_as (M.state memory.old) (M.state memory.new) tap.old tap.new) result
+        (H.state host.old) (H.state host.new) }
+{
+    let run = match run_traced(alloc, words, begin, memory, tap) {
+        Ok(run) => run,
+        Err(_) => return Err(Refusal::NoMemory),
+    };
+    match report(alloc, words, &run, host) {
+        Ok(()) => Ok(run),
+        Err(refusal) => Err(refusal),
     }
 }
 
@@ -225,16 +240,8 @@ pub(crate) fn run<H: Host, M: UntrustedMemory>(
     ensures { WorkEnds Run words.now.given (lent_as (M.state memory.old) (M.state memory.new) tap.old tap.new)
         (lifted MadeEncrypted result) (H.state host.old) (H.state host.new) }
 {
-    let begin = match prepare(alloc, words, host) {
-        Ok(begin) => begin,
-        Err(refusal) => return Err(refusal),
-    };
-    let run = match run_traced(alloc, words, &begin, memory, tap) {
-        Ok(run) => run,
-        Err(_) => return Err(Refusal::NoMemory),
-    };
-    match report(alloc, words, &run, host) {
-        Ok(()) => Ok(run),
+    match prepare(alloc, words, host) {
+        Ok(begin) => run_and_report(alloc, words, &begin, host, memory, tap),
         Err(refusal) => Err(refusal),
     }
 }

@@ -15,7 +15,7 @@ const LOAD: [u32; 3] = [0x0400_2283, 0x05d0_0893, 0x0000_0073];
 const JUMP: [u32; 1] = [0x0000_006f];
 
 /// The ten lines of a report: the ending, instructions, cycles, last, fetches, real, dummies, choices, code, altered.
-fn report(alloc: Global, end: &str, numbers: [u64; 9]) -> Result<String, AllocError> {
+pub(super) fn report(alloc: Global, end: &str, numbers: [u64; 9]) -> Result<String, AllocError> {
     let mut text = format!(in alloc; "end {end}\n")?;
     let names = [
         "instructions",

@@ -1,5 +1,6 @@
-use Rattle.std.proofs.Common.{◌≡◌, inl, inr, subst, sym, ◌∙◌}
+use Rattle.std.proofs.Common.{◌≡◌, inl, inr, subst, ◌∙◌}
 use Rattle.ascend_words.specs.Settings.{settings_of}
+use Rattle.ascend_words.specs.declared.table.Command.TheVariants.{Run}
 use Rattle.ascend_top.specs.FlatRun.{bytes_in}
 use Rattle.ascend_top.specs.Steps.{AKey, Does, Judges, Reads, Refuses}
 use Rattle.ascend_top.specs.declared.refusal.Source.TheVariants.{Key as KeyFile}
@@ -47,12 +48,13 @@ returns-in-Err-read_program-clause-refused g c =
 pub returns-in-Ok-read_program-clause-begin : goal.returns-in-Ok-read_program-clause-begin
 returns-in-Ok-read_program-clause-begin g c =
     let given = c.args.words.now.given in
+    let old = g.H.Host.state c.args.host.now in
     let mid = g.H.Host.state c.read_key.new.host in
     let new = g.H.Host.state c.read_program.new.host in
-    begins given new.files c.settings.result.now c.in-Ok.config c.in-Ok-read_key.key c.in-Ok-read_program.program
+    let later = program_files (settings_of given) given mid new c.in-Ok-read_program.ensures.done in
+    begins Run given old.files c.settings.result.now c.in-Ok.config c.in-Ok-read_key.key c.in-Ok-read_program.program
     c.settings.ensures c.in-Ok.ensures.config c.in-Ok-read_program.ensures.config c.in-Ok-read_program.ensures.can
     c.in-Ok-read_key.ensures.length
     (λ files told. subst (λ name. c.in-Ok-read_key.key ≡ bytes_in files name) c.file_of-key.ensures
-    (c.in-Ok-read_key.ensures.key files
-    (sym (program_files (settings_of given) given mid new c.in-Ok-read_program.ensures.done) ∙ told)))
-    c.in-Ok-read_program.ensures.told
+    (c.in-Ok-read_key.ensures.key files (c.in-Ok-read_key.ensures.read.files ∙ told)))
+    (λ files told. c.in-Ok-read_program.ensures.told files (later ∙ c.in-Ok-read_key.ensures.read.files ∙ told))
