@@ -60,46 +60,46 @@ run_carried command given lent told run is = inr (
 
 made_carries : (command : Command) (given : List Pair) (lent : Lent) (told : Option Files) (made : Made)
     → RunsEncrypted command → IsMade command given lent told made → CarriesHeadline command given lent
-made_carries Run given lent told (Encrypted run) yes is = run_carried Run given lent told run is
-made_carries Run given lent told (Ran report) yes is = absurd is
-made_carries Run given lent told (Assembled file) yes is = absurd is
-made_carries Run given lent told (Listed text) yes is = absurd is
-made_carries Run given lent told (Held code bits) yes is = absurd is
-made_carries Gen given lent told (Encrypted run) yes is = run_carried Gen given lent told run is
-made_carries Gen given lent told (Ran report) yes is = absurd is
-made_carries Gen given lent told (Assembled file) yes is = absurd is
-made_carries Gen given lent told (Listed text) yes is = absurd is
-made_carries Gen given lent told (Held code bits) yes is = absurd is
-made_carries Flat given lent told made yes is = absurd yes
-made_carries Asm given lent told made yes is = absurd yes
-made_carries Disasm given lent told made yes is = absurd yes
-made_carries Check given lent told made yes is = absurd yes
+made_carries Run given lent told (Encrypted run) may is = run_carried Run given lent told run is
+made_carries Run given lent told (Ran report) may is = absurd is
+made_carries Run given lent told (Assembled file) may is = absurd is
+made_carries Run given lent told (Listed text) may is = absurd is
+made_carries Run given lent told (Held code bits) may is = absurd is
+made_carries Gen given lent told (Encrypted run) may is = run_carried Gen given lent told run is
+made_carries Gen given lent told (Ran report) may is = absurd is
+made_carries Gen given lent told (Assembled file) may is = absurd is
+made_carries Gen given lent told (Listed text) may is = absurd is
+made_carries Gen given lent told (Held code bits) may is = absurd is
+made_carries Flat given lent told made may is = absurd may
+made_carries Asm given lent told made may is = absurd may
+made_carries Disasm given lent told made may is = absurd may
+made_carries Check given lent told made may is = absurd may
 
 lost_carries : (command : Command) (given : List Pair) (lent : Lent) (told : Option Files)
     → RunsEncrypted command → IsLost command given lent told → CarriesHeadline command given lent
-lost_carries Run given lent told yes is =
+lost_carries Run given lent told may is =
     inr (told, is.begin, is.begins, inr (cut_short is.begin.program is.begin.key lent is.wants))
-lost_carries Gen given lent told yes is =
+lost_carries Gen given lent told may is =
     inr (told, is.begin, is.begins, inr (cut_short is.begin.program is.begin.key lent is.wants))
-lost_carries Flat given lent told yes is = absurd yes
-lost_carries Asm given lent told yes is = absurd yes
-lost_carries Disasm given lent told yes is = absurd yes
-lost_carries Check given lent told yes is = absurd yes
+lost_carries Flat given lent told may is = absurd may
+lost_carries Asm given lent told may is = absurd may
+lost_carries Disasm given lent told may is = absurd may
+lost_carries Check given lent told may is = absurd may
 
 work_carries : (command : Command) (given : List Pair) (lent : Lent) (end : Result Made Refusal) (old new : HostState)
     → RunsEncrypted command → WorkEnds command given lent end old new → CarriesHeadline command given lent
-work_carries command given lent (Ok made) old new yes (at, done, is, last) =
-    made_carries command given lent old.files made yes is
-work_carries command given lent (Err refusal) old new yes (inl (idle, refused)) = inl idle
-work_carries command given lent (Err refusal) old new yes (inr (at, done, inl (none, same, lost))) =
-    lost_carries command given lent old.files yes lost
-work_carries command given lent (Err refusal) old new yes (inr (at, done, inr (made, is, refused))) =
-    made_carries command given lent old.files made yes is
+work_carries command given lent (Ok made) old new may (at, done, is, last) =
+    made_carries command given lent old.files made may is
+work_carries command given lent (Err refusal) old new may (inl (idle, refused)) = inl idle
+work_carries command given lent (Err refusal) old new may (inr (at, done, inl (none, same, lost))) =
+    lost_carries command given lent old.files may lost
+work_carries command given lent (Err refusal) old new may (inr (at, done, inr (made, is, refused))) =
+    made_carries command given lent old.files made may is
 
 -- A command whose program runs over encrypted memory carries the headline.
 pub ends_carry : (read : Read) (lent : Lent) (end : Result Made Refusal) (old new : HostState)
     → RunsEncrypted read.command → CommandEnds read lent end old new → CarriesHeadline read.command read.given lent
-ends_carry read lent (Ok made) old new yes ends =
-    work_carries read.command read.given lent (Ok made) old new yes ends
-ends_carry read lent (Err end) old new yes (refusal, mid, work, tells) =
-    work_carries read.command read.given lent (Err refusal) old mid yes work
+ends_carry read lent (Ok made) old new may ends =
+    work_carries read.command read.given lent (Ok made) old new may ends
+ends_carry read lent (Err end) old new may (refusal, mid, work, tells) =
+    work_carries read.command read.given lent (Err refusal) old mid may work

@@ -1,10 +1,10 @@
-use Rattle.std.proofs.Common.{◌≡◌, ◌⊎◌, inl, inr, ap, subst}
+use Rattle.std.proofs.Common.{◌≡◌, ◌⊎◌, ℕ, List, IfOk, inl, inr, ap, subst}
 use Rattle.std.proofs.lemmas.Result.{IfOk-weaker}
 use Rattle.leaf_function.specs.Leaf.{Keyed, leaf}
 use Rattle.oram_contents.specs.Entries.{Keys}
 use Rattle.oram_contents.specs.Forgery.{Forgery}
 use Rattle.secure_machine.specs.Run.{chip_keys}
-use Rattle.ascend_top.specs.EncryptedRun.{keys_from, lent_as}
+use Rattle.ascend_top.specs.EncryptedRun.{IsRunOf, keys_from, lent_as}
 use Rattle.ascend_top.proofs.RunLaws.{ran_of}
 use Rattle.ascend_top.proofs.TraceLaws.{levels_few}
 use Rattle.ascend_top.proofs.commands.run.run_on.Goals as goal
@@ -30,11 +30,13 @@ returns-clause-ran g c =
       tags = c.new-tagger.ensures i;
       leaf_of = leaf_is i;
     } in
-    ran_of program.config program.image program.input.items key lent c.run.ensures.bits c.run.ensures.faults
+    subst (λ (input : List ℕ). IfOk c.run.result (IsRunOf program.config program.image input key lent))
+    c.as_slice.ensures.value
+    (ran_of program.config program.image c.as_slice.result.now key lent c.run.ensures.bits c.run.ensures.faults
     c.run.ensures.budget c.run.ensures.asked c.run.ensures.unaltered c.run.result c.run.ensures.pace
     c.run.ensures.real c.run.ensures.dummies c.run.ensures.tied c.run.ensures.device c.run.ensures.right
     c.run.ensures.choices c.run.ensures.code c.run.ensures.fetches c.run.ensures.flat_unaltered c.run.ensures.honest
     (IfOk-weaker c.run.result _ _ (λ report known. elim known [
       | inl forged ↦ inl (subst (λ (z : Keys). Forgery z lent.tap'.log) same forged)
       | inr flat ↦ inr flat
-    ]) c.run.ensures.refines)
+    ]) c.run.ensures.refines))
