@@ -7,7 +7,8 @@ use Rattle.ascend_words.specs.declared.table.Command.{Command}
 use Rattle.ascend_words.specs.declared.table.Command.TheVariants.{Run, Flat, Asm, Disasm, Check, Gen}
 use Rattle.ascend_top.specs.Command.{CommandEnds, IsLost, IsMade, WorkEnds}
 use Rattle.ascend_top.specs.EncryptedRun.{IsRunOf, IsWantOf, Lent}
-use Rattle.ascend_top.specs.Headline.{CarriesHeadline, Headline, IsCutShort, IsFlatOrPrefix, IsForged, RunsEncrypted}
+use Rattle.ascend_top.specs.Headline.{CarriesHeadline, Headline, IsCutShort, IsFlatOrPrefix, IsForged, MadeByHeadline}
+use Rattle.ascend_top.specs.Headline.{RunsEncrypted}
 use Rattle.ascend_top.specs.Made.{Made, Encrypted, Ran, Assembled, Listed, Held}
 use Rattle.ascend_top.specs.Run.{IsRun}
 use Rattle.ascend_top.specs.declared.commands.run.Encrypted.{Encrypted as EncryptedRun}
@@ -49,17 +50,17 @@ cut_short program key lent is = record {
   };
 }
 
+-- what such a command made, as it ends
 run_carried : (command : Command) (given : List Pair) (lent : Lent) (told : Option Files) (run : EncryptedRun)
-    → IsRun command given told lent run → CarriesHeadline command given lent
-run_carried command given lent told run is = inr (
-  told,
+    → IsRun command given told lent run → MadeByHeadline command given told lent (Encrypted run)
+run_carried command given lent told run is = (
   is.begin,
   is.begins,
-  inl (run.report, headline_of is.begin.program is.begin.key lent run.report is.outcome.runs),
+  headline_of is.begin.program is.begin.key lent run.report is.outcome.runs,
 )
 
 made_carries : (command : Command) (given : List Pair) (lent : Lent) (told : Option Files) (made : Made)
-    → RunsEncrypted command → IsMade command given lent told made → CarriesHeadline command given lent
+    → RunsEncrypted command → IsMade command given lent told made → MadeByHeadline command given told lent made
 made_carries Run given lent told (Encrypted run) may is = run_carried Run given lent told run is
 made_carries Run given lent told (Ran report) may is = absurd is
 made_carries Run given lent told (Assembled file) may is = absurd is
@@ -75,30 +76,43 @@ made_carries Asm given lent told made may is = absurd may
 made_carries Disasm given lent told made may is = absurd may
 made_carries Check given lent told made may is = absurd may
 
-lost_carries : (command : Command) (given : List Pair) (lent : Lent) (told : Option Files)
-    → RunsEncrypted command → IsLost command given lent told → CarriesHeadline command given lent
-lost_carries Run given lent told may is =
-    inr (told, is.begin, is.begins, inr (cut_short is.begin.program is.begin.key lent is.wants))
-lost_carries Gen given lent told may is =
-    inr (told, is.begin, is.begins, inr (cut_short is.begin.program is.begin.key lent is.wants))
-lost_carries Flat given lent told may is = absurd may
-lost_carries Asm given lent told may is = absurd may
-lost_carries Disasm given lent told may is = absurd may
-lost_carries Check given lent told may is = absurd may
+-- the same where a step behind the run was refused
+refused_carries : (command : Command) (given : List Pair) (lent : Lent) (told : Option Files) (made : Made)
+    (refusal : Refusal) → MadeByHeadline command given told lent made
+    → CarriesHeadline command given told lent (Err refusal)
+refused_carries command given lent told (Encrypted run) refusal (begin, is, headline) =
+    inr (begin, is, inl (run.report, headline))
+refused_carries command given lent told (Ran report) refusal carried = absurd carried
+refused_carries command given lent told (Assembled file) refusal carried = absurd carried
+refused_carries command given lent told (Listed text) refusal carried = absurd carried
+refused_carries command given lent told (Held code bits) refusal carried = absurd carried
+
+lost_carries : (command : Command) (given : List Pair) (lent : Lent) (told : Option Files) (refusal : Refusal)
+    → RunsEncrypted command → IsLost command given lent told → CarriesHeadline command given told lent (Err refusal)
+lost_carries Run given lent told refusal may is =
+    inr (is.begin, is.begins, inr (cut_short is.begin.program is.begin.key lent is.wants))
+lost_carries Gen given lent told refusal may is =
+    inr (is.begin, is.begins, inr (cut_short is.begin.program is.begin.key lent is.wants))
+lost_carries Flat given lent told refusal may is = absurd may
+lost_carries Asm given lent told refusal may is = absurd may
+lost_carries Disasm given lent told refusal may is = absurd may
+lost_carries Check given lent told refusal may is = absurd may
 
 work_carries : (command : Command) (given : List Pair) (lent : Lent) (end : Result Made Refusal) (old new : HostState)
-    → RunsEncrypted command → WorkEnds command given lent end old new → CarriesHeadline command given lent
+    → RunsEncrypted command → WorkEnds command given lent end old new
+    → CarriesHeadline command given old.files lent end
 work_carries command given lent (Ok made) old new may (at, done, is, last) =
     made_carries command given lent old.files made may is
 work_carries command given lent (Err refusal) old new may (inl (idle, refused)) = inl idle
 work_carries command given lent (Err refusal) old new may (inr (at, done, inl (none, same, lost))) =
-    lost_carries command given lent old.files may lost
+    lost_carries command given lent old.files refusal may lost
 work_carries command given lent (Err refusal) old new may (inr (at, done, inr (made, is, refused))) =
-    made_carries command given lent old.files made may is
+    refused_carries command given lent old.files made refusal (made_carries command given lent old.files made may is)
 
 -- A command whose program runs over encrypted memory carries the headline.
 pub ends_carry : (read : Read) (lent : Lent) (end : Result Made Refusal) (old new : HostState)
-    → RunsEncrypted read.command → CommandEnds read lent end old new → CarriesHeadline read.command read.given lent
+    → RunsEncrypted read.command → CommandEnds read lent end old new
+    → CarriesHeadline read.command read.given old.files lent end
 ends_carry read lent (Ok made) old new may ends =
     work_carries read.command read.given lent (Ok made) old new may ends
 ends_carry read lent (Err end) old new may (refusal, mid, work, tells) =

@@ -4,7 +4,7 @@
 -- RV32IM after the reported instructions, or a named stop's prefix, unless an altered reply carried a valid tag on a
 -- message never tagged; and always the bus's moves are the schedule of the drawn leaves, the rate code below two to the
 -- leakage budget, and the end time.
-use Rattle.std.specs.Prelude.{◌≡◌, ◌<◌, ◌+◌, ◌^◌, ◌⊎◌, ℕ, List, length, Option, IsSome}
+use Rattle.std.specs.Prelude.{◌≡◌, ◌<◌, ◌+◌, ◌^◌, ◌⊎◌, ℕ, List, length, Option, IsSome, Result, Ok, Err}
 use Rattle.asc_base.specs.declared.settings.Config.{Config}
 use Rattle.asc_outside.specs.Host.{Files}
 use Rattle.bus_schedule.specs.Schedule.{schedule}
@@ -20,9 +20,11 @@ use Rattle.ascend_words.specs.Grammar.{Pair}
 use Rattle.ascend_words.specs.declared.table.Command.{Command}
 use Rattle.ascend_words.specs.declared.table.Command.TheVariants.{Run, Flat, Asm, Disasm, Check, Gen}
 use Rattle.ascend_top.specs.EncryptedRun.{IsIdle, Lent, keys_from}
+use Rattle.ascend_top.specs.Made.{Made, Encrypted}
 use Rattle.ascend_top.specs.Run.{IsBegin}
 use Rattle.ascend_top.specs.declared.commands.flat.Program.{Program}
 use Rattle.ascend_top.specs.declared.commands.run.Begin.{Begin}
+use Rattle.ascend_top.specs.declared.refusal.Refusal.{Refusal}
 
 -- An altered reply carried a valid tag on a message never tagged: the log shows a forgery, under the keys of the
 -- master key.
@@ -68,10 +70,18 @@ RunsEncrypted Asm = ⊥
 RunsEncrypted Disasm = ⊥
 RunsEncrypted Check = ⊥
 
--- Such a command carries the headline. Either nothing was asked of the memory; or the words, settings, key, program and
--- input were accepted, and the headline holds of what was reported; or memory ran out.
-abbrev pub CarriesHeadline : Command → List Pair → Lent → Type 0
-CarriesHeadline command given lent =
+-- The headline of what such a command made, over the files as they were before it, told or not: the settings, the key,
+-- the program and the input were accepted, and the headline holds of the report.
+abbrev pub MadeByHeadline : Command → List Pair → Option Files → Lent → Made → Type 0
+MadeByHeadline command given told lent (Encrypted run) =
+    (begin : Begin) × IsBegin command given told begin × Headline begin.program begin.key lent run.report
+MadeByHeadline command given told lent made = ⊥
+
+-- The command carries it. Where it was refused nothing was asked of the memory; or it was refused behind its run, of
+-- which the headline holds, or in which memory ran out.
+abbrev pub CarriesHeadline : Command → List Pair → Option Files → Lent → Result Made Refusal → Type 0
+CarriesHeadline command given told lent (Ok made) = MadeByHeadline command given told lent made
+CarriesHeadline command given told lent (Err refusal) =
     IsIdle lent
-    ⊎ ((told : Option Files) × (begin : Begin) × IsBegin command given told begin
+    ⊎ ((begin : Begin) × IsBegin command given told begin
     × (((report : Report) × Headline begin.program begin.key lent report) ⊎ IsCutShort begin.program lent))

@@ -84,8 +84,11 @@ pub fn ascend<H: Host, M: UntrustedMemory>(
         → (read.command ≡ Gen → ⊥)
         → IsIdle (lent_as (M.state memory.old) (M.state memory.new) tap.old tap.new) }
     ensures headline { (read : Read) → IsWords (texts words.now) read → RunsEncrypted read.command
-        → CarriesHeadline read.command read.given
-        (lent_as (M.state memory.old) (M.state memory.new) tap.old tap.new) }
+        → (end : Result Made WhyRefused) × (result ≡ status_of end)
+        × CommandEnds read (lent_as (M.state memory.old) (M.state memory.new) tap.old tap.new) end
+        (H.state host.old) (H.state host.new)
+        × CarriesHeadline read.command read.given (H.state host.old).files
+        (lent_as (M.state memory.old) (M.state memory.new) tap.old tap.new) end }
     ensures complete { (read : Read) (files : Files) → IsWords (texts words.now) read
         → (H.state host.old).files ≡ Some files → AreRight read files
         → ¬ Rose (H.state host.old).faults (H.state host.new).faults

@@ -111,7 +111,7 @@ returns-in-Ok-clause-unread g c word fault = read_right _ word (c.in-Ok.ensures.
 pub returns-in-Ok-clause-headline : goal.returns-in-Ok-clause-headline
 returns-in-Ok-clause-headline g c read is may =
     let ends = returns-in-Ok-clause-command g c read is in
-    ends_carry read _ (ends.0) _ _ may (ends.2)
+    (ends.0, ends.1, ends.2, ends_carry read _ (ends.0) _ _ may (ends.2))
 
 pub returns-in-Err-Usage-clause-headline : goal.returns-in-Err-Usage-clause-headline
 returns-in-Err-Usage-clause-headline g c read is may =
@@ -119,4 +119,6 @@ returns-in-Err-Usage-clause-headline g c read is may =
     wrong_right c.in-Err-Usage.word read (accepted read is)
 
 pub returns-in-Err-NoMemory-clause-headline : goal.returns-in-Err-NoMemory-clause-headline
-returns-in-Err-NoMemory-clause-headline g c read is may = inl (record { memory = refl; tap = refl })
+returns-in-Err-NoMemory-clause-headline g c read is may =
+    let ends = returns-in-Err-NoMemory-clause-command g c read is in
+    (ends.0, ends.1, ends.2, ends_carry read _ (ends.0) _ _ may (ends.2))
