@@ -1,5 +1,6 @@
 mod assembling;
 mod checking;
+mod forging;
 mod generating;
 mod running;
 
