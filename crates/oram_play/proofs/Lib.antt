@@ -4,3 +4,5 @@ pub mod Accesses
 pub mod Between
 pub mod Plays
 pub mod Waits
+pub mod Asks
+pub mod Turns

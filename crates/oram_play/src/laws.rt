@@ -10,10 +10,11 @@ ghost use Rattle.bus_schedule.specs.Timetable.{public_of};
 ghost use Rattle.oram_contents.specs.Entries.{Keys};
 ghost use Rattle.oram_contents.specs.Starts.{empty_log};
 ghost use Rattle.oram_frontend.specs.Access.{SlotStep};
-ghost use Rattle.oram_frontend.specs.Oram.{OramState, OramStep, Told, Wait};
+ghost use Rattle.oram_frontend.specs.Oram.{OramState, OramStep, Told, Fetch, Store, Wait};
 ghost use Rattle.oram_frontend.specs.Slots.{FitKeys};
 ghost use Rattle.oram_play.specs.Taken.{HasTaken, IsPaceOf, put_in, with_appended, asked_start, asked_slots};
 ghost use Rattle.oram_play.specs.Taken.{slots_taken};
+ghost use Rattle.oram_play.specs.InTurn.{TakesInTurn};
 ghost use Rattle.oram_walk.specs.Request.{Slot as AccessSlot, Append, Answer};
 ghost use Rattle.oram_walk.specs.declared.slots.Access.{Access};
 ghost use Rattle.oram_walk.specs.declared.slots.Seen.{Seen};
@@ -59,6 +60,20 @@ pub fn answered_requests_take_slots()
         → HasTaken old.port slots pace → OramStep keys levels old (Wait time) (Ok told) new
         → let more = passed (public_of old.port.clock.config) numbers time pace in
         HasTaken new.port (slots ++ more.slots) more.pace × (told.end ≡ max time more.pace.heard.ended) }
+{}
+
+/// An answered fetch or store takes slots access by access. Its first access is asked for at the request's time, and
+/// each other one at the end of the one before; each slot starts before the time of the settings; a message that is
+/// appended stands behind the slot of the access that came last; and the time that is told is the end of the last one.
+pub fn answered_requests_take_slots_in_turn()
+    ensures fetch { (keys : Keys) (levels notes asked line : ℕ) (told : Told) (old new : OramState) (slots : List Slot)
+        (pace : Pace) (numbers : Numbers) → FitKeys keys old.port → Resting notes levels old.port
+        → HasTaken old.port slots pace → OramStep keys levels old (Fetch asked line) (Ok told) new
+        → TakesInTurn old.port.clock.config numbers asked told.end slots pace new.port }
+    ensures store { (keys : Keys) (levels notes asked line : ℕ) (value : Line) (told : Told) (old new : OramState)
+        (slots : List Slot) (pace : Pace) (numbers : Numbers) → FitKeys keys old.port → Resting notes levels old.port
+        → HasTaken old.port slots pace → OramStep keys levels old (Store asked line value) (Ok told) new
+        → TakesInTurn old.port.clock.config numbers asked told.end slots pace new.port }
 {}
 
 /// These slots are those of the play's access to the same block under the same counter, where it puts the same message
