@@ -6,3 +6,4 @@ pub mod Plays
 pub mod Waits
 pub mod Asks
 pub mod Turns
+pub mod PlayTurns

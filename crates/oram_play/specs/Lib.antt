@@ -1,2 +1,3 @@
 pub mod Taken
 pub mod InTurn
+pub mod Walked

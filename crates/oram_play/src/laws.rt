@@ -7,6 +7,7 @@ ghost use Rattle.asc_base.specs.declared.block.Line.{Line};
 ghost use Rattle.asc_base.specs.declared.block.Message.{Message};
 ghost use Rattle.asc_base.specs.declared.settings.Config.{Config};
 ghost use Rattle.bus_schedule.specs.Timetable.{public_of};
+ghost use Rattle.data_cache.specs.Lines.{LineRequest};
 ghost use Rattle.oram_contents.specs.Entries.{Keys};
 ghost use Rattle.oram_contents.specs.Starts.{empty_log};
 ghost use Rattle.oram_frontend.specs.Access.{SlotStep};
@@ -14,13 +15,15 @@ ghost use Rattle.oram_frontend.specs.Oram.{OramState, OramStep, Told, Fetch, Sto
 ghost use Rattle.oram_frontend.specs.Slots.{FitKeys};
 ghost use Rattle.oram_play.specs.Taken.{HasTaken, IsPaceOf, put_in, with_appended, asked_start, asked_slots};
 ghost use Rattle.oram_play.specs.Taken.{slots_taken};
-ghost use Rattle.oram_play.specs.InTurn.{TakesInTurn};
+ghost use Rattle.oram_play.specs.InTurn.{AnsweredAccess, AreInTurn, TakesInTurn};
+ghost use Rattle.oram_play.specs.Walked.{AreWalked, taken_in_turn};
 ghost use Rattle.oram_walk.specs.Request.{Slot as AccessSlot, Append, Answer};
 ghost use Rattle.oram_walk.specs.declared.slots.Access.{Access};
 ghost use Rattle.oram_walk.specs.declared.slots.Seen.{Seen};
-ghost use Rattle.posmap_lookaside.specs.Walk.{WalkAccess};
+ghost use Rattle.posmap_lookaside.specs.Walk.{WalkAccess, walk};
 ghost use Rattle.rate_enforcer.specs.PortStep.{PortState, Resting};
-ghost use Rattle.run_play.specs.Requests.{Standing, access_slot, put_back, message_of};
+ghost use Rattle.run_play.specs.Requests.{Standing, Taken, access_slot, one_by_one, put_back, message_of};
+ghost use Rattle.run_play.specs.Requests.{request_slots, request_done, requested, value_of, walk_sizes};
 ghost use Rattle.run_play.specs.Slots.{Pace, Numbers, Slot, first_pace, passed};
 
 /// A port with an empty log has taken no slot. Whatever a port has taken, between two slots the pace that its slots
@@ -86,4 +89,25 @@ pub fn accesses_take_asked_slots()
         → access_slot config value now walked
         ≡ slots_taken config now access line
         (option_map (message_of config walked.counters now.data_lines) walked.displaced) }
+{}
+
+/// Where accesses that are asked for one after another are those of a walk, the play takes just their slots, and stands
+/// at the end of the last one; where that is the walk of a request, these are the slots of the play's request, which is
+/// then answered.
+pub fn walked_accesses_take_play_slots()
+    ensures accesses { (config : Config) (value : Option (List ℕ)) (now : Standing) (walked : List WalkAccess)
+        (accesses : List AnsweredAccess) (end : ℕ) → now.late ≡ None
+        → AreInTurn config now.numbers now.clock accesses now.pace end
+        → AreWalked config now.data_lines value walked accesses
+        → one_by_one (access_slot config value) walked now ≡ taken_in_turn config now accesses end }
+    ensures request { (config : Config) (now : Standing) (request : LineRequest) (accesses : List AnsweredAccess)
+        (end : ℕ) → now.late ≡ None → AreInTurn config now.numbers now.clock accesses now.pace end
+        → let walked = walk (walk_sizes config) now.chip (requested request) in
+        AreWalked config now.data_lines (value_of request) walked.accesses accesses
+        → let taken = taken_in_turn config now accesses end in
+        let answered : Taken = record {
+          slots = taken.slots;
+          standing = request_done request (record taken.standing { chip = walked.chip });
+        } in
+        request_slots config now request ≡ answered }
 {}
