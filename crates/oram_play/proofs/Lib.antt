@@ -7,3 +7,4 @@ pub mod Waits
 pub mod Asks
 pub mod Turns
 pub mod PlayTurns
+pub mod Alike

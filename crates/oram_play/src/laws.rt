@@ -16,9 +16,11 @@ ghost use Rattle.oram_frontend.specs.Slots.{FitKeys};
 ghost use Rattle.oram_play.specs.Taken.{HasTaken, IsPaceOf, put_in, with_appended, asked_start, asked_slots};
 ghost use Rattle.oram_play.specs.Taken.{slots_taken};
 ghost use Rattle.oram_play.specs.InTurn.{AnsweredAccess, AreInTurn, TakesInTurn};
+ghost use Rattle.oram_play.specs.Shown.{ShowsWalk};
 ghost use Rattle.oram_play.specs.Walked.{AreWalked, taken_in_turn};
 ghost use Rattle.oram_walk.specs.Request.{Slot as AccessSlot, Append, Answer};
 ghost use Rattle.oram_walk.specs.declared.slots.Access.{Access};
+ghost use Rattle.oram_walk.specs.declared.slots.Purpose.TheVariants.{Keep, Replace};
 ghost use Rattle.oram_walk.specs.declared.slots.Seen.{Seen};
 ghost use Rattle.posmap_lookaside.specs.Walk.{WalkAccess, walk};
 ghost use Rattle.rate_enforcer.specs.PortStep.{PortState, Resting};
@@ -68,15 +70,19 @@ pub fn answered_requests_take_slots()
 /// An answered fetch or store takes slots access by access. Its first access is asked for at the request's time, and
 /// each other one at the end of the one before; each slot starts before the time of the settings; a message that is
 /// appended stands behind the slot of the access that came last; and the time that is told is the end of the last one.
+/// If each was answered with the line of a memory that shows the counters, these are the accesses of the walk: in
+/// order, the same blocks under the same counters, with the same purposes, and the same blocks appended.
 pub fn answered_requests_take_slots_in_turn()
     ensures fetch { (keys : Keys) (levels notes asked line : ℕ) (told : Told) (old new : OramState) (slots : List Slot)
         (pace : Pace) (numbers : Numbers) → FitKeys keys old.port → Resting notes levels old.port
         → HasTaken old.port slots pace → OramStep keys levels old (Fetch asked line) (Ok told) new
-        → TakesInTurn old.port.clock.config numbers asked told.end slots pace new.port }
+        → (takes : TakesInTurn old.port.clock.config numbers asked told.end slots pace new.port)
+        × ShowsWalk old.front line Keep takes.accesses }
     ensures store { (keys : Keys) (levels notes asked line : ℕ) (value : Line) (told : Told) (old new : OramState)
         (slots : List Slot) (pace : Pace) (numbers : Numbers) → FitKeys keys old.port → Resting notes levels old.port
         → HasTaken old.port slots pace → OramStep keys levels old (Store asked line value) (Ok told) new
-        → TakesInTurn old.port.clock.config numbers asked told.end slots pace new.port }
+        → (takes : TakesInTurn old.port.clock.config numbers asked told.end slots pace new.port)
+        × ShowsWalk old.front line (Replace value) takes.accesses }
 {}
 
 /// These slots are those of the play's access to the same block under the same counter, where it puts the same message

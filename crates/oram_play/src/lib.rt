@@ -1,8 +1,8 @@
 //! That an encrypted memory takes the slots of a play: what its log says of the starts, points, messages and choices of
 //! its slots is what a play says.
 //!
-//! `specs/Taken.antt` has the slots that an answered access takes, `specs/InTurn.antt` those of accesses one after another,
-//! and `specs/Walked.antt` when these are a walk's.
+//! `specs/Taken.antt` has the slots that an answered access takes, `specs/InTurn.antt` those of accesses one after
+//! another, `specs/Shown.antt` what these show of a walk, and `specs/Walked.antt` when they are a walk's.
 //!
 //! The crate has laws alone; the calls do nothing.
 #![tactic(auto)]
