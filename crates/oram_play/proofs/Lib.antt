@@ -8,3 +8,4 @@ pub mod Asks
 pub mod Turns
 pub mod PlayTurns
 pub mod Alike
+pub mod Pairs

@@ -15,7 +15,7 @@ use Rattle.oram_frontend.specs.Access.{SlotStep}
 use Rattle.oram_frontend.specs.Oram.{OramState, OramStep, Told, Fetch, Store}
 use Rattle.oram_frontend.specs.Slots.{FitKeys, Keeps}
 use Rattle.oram_frontend.proofs.SlotLaws.{served_slot, served_append, served_answer}
-use Rattle.oram_walk.specs.Front.{FrontState}
+use Rattle.oram_walk.specs.Front.{FrontState, sizes_of}
 use Rattle.oram_walk.specs.Memory.{Shown, Accessed, Displaced, memory, put_line, put_back}
 use Rattle.oram_walk.specs.Plans.{FrontPlan, fetch_plan, store_plan}
 use Rattle.oram_walk.proofs.Walked.{fetch_over, store_over}
@@ -31,6 +31,7 @@ use Rattle.oram_play.specs.InTurn.{AnsweredAccess, answered_slots, slots_in_turn
 use Rattle.oram_play.specs.Shown.{appended_shown, lines_appended, answered_shown, AreLinesIn, ShowsWalk}
 use Rattle.oram_play.proofs.Accesses.{access-taken}
 use Rattle.oram_play.proofs.Alike.{AlikeInTime, AnyTwo, SameLine, fetch_alike, store_alike}
+use Rattle.oram_play.proofs.Pairs.{pairs}
 use Rattle.oram_play.proofs.Between.{append-taken, answer-taken}
 use Rattle.oram_play.proofs.Asks.{AsksInTurn, AtEnd, AtAnswer, fetch_asks, store_asks}
 
@@ -50,7 +51,8 @@ pub record HasLast (slots_with : Option Message → List Slot) : Type 0 where
 
 module _ (keys : Keys) (levels : ℕ) (config : Config) (numbers : Numbers) where
   -- what is known of a port along a plan, whose slots are these if this is appended behind the last
-  pub record Ready (behind : Bool) (slots_with : Option Message → List Slot) (pace : Pace) (s : PortState) : Type 0 where
+  pub record Ready (behind : Bool) (slots_with : Option Message → List Slot) (pace : Pace)
+      (s : PortState) : Type 0 where
     pub fits : FitKeys keys s
     pub notes : ℕ
     pub enough : need behind ≤ notes
@@ -377,9 +379,10 @@ fetch-takes keys levels notes asked line told old new slots pace numbers fits re
     ends_at config numbers asked told.end all.1 slots pace new.port (ShowsWalk old.front line Keep)
     (sym (ap (λ (t : Told). t.end) is ∙ all.2)) all.3.takes
     (λ lines chip below shown are.
-    sym (first_shows keys levels config numbers SameLine plan asked all.1 (λ _. slots) pace new.port
+    pairs (sizes_of old.front) Keep _ _
+    (sym (first_shows keys levels config numbers SameLine plan asked all.1 (λ _. slots) pace new.port
     (fetch_alike old.front asked line) all.3 lines are)
-    ∙ (fetch_over 0 asked line old.front lines chip below shown).0)
+    ∙ (fetch_over 0 asked line old.front lines chip below shown).0))
 
 pub store-takes : (keys : Keys) (levels notes asked line : ℕ) (value : Line) (told : Told) (old new : OramState)
     (slots : List Slot) (pace : Pace) (numbers : Numbers) → FitKeys keys old.port → Resting notes levels old.port
@@ -395,6 +398,7 @@ store-takes keys levels notes asked line value told old new slots pace numbers f
     ends_at config numbers asked told.end all.1 slots pace new.port (ShowsWalk old.front line (Replace value))
     (sym all.2) all.3.takes
     (λ lines chip below shown are.
-    sym (first_shows keys levels config numbers AnyTwo plan asked all.1 (λ _. slots) pace new.port
+    pairs (sizes_of old.front) (Replace value) _ _
+    (sym (first_shows keys levels config numbers AnyTwo plan asked all.1 (λ _. slots) pace new.port
     (store_alike old.front asked line value) all.3 lines are)
-    ∙ (store_over 0 asked line value old.front lines chip below shown).0)
+    ∙ (store_over 0 asked line value old.front lines chip below shown).0))
