@@ -4,3 +4,8 @@ pub mod Accesses
 pub mod Between
 pub mod Plays
 pub mod Waits
+pub mod Asks
+pub mod Turns
+pub mod PlayTurns
+pub mod Alike
+pub mod Pairs

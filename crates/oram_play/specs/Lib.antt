@@ -1,1 +1,4 @@
 pub mod Taken
+pub mod InTurn
+pub mod Walked
+pub mod Shown
