@@ -1,6 +1,6 @@
 //! What is asked of the lines of an encrypted memory.
 
-ghost use Rattle.std.specs.Prelude.{◌≡◌, ◌≤◌, length, None, MatchResult, Ok, Err};
+ghost use Rattle.std.specs.Prelude.{◌≡◌, ◌≤◌, ◌+◌, ◌-◌, ◌^◌, min, length, None, MatchResult, Ok, Err};
 ghost use Rattle.data_cache.specs.Lines.{IsLine};
 ghost use Rattle.oram_frontend.specs.Oram.{OramStep, CanServe, Wait};
 ghost use Rattle.secure_machine.specs.Same.{IsSameLines, timed_of, keys_in};
@@ -39,6 +39,7 @@ impl<'o, 'b, M: UntrustedMemory, W: Watch, L: LeafFn> TimedLines<'o, 'b, M, W, L
         ensures oram { self.new.oram.now ≡ self.old.oram.now }
         ensures fetches { self.new.fetches ≡ self.old.fetches }
         ensures clock { self.old.clock ≤ self.new.clock }
+        ensures spent { self.new.clock ≡ min (self.old.clock + cost) (2 ^ 64 - 1) }
         ensures ready { CanAsk (L.levels self.old.oram.now.port.leaves) self.old.count
             (timed_of M.state W.state self.old)
             → CanAsk (L.levels self.new.oram.now.port.leaves) self.new.count (timed_of M.state W.state self.new) }
@@ -53,6 +54,7 @@ impl<'o, 'b, M: UntrustedMemory, W: Watch, L: LeafFn> TimedLines<'o, 'b, M, W, L
         requires in_time { time ≤ self.old.oram.now.port.clock.config.time }
         ensures same { IsSameLines self.old self.new }
         ensures fetches { self.new.fetches ≡ self.old.fetches }
+        ensures clock { self.new.clock ≡ self.old.clock }
         ensures step { MatchResult result
             (λ end. OramStep (keys_in L.leaf_of self.old) (L.levels self.old.oram.now.port.leaves)
             (timed_of M.state W.state self.old).oram (Wait time) (Ok (record { line = None; end = end }))
