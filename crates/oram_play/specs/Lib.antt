@@ -2,3 +2,4 @@ pub mod Taken
 pub mod InTurn
 pub mod Walked
 pub mod Shown
+pub mod Playing
