@@ -9,3 +9,4 @@ pub mod Turns
 pub mod PlayTurns
 pub mod Alike
 pub mod Pairs
+pub mod Notes

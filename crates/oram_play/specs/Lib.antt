@@ -2,4 +2,5 @@ pub mod Taken
 pub mod InTurn
 pub mod Walked
 pub mod Shown
+pub mod Answered
 pub mod Playing

@@ -1,6 +1,6 @@
 //! Laws of the slots that an encrypted memory takes. The functions do nothing: each states laws in its contract.
 
-ghost use Rattle.std.specs.Prelude.{◌≡◌, ◌<◌, ◌+◌, ℕ, List, [], ◌∷◌, ◌++◌, Option, None, Ok, max};
+ghost use Rattle.std.specs.Prelude.{◌≡◌, ◌<◌, ◌+◌, ℕ, List, [], ◌∷◌, ◌++◌, Option, None, Some, Ok, max};
 ghost use Rattle.std.specs.Option.{option_map};
 ghost use Rattle.asc_base.specs.TreeShape.{olat_of};
 ghost use Rattle.asc_base.specs.declared.block.Line.{Line};
@@ -15,14 +15,17 @@ ghost use Rattle.oram_frontend.specs.Oram.{OramState, OramStep, Told, Fetch, Sto
 ghost use Rattle.oram_frontend.specs.Slots.{FitKeys};
 ghost use Rattle.oram_play.specs.Taken.{HasTaken, IsPaceOf, put_in, with_appended, asked_start, asked_slots};
 ghost use Rattle.oram_play.specs.Taken.{slots_taken};
-ghost use Rattle.oram_play.specs.InTurn.{AnsweredAccess, AreInTurn, TakesInTurn};
-ghost use Rattle.oram_play.specs.Shown.{ShowsWalk};
+ghost use Rattle.oram_play.specs.InTurn.{AnsweredAccess, AreInTurn};
+ghost use Rattle.oram_play.specs.Answered.{IsAnswered};
 ghost use Rattle.oram_play.specs.Walked.{AreWalked, taken_in_turn};
+ghost use Rattle.oram_lines.specs.Noted.{AreAnswersIn};
+ghost use Rattle.oram_walk.specs.Plans.{fetch_plan, store_plan};
+ghost use Rattle.oram_walk.specs.Shows.{Shows};
 ghost use Rattle.oram_walk.specs.Request.{Slot as AccessSlot, Append, Answer};
 ghost use Rattle.oram_walk.specs.declared.slots.Access.{Access};
 ghost use Rattle.oram_walk.specs.declared.slots.Purpose.TheVariants.{Keep, Replace};
 ghost use Rattle.oram_walk.specs.declared.slots.Seen.{Seen};
-ghost use Rattle.posmap_lookaside.specs.Walk.{WalkAccess, walk};
+ghost use Rattle.posmap_lookaside.specs.Walk.{OnChip, WalkAccess, walk};
 ghost use Rattle.rate_enforcer.specs.PortStep.{PortState, Resting};
 ghost use Rattle.run_play.specs.Requests.{Standing, Taken, access_slot, one_by_one, put_back, message_of};
 ghost use Rattle.run_play.specs.Requests.{request_slots, request_done, requested, value_of, walk_sizes};
@@ -71,18 +74,24 @@ pub fn answered_requests_take_slots()
 /// each other one at the end of the one before; each slot starts before the time of the settings; a message that is
 /// appended stands behind the slot of the access that came last; and the time that is told is the end of the last one.
 /// If each was answered with the line of a memory that shows the counters, these are the accesses of the walk: in
-/// order, the same blocks under the same counters, with the same purposes, and the same blocks appended.
+/// order, the same blocks under the same counters, with the same purposes and the lines that are found, and the same
+/// blocks appended. They are, where the answers are noted as those of such a memory; then the front end and the memory
+/// show the counters after the walk, and a fetch tells its line.
 pub fn answered_requests_take_slots_in_turn()
     ensures fetch { (keys : Keys) (levels notes asked line : ℕ) (told : Told) (old new : OramState) (slots : List Slot)
         (pace : Pace) (numbers : Numbers) → FitKeys keys old.port → Resting notes levels old.port
         → HasTaken old.port slots pace → OramStep keys levels old (Fetch asked line) (Ok told) new
-        → (takes : TakesInTurn old.port.clock.config numbers asked told.end slots pace new.port)
-        × ShowsWalk old.front line Keep takes.accesses }
+        → (seen : Seen) × (told.line ≡ Some seen.line)
+        × (done : IsAnswered keys levels numbers asked told.end line Keep (fetch_plan old.front asked line) seen slots
+        pace old new)
+        × ((lines : ℕ → Line) (chip : OnChip) → line < old.front.shape.lines → Shows old.front lines chip
+        → AreAnswersIn lines done.answers → seen.line ≡ lines line) }
     ensures store { (keys : Keys) (levels notes asked line : ℕ) (value : Line) (told : Told) (old new : OramState)
         (slots : List Slot) (pace : Pace) (numbers : Numbers) → FitKeys keys old.port → Resting notes levels old.port
         → HasTaken old.port slots pace → OramStep keys levels old (Store asked line value) (Ok told) new
-        → (takes : TakesInTurn old.port.clock.config numbers asked told.end slots pace new.port)
-        × ShowsWalk old.front line (Replace value) takes.accesses }
+        → (told.line ≡ None)
+        × IsAnswered keys levels numbers asked told.end line (Replace value) (store_plan old.front asked line value)
+        told.end slots pace old new }
 {}
 
 /// These slots are those of the play's access to the same block under the same counter, where it puts the same message
