@@ -10,3 +10,5 @@ pub mod PlayTurns
 pub mod Alike
 pub mod Pairs
 pub mod Notes
+pub mod Inside
+pub mod Found
