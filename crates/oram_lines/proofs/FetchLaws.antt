@@ -1,6 +1,6 @@
 -- Fetches and stores, from a state that stands for counters and lines to one that does, or a forgery.
-use Rattle.std.proofs.Common.{◌≡◌, ◌<◌, ◌≤◌, ◌+◌, ◌-◌, ◌/◌, ◌⊎◌, inl, inr, ℕ, zero, suc, List, [], Option, None, Some, length}
-use Rattle.std.proofs.Common.{refl, sym, ap, ◌∙◌, subst, arith, append-nil}
+use Rattle.std.proofs.Common.{◌≡◌, ◌<◌, ◌≤◌, ◌+◌, ◌-◌, ◌/◌, ◌⊎◌, inl, inr, ℕ, zero, suc, List, [], Option, None, Some}
+use Rattle.std.proofs.Common.{length, refl, sym, ap, ◌∙◌, subst, arith, append-nil}
 use Rattle.std.proofs.lemmas.Bool.{cases_eq}
 use Rattle.request_plan.specs.Plan.{Done, Ask, Ends}
 use Rattle.asc_base.proofs.Layers.{layer_of_is, layer_of-lt, index_of-lt, parent_of-top, parent_of-below, children_of-line}
@@ -145,7 +145,8 @@ module _ (keys : Keys) (lawful : AreKeys keys) (levels : ℕ) (began : ℕ → L
           calm = y.calm;
           stands = y.stands;
           bytes = y.line ∙ (ap (line_by y.h.count (y.h.data_lines line)) (data_leaf keys lawful levels line below)
-              ∙ (y.lines line (data_leaf keys lawful levels line below) ∙ x.lines line (data_leaf keys lawful levels line below)));
+              ∙ (y.lines line (data_leaf keys lawful levels line below)
+              ∙ x.lines line (data_leaf keys lawful levels line below)));
           lines = λ b leaf. y.lines b leaf ∙ x.lines b leaf;
           front_is = front_then keys lawful levels front now later_front x.front_is y.front_is;
         })
@@ -155,14 +156,14 @@ module _ (keys : Keys) (lawful : AreKeys keys) (levels : ℕ) (began : ℕ → L
   pub fetch_comes : (front : FrontState) (g : Ghost) (s : NotedState) (asked line : ℕ)
       → StandsNoted keys levels began 0 front g s → IsCalm g → line < keys.shape.lines
       → Comes keys lawful levels began (fetch_plan front asked line) s
-      (λ later_front seen t. (h : Ghost) × StandsNoted keys levels began 0 later_front h t × IsCalm h × SameData keys g h
-      × (seen.line.0 ≡ g.data_lines line))
+      (λ later_front seen t. (h : Ghost) × StandsNoted keys levels began 0 later_front h t × IsCalm h
+      × SameData keys g h × (seen.line.0 ≡ g.data_lines line))
   fetch_comes front g s asked line st calm below =
       comes_on keys lawful levels began (request_plan front asked (record { 0 = line }) Keep)
       (λ now seen. Ask (Answer line seen.line) now (λ _. Done (now, seen))) s
       (λ now seen m. Requested front g line Keep now seen m)
-      (λ later_front seen t. (h : Ghost) × StandsNoted keys levels began 0 later_front h t × IsCalm h × SameData keys g h
-      × (seen.line.0 ≡ g.data_lines line))
+      (λ later_front seen t. (h : Ghost) × StandsNoted keys levels began 0 later_front h t × IsCalm h
+      × SameData keys g h × (seen.line.0 ≡ g.data_lines line))
       (request_comes front g s asked line Keep st calm below tt)
       (λ now seen m x t later_front last ends.
       let (nothing_is, n, one, (outcome, same)) = ends in
@@ -192,7 +193,8 @@ module _ (keys : Keys) (lawful : AreKeys keys) (levels : ℕ) (began : ℕ → L
       } in
       inr (
         h,
-        subst (λ (f : FrontState). StandsNoted keys levels began 0 f h t) (sym (ap (λ (z : FrontState × Seen). z.0) outcome))
+        subst (λ (f : FrontState). StandsNoted keys levels began 0 f h t)
+            (sym (ap (λ (z : FrontState × Seen). z.0) outcome))
             (subst (λ (y : NotedState). StandsNoted keys levels began 0 now h y) (sym same) stands),
         record { flight = refl; pend = refl; stepped = refl; move = x.calm.move },
         (λ b leaf. keep_data keys lawful levels x.h a b leaf ∙ x.lines b leaf),
@@ -213,7 +215,8 @@ module _ (keys : Keys) (lawful : AreKeys keys) (levels : ℕ) (began : ℕ → L
       (λ later_front end t. (h : Ghost) × StandsNoted keys levels began 0 later_front h t × IsCalm h
       × ((b : ℕ) → children_of keys.shape.lines keys.shape.layers b ≡ None
       → h.data_lines b ≡ put_at g.data_lines line value.0 b))
-      (request_comes front g s asked line (Replace value) st calm below (data_leaf keys lawful levels line below, whole))
+      (request_comes front g s asked line (Replace value) st calm below
+      (data_leaf keys lawful levels line below, whole))
       (λ now seen m x t later_front end ends.
       let h : Ghost = done x.h x.access.address.0 x.access.next value.0 in
       let stands : StandsNoted keys levels began 0 now h m = record {
@@ -227,7 +230,8 @@ module _ (keys : Keys) (lawful : AreKeys keys) (levels : ℕ) (began : ℕ → L
       } in
       inr (
         h,
-        subst (λ (f : FrontState). StandsNoted keys levels began 0 f h t) (sym (ap (λ (z : FrontState × ℕ). z.0) ends.0))
+        subst (λ (f : FrontState). StandsNoted keys levels began 0 f h t)
+            (sym (ap (λ (z : FrontState × ℕ). z.0) ends.0))
             (subst (λ (y : NotedState). StandsNoted keys levels began 0 now h y) (sym ends.1) stands),
         record { flight = refl; pend = refl; stepped = refl; move = x.calm.move },
         (λ b leaf. ap (λ (n : Address). put_at x.h.data_lines n.0 value.0 b) x.address

@@ -42,7 +42,8 @@ module _ (keys : Keys) (lawful : AreKeys keys) (levels : ℕ) where
       let short = (shape_layered s.clock.config.shape is.is_shape).levels_to in
       let olat = olat_of s.clock.config.shape.levels in
       let far = stands_far rests.stands in
-      let most : rests.done * 64 ≤ rests.done * olat = mul-le rests.done 64 rests.done olat (omega arith) (omega arith) in
+      let most : rests.done * 64 ≤ rests.done * olat =
+      mul-le rests.done 64 rests.done olat (omega arith) (omega arith) in
       let drawn = draws_are s.tap.log.events in
       let low : count_by draws s.tap.log.events < 2 ^ 28 =
       omega (arith, far, most, rests.stands.between.leaves, drawn, rests.in_time, is.time.1, short) in

@@ -187,7 +187,8 @@ module _ (keys : Keys) (lawful : AreKeys keys) (levels : ℕ) (began : ℕ → L
     parent_held : (front : FrontState) (g : Ghost) (child : ℕ) → IsShown keys front g → IsFirst front p group
         → child < number → ParentHeld keys lawful g (first + child)
     parent_held front g child shown at less q up =
-        subst (λ (n : ℕ). Has n g.held) (parent_is child q less up) (first_is keys lawful levels front g p group shown at)
+        subst (λ (n : ℕ). Has n g.held) (parent_is child q less up)
+        (first_is keys lawful levels front g p group shown at)
 
     -- A child that is held is renumbered.
     held_comes : (front : FrontState) (g : Ghost) (s : NotedState) (asked child : ℕ)
@@ -305,8 +306,8 @@ module _ (keys : Keys) (lawful : AreKeys keys) (levels : ℕ) (began : ℕ → L
     -- A child's part of the move.
     pub child_comes : (front : FrontState) (g : Ghost) (s : NotedState) (asked child : ℕ)
         → StandsNoted keys levels began 0 front g s → IsMoving g p.0 child → IsFirst front p group → child < number
-        → Comes keys lawful levels began (child_plan front asked (record { 0 = first + child }) (child_counter group child)
-        (next_group (child_counter group child))) s
+        → Comes keys lawful levels began (child_plan front asked (record { 0 = first + child })
+        (child_counter group child) (next_group (child_counter group child))) s
         (λ now end m. MovesOn front g p group (child + 1) now m)
     child_comes front g s asked child st moving at less = by_held (held_at front.held a) refl
       where
@@ -393,8 +394,8 @@ module _ (keys : Keys) (lawful : AreKeys keys) (levels : ℕ) (began : ℕ → L
           front_is = record { shape = refl; ic = refl; plb = refl };
         })))
     children_come (suc left) child sum front g s asked st moving at =
-        comes_on keys lawful levels began (child_plan front asked (record { 0 = first + child }) (child_counter group child)
-        (next_group (child_counter group child)))
+        comes_on keys lawful levels began (child_plan front asked (record { 0 = first + child })
+        (child_counter group child) (next_group (child_counter group child)))
         (λ now end. children_plan group first (child + 1) left now end) s
         (λ now end m. MovesOn front g p group (child + 1) now m)
         (λ later_front end t. MovesOn front g p group number later_front t)
@@ -433,7 +434,8 @@ module _ (keys : Keys) (lawful : AreKeys keys) (levels : ℕ) (began : ℕ → L
   }
 
   pub move_comes : (front : FrontState) (g : Ghost) (s : NotedState) (asked : ℕ) (a p : Address) (group : GroupState)
-      → StandsNoted keys levels began 0 front g s → IsCalm g → (full : IsFull keys front a p group) → p.0 < keys.shape.total
+      → StandsNoted keys levels began 0 front g s → IsCalm g → (full : IsFull keys front a p group)
+      → p.0 < keys.shape.total
       → Comes keys lawful levels began (move_plan front asked p group) s
       (λ later_front end t. HasRoom front g a later_front t)
   move_comes front g s asked a p group st calm full inside =
@@ -455,11 +457,12 @@ module _ (keys : Keys) (lawful : AreKeys keys) (levels : ℕ) (began : ℕ → L
       start = move_begun front g s a p group st calm full
 
       ended : (now : FrontState) (end : ℕ) (m : NotedState) → MovesOn front begun p group full.number now m
-          → Comes keys lawful levels began (Done (with_held now (changed (with_group (moved_group group)) now.held p), end))
-          m (λ later_front end t. HasRoom front g a later_front t)
+          → Comes keys lawful levels began
+          (Done (with_held now (changed (with_group (moved_group group)) now.held p), end)) m
+          (λ later_front end t. HasRoom front g a later_front t)
       ended now end m x t later_front y ends =
-          let over = move_ends keys lawful now x.h p group full.first full.number x.stands.port.shown x.first full.children
-          x.moving.stepped x.moving.move in
+          let over = move_ends keys lawful now x.h p group full.first full.number x.stands.port.shown x.first
+          full.children x.moving.stepped x.moving.move in
           inr (subst (λ (f : FrontState). HasRoom front g a f t) (sym (ap (λ (z : FrontState × ℕ). z.0) ends.0))
           (subst (λ (v : NotedState). HasRoom front g a
           (with_held now (changed (with_group (moved_group group)) now.held p)) v) (sym ends.1) (record {

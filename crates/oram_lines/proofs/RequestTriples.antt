@@ -152,7 +152,8 @@ module _ (keys : Keys) (lawful : AreKeys keys) (levels : ℕ) (began : ℕ → L
       held_then now seen m x =
           let g2 = taken_out x.h a.0 (counter_in now a) in
           let stands = taken_stands front g a now seen m x in
-          comes_on keys lawful levels began (hold_plan now (refilled now a seen.line)) (λ last _. Done (last, seen.end)) m
+          comes_on keys lawful levels began (hold_plan now (refilled now a seen.line))
+          (λ last _. Done (last, seen.end)) m
           (λ later_front _ t. NowHeld keys lawful levels began now g2 a later_front t)
           (λ later_front end t. NowHeld keys lawful levels began front g a later_front t)
           (hold_comes keys lawful levels began now g2 m a seen.line family stands refl refl refl x.calm.move inside
@@ -194,7 +195,8 @@ module _ (keys : Keys) (lawful : AreKeys keys) (levels : ℕ) (began : ℕ → L
   -- The walks to all blocks under so many layers.
   abbrev pub Walks : ℕ → Type 0
   Walks above = (front : FrontState) (g : Ghost) (s : NotedState) (asked : ℕ) (a : Address)
-      → StandsNoted keys levels began 0 front g s → IsCalm g → a.0 < keys.shape.total → IsUnder keys lawful levels above a.0
+      → StandsNoted keys levels began 0 front g s → IsCalm g → a.0 < keys.shape.total
+      → IsUnder keys lawful levels above a.0
       → Comes keys lawful levels began (walk_plan above front asked a) s
       (λ later_front end t. Walked front g a later_front t)
 
@@ -253,11 +255,12 @@ module _ (keys : Keys) (lawful : AreKeys keys) (levels : ℕ) (began : ℕ → L
           let over = with_parent p up in
           let total = (shape_layered keys.shape lawful.shape).total in
           let family = child_of_parent keys.shape.lines keys.shape.layers a.0 p.0 (omega (arith, inside, total)) up in
-          comes_on keys lawful levels began (walk_plan above now asked p) (λ later_front end. refill_plan later_front end p) s
+          comes_on keys lawful levels began (walk_plan above now asked p)
+          (λ later_front end. refill_plan later_front end p) s
           (λ later_front end m. Walked now g p later_front m)
           (λ later_front end t. Walked front g a later_front t)
-          (walk_before now g s asked p (subst (λ (f : FrontState). StandsNoted keys levels began 0 f g s) (sym is) st) calm
-          over.1 (under p.0 up))
+          (walk_before now g s asked p (subst (λ (f : FrontState). StandsNoted keys levels began 0 f g s) (sym is) st)
+          calm over.1 (under p.0 up))
           (λ mid_front end m x t later_front y ends.
           elim (refill_comes mid_front x.h m end p (family.0, family.1) x.stands x.calm x.first over.1
           (λ has. elim (x.among p.0 has) [

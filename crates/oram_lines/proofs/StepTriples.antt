@@ -184,7 +184,8 @@ module _ (keys : Keys) (lawful : AreKeys keys) (levels : ℕ) (began : ℕ → L
       (x, mid, one, (is, same)) =
       let (notes, least, rests) = st.port.rests in
       let stp = step_shown keys lawful front g s.port.tap.log a st.port.shown st.port.small
-      (few_draws keys lawful levels notes g s.port st.port.known rests) inside calm.stepped calm.pend calm.move first unheld room in
+      (few_draws keys lawful levels notes g s.port st.port.known rests) inside calm.stepped calm.pend calm.move first
+      unheld room in
       let access : Access = record {
         asked = asked;
         address = a;

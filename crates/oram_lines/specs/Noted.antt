@@ -44,7 +44,8 @@ lines_then lines request = (memory 0 lines request).held
 -- each is answered so, in a memory that changes by what is put back and appended
 abbrev pub AreAnswersIn : (ℕ → Line) → Answers → Type 0
 AreAnswersIn lines [] = Unit {0}
-AreAnswersIn lines ((request, seen) ∷ more) = IsAnswerIn lines request seen × AreAnswersIn (lines_then lines request) more
+AreAnswersIn lines ((request, seen) ∷ more) =
+    IsAnswerIn lines request seen × AreAnswersIn (lines_then lines request) more
 
 -- its lines after them
 abbrev pub lines_behind : (ℕ → Line) → Answers → ℕ → Line
@@ -56,7 +57,7 @@ pub record IsMemoryOf (keys : Keys) (g : Ghost) (lines : ℕ → Line) : Type 0 
   pub each : (a : ℕ) → a < keys.shape.total → (Has a g.held → ⊥) → (g.flight ≡ Some a → ⊥)
       → (lines a).0 ≡ line_at keys.shape g a
 
--- Each run of a plan over a port is one in which its answers are noted behind others, and the other way round; and so is
+-- Each run of a plan over a port is one in which its answers are noted behind others, and the other way round; so is
 -- each that is stopped.
 pub record AreRunsNoted (keys : Keys) (levels : ℕ) {A : Type 0} (plan : FrontPlan A) : Type 0 where
   pub ends : (s t : PortState) (before : Answers) (outcome : FrontState × A)
