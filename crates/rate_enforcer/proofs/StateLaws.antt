@@ -165,6 +165,7 @@ no_room {notes} {clock} {tree} {levels} {m} {t} clock' r is =
       same = refl;
       ends = inl (stands_next r.stands);
       pace = stands_pace clock.last r.stands (omega arith) (omega (arith, (stands_apart r.stands).0));
+      in_time = r.in_time;
     })
 
 module _ {M W : Type 0} (memory_of : M → MemoryState) (tap_of : W → TapState) where
@@ -286,8 +287,8 @@ module _ {M W : Type 0} (memory_of : M → MemoryState) (tap_of : W → TapState
 
   pub read_stopped : (b c : Bus M W) {notes : ℕ} {clock : Clock} {asked : Option ℕ} (leaf : ℕ) (learner : Learner)
       (dummies real : ℕ) (stop : TreeStop) (tree tree' : TreeState) (clock' : Clock)
-      → Begun notes clock asked leaf (memory_of b.memory.now) (tap_of b.tap.now) → tree.shape ≡ clock.config.shape
-      → IfRead (Err stop) (Ran memory_of tap_of Whole (reads tree.shape.levels clock.next leaf) [] b c)
+      → Begun notes clock asked leaf (memory_of b.memory.now) (tap_of b.tap.now) → clock.next < clock.config.time
+      → tree.shape ≡ clock.config.shape → IfRead (Err stop) (Ran memory_of tap_of Whole (reads tree.shape.levels clock.next leaf) [] b c)
       (λ s. CutRead memory_of tap_of (end_at s) clock.next leaf tree tree' b c)
       → IfRead (Err stop) (tree'.ended ≡ reads_end tree.shape.levels clock.next)
       (λ _. tree'.ended ≤ reads_end tree.shape.levels clock.next)
@@ -299,7 +300,7 @@ module _ {M W : Type 0} (memory_of : M → MemoryState) (tap_of : W → TapState
         stop = Some (stop_after stop);
       }
       → Stopped clock.config clock' (stop_after stop) (tap_of c.tap.now).log
-  read_stopped b c {notes} {clock} leaf learner dummies real stop before after clock' g shape_is read ended is =
+  read_stopped b c {notes} {clock} leaf learner dummies real stop before after clock' g early shape_is read ended is =
       subst (λ (x : Clock). Stopped clock.config x (stop_after stop) (tap_of c.tap.now).log) (sym is)
       (by stop read ended)
     where
@@ -321,20 +322,20 @@ module _ {M W : Type 0} (memory_of : M → MemoryState) (tap_of : W → TapState
           }) (stop_after stop) (tap_of c.tap.now).log
       by (tree.BadSlot bucket slot) read ended =
           let p = read_pace leaf before.shape.levels after.ended g levels_are read ended in
-          record { kept = refl; same = refl; ends = p.0; pace = p.1 }
+          record { kept = refl; same = refl; ends = p.0; pace = p.1; in_time = omega (arith, p.0, early) }
       by (tree.OffPath bucket slot) read ended =
           let p = read_pace leaf before.shape.levels after.ended g levels_are read ended in
-          record { kept = refl; same = refl; ends = p.0; pace = p.1 }
+          record { kept = refl; same = refl; ends = p.0; pace = p.1; in_time = omega (arith, p.0, early) }
       by (tree.Doubled address) read ended =
           let p = read_pace leaf before.shape.levels after.ended g levels_are read ended in
-          record { kept = refl; same = refl; ends = p.0; pace = p.1 }
+          record { kept = refl; same = refl; ends = p.0; pace = p.1; in_time = omega (arith, p.0, early) }
       by (tree.Full held) read ended = absurd read
       by tree.Device read ended =
           let p = cut_pace leaf before after g shape_is read in
-          record { kept = refl; same = refl; ends = inl p.0; pace = p.1 }
+          record { kept = refl; same = refl; ends = inl p.0; pace = p.1; in_time = omega (arith, p.0.1, p.0.2, early) }
       by tree.NoMemory read ended =
           let p = cut_pace leaf before after g shape_is read in
-          record { kept = refl; same = refl; ends = inr (inl p.0); pace = p.1 }
+          record { kept = refl; same = refl; ends = inr (inl p.0); pace = p.1; in_time = omega (arith, p.0.1, p.0.2, early) }
 
   -- the pace up to the cycle after a write
   cut_write_pace : {b c : Bus M W} {notes levels : ℕ} {clock : Clock} {cut : RunEnd} (slot : OpenSlot)
@@ -390,15 +391,28 @@ module _ {M W : Type 0} (memory_of : M → MemoryState) (tap_of : W → TapState
             pace = subst (λ (x : Bus M W). KeepsPace clock.config after.ended (tap_of x.tap.now).log) (sym write)
                 (reads_pace (l + 1) after.ended o.stands (omega arith) (omega (arith, at)) (omega (arith, at))
                 (omega (arith, at)));
+            in_time = omega (arith, at, o.is_open.early);
           }
       by tree.Device write ended =
           let p = cut_write_pace slot before after o (subst (λ n. CutWrite memory_of tap_of MoveFailed n slot.leaf.0
           before after b c) o.is_open.starts write) in
-          record { kept = refl; same = refl; ends = inr p.0; pace = p.1 }
+          record {
+            kept = refl;
+            same = refl;
+            ends = inr p.0;
+            pace = p.1;
+            in_time = omega (arith, p.0.1, p.0.2, o.is_open.early);
+          }
       by tree.NoMemory write ended =
           let p = cut_write_pace slot before after o (subst (λ n. CutWrite memory_of tap_of RanOut n slot.leaf.0
           before after b c) o.is_open.starts write) in
-          record { kept = refl; same = refl; ends = inr (inr p.0); pace = p.1 }
+          record {
+            kept = refl;
+            same = refl;
+            ends = inr (inr p.0);
+            pace = p.1;
+            in_time = omega (arith, p.0.1, p.0.2, o.is_open.early);
+          }
 
 -- the bus is ready for the writes
 pub ready_open : {notes levels : ℕ} {clock : Clock} {slot : OpenSlot} {m : MemoryState} {t : TapState}
@@ -652,6 +666,7 @@ no_slot {notes} {levels} {clock} {tree} {m} {t} clock' r is =
       same = refl;
       ends = (refl, stands_next r.stands);
       pace = stands_pace clock.last r.stands (omega arith) (omega (arith, (stands_apart r.stands).0));
+      in_time = r.in_time;
     })
 
 pub is_up : {notes levels : ℕ} {clock : Clock} {tree : TreeState} {m : MemoryState} {t : TapState}

@@ -1,7 +1,7 @@
 -- How many slots started, and which rates were chosen, by what was noted of them; and which events answer a line.
-use Rattle.std.specs.Prelude.{◌≡◌, Bool, true, false, None, Some}
+use Rattle.std.specs.Prelude.{◌≡◌, ◌<◌, ◌^◌, All, Bool, true, false, None, Some}
 use Rattle.std.specs.List.{count_by}
-use Rattle.bus_schedule.specs.Shown.{indices_of}
+use Rattle.bus_schedule.specs.Shown.{indices_of, leaves_of}
 use Rattle.bus_schedule.specs.Timetable.{public_of}
 use Rattle.bus_watch.specs.declared.log.Event.{Event}
 use Rattle.bus_watch.specs.declared.log.Event.TheVariants.{Access, Drawn, Tagged, Accepted, Chosen, Answered}
@@ -39,8 +39,9 @@ is_answered (Chosen index) = false
 is_answered (Answered line value) = true
 
 -- A clock counts the starts that a log notes, those of dummies and those that were asked for; and its learner counts
--- the choices that the log notes, which are the digits of its code.
+-- the choices that the log notes, which are the digits of its code. Each leaf that is drawn is one of the clock's tree.
 pub record IsCounted (clock : Clock) (log : LogLists) : Type 0 where
   pub dummies : clock.dummies ≡ count_by is_dummy log.events
   pub real : clock.real ≡ count_by is_real log.events
   pub code : HasCode (public_of clock.config) (indices_of log.events) clock.learner
+  pub leaves : All (λ leaf. leaf < 2 ^ clock.config.shape.levels) (leaves_of log.events)

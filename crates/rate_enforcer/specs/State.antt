@@ -71,12 +71,13 @@ pub record Opens (notes : ℕ) (clock : Clock) (slot : OpenSlot) (tree : TreeSta
   pub is_for : IsFor clock tree levels
 
 -- A stopped clock: it keeps its stop, and its last end is the one that the stop leaves, up to which the log keeps the
--- pace.
+-- pace, and which comes less than a slot's cycles after the time of the settings.
 pub record Stopped (config : Config) (clock : Clock) (stop : Stop) (log : LogLists) : Type 0 where
   pub kept : clock.stop ≡ Some stop
   pub same : clock.config ≡ config
   pub ends : EndsAt stop config.shape.levels clock.learner.rate clock.next clock.last
   pub pace : KeepsPace config clock.last log
+  pub in_time : clock.last < config.time + olat_of config.shape.levels
 
 -- No slot is left: the first that starts at or after the smaller of the time asked and the time of the settings would
 -- start at this one, which isn't before that of the settings. The log keeps the pace up to each time from the last end

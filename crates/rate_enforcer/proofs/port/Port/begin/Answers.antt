@@ -1,4 +1,4 @@
-use Rattle.std.proofs.Common.{◌≡◌, ◌∙◌, ◌+◌, ◌∷◌, [], Some, ℕ, refl, ap, sym, subst, inl}
+use Rattle.std.proofs.Common.{◌≡◌, ◌∙◌, ◌+◌, ◌<◌, ◌^◌, ◌∷◌, [], Some, ℕ, refl, ap, sym, subst, inl}
 use Rattle.asc_base.specs.declared.shape.Shape.{Shape}
 use Rattle.asc_base.specs.declared.stop.Stop.{Stop}
 use Rattle.bus_watch.specs.RunEnd.{Whole}
@@ -19,9 +19,14 @@ use Rattle.rate_enforcer.proofs.StateLaws.{begun, ready_begun, opened, no_room, 
 use Rattle.rate_enforcer.proofs.StateLaws.{few_dummies, few_real}
 use Rattle.rate_enforcer.proofs.Breaks.{moves_read, read_breaks, same_contents}
 use Rattle.rate_enforcer.proofs.Contents.{two_events, slot_read}
-use Rattle.rate_enforcer.proofs.Counted.{counted_begun}
+use Rattle.rate_enforcer.proofs.Counted.{counted_begun, counted_still}
 use Rattle.rate_enforcer.proofs.Breaks.{read_silent}
 use Rattle.rate_enforcer.proofs.port.Port.begin.Goals as goal
+
+-- the leaf of a point is one of the tree
+drawn_below : (leaf drawn levels wanted : ℕ) → drawn ≡ leaf → levels ≡ wanted → drawn < 2 ^ levels → leaf < 2 ^ wanted
+drawn_below leaf drawn levels wanted is same below =
+    subst (λ n. n < 2 ^ wanted) is (subst (λ n. drawn < 2 ^ n) same below)
 
 pub returns-in-Err-clause-ran_err : goal.returns-in-Err-clause-ran_err
 returns-in-Err-clause-ran_err g c = record {
@@ -116,7 +121,7 @@ returns-in-Err-read_path-clause-stopped g c =
     (t c.read_path.new.bus.tap.now).log) (sym c.stop_of-stop.ensures)
     (read_stopped m t c.note-2.new.self c.read_path.new.bus c.leaf-leaf.result.0 c.saw.new.self d r
     c.in-Err-read_path.stop c.room.new.self c.read_path.new.self
-    c.stop_at-in-Err-read_path.new.self.clock b (c.room.ensures.same.shape ∙ c.requires.rests.is_for.shape)
+    c.stop_at-in-Err-read_path.new.self.clock b c.requires.early (c.room.ensures.same.shape ∙ c.requires.rests.is_for.shape)
     c.in-Err-read_path.ensures.ran c.in-Err-read_path.ensures.ended is)
 
 pub returns-in-Ok-read_path-clause-noted : goal.returns-in-Ok-read_path-clause-noted
@@ -179,6 +184,13 @@ returns-in-Err-read_path-clause-breaks g c tags =
     c.read_path.ensures.mirror c.in-Err-read_path.stop c.read_path.ensures.gains c.in-Err-read_path.ensures.ran
     c.in-Err-read_path.ensures.read))
 
+pub returns-in-Err-clause-counts : goal.returns-in-Err-clause-counts
+returns-in-Err-clause-counts g c counted =
+    let log = (g.W.Watch.state c.args.bus.now.tap.now).log in
+    let is = c.stop_at.ensures.clock in
+    counted_still c.args.self.now.clock c.stop_at.new.self.clock log log refl (ap (λ (x : Clock). x.config) is)
+    (ap (λ (x : Clock). x.learner) is) (ap (λ (x : Clock). x.dummies) is) (ap (λ (x : Clock). x.real) is) counted
+
 pub returns-in-Err-read_path-clause-counts : goal.returns-in-Err-read_path-clause-counts
 returns-in-Err-read_path-clause-counts g c counted =
     let t = g.W.Watch.state in
@@ -195,7 +207,8 @@ returns-in-Err-read_path-clause-counts g c counted =
     (ap (λ (x : Clock). x.config) is ∙ ap (λ (x : Clock). x.config) c.count.ensures)
     (ap (λ (x : Clock). x.learner) is ∙ ap (λ (x : Clock). x.learner) c.count.ensures ∙ c.saw.ensures.after)
     (ap (λ (x : Clock). x.dummies) is ∙ ap (λ (x : Clock). x.dummies) c.count.ensures)
-    (ap (λ (x : Clock). x.real) is ∙ ap (λ (x : Clock). x.real) c.count.ensures) counted
+    (ap (λ (x : Clock). x.real) is ∙ ap (λ (x : Clock). x.real) c.count.ensures)
+    (drawn_below _ _ _ _ c.leaf-leaf.ensures.value c.requires.rests.is_for.levels_are c.leaf-leaf.ensures.below) counted
 
 pub returns-in-Ok-read_path-clause-counts : goal.returns-in-Ok-read_path-clause-counts
 returns-in-Ok-read_path-clause-counts g c counted =
@@ -205,4 +218,5 @@ returns-in-Ok-read_path-clause-counts g c counted =
     (g.L.LeafFn.leaf_of c.args.self.now.leaves c.args.point) c.args.asked c.args.point
     (returns-in-Ok-read_path-clause-noted g c) (ap (λ (x : Clock). x.config) c.count.ensures)
     (ap (λ (x : Clock). x.learner) c.count.ensures ∙ c.saw.ensures.after)
-    (ap (λ (x : Clock). x.dummies) c.count.ensures) (ap (λ (x : Clock). x.real) c.count.ensures) counted
+    (ap (λ (x : Clock). x.dummies) c.count.ensures) (ap (λ (x : Clock). x.real) c.count.ensures)
+    (drawn_below _ _ _ _ c.leaf-leaf.ensures.value c.requires.rests.is_for.levels_are c.leaf-leaf.ensures.below) counted

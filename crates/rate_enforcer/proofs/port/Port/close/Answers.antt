@@ -175,8 +175,8 @@ returns-in-Ok-clause-counts g c counted =
     let is = c.end_slot.ensures.clock in
     counted_ended c.args.self.now.clock c.end_slot.new.self (t c.args.bus.now.tap.now).log
     (t c.end_slot.new.bus.tap.now).log (returns-in-Ok-clause-ended g c)
-    (returns-in-Ok-clause-rests g c 0 c.requires.opens).stands.step.code (ap (λ (x : Clock). x.dummies) is)
-    (ap (λ (x : Clock). x.real) is) counted
+    (returns-in-Ok-clause-rests g c 0 c.requires.opens).stands.step.code (ap (λ (x : Clock). x.config) is)
+    (ap (λ (x : Clock). x.dummies) is) (ap (λ (x : Clock). x.real) is) counted
 
 pub returns-in-Err-clause-counts : goal.returns-in-Err-clause-counts
 returns-in-Err-clause-counts g c counted =

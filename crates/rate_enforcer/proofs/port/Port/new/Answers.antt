@@ -1,5 +1,7 @@
-use Rattle.std.proofs.Common.{◌∙◌, ℕ, None, ap, subst}
-use Rattle.bus_schedule.specs.Shown.{indices_of}
+use Rattle.std.proofs.Common.{◌∙◌, ◌<◌, ◌^◌, ℕ, None, ap, subst}
+use Rattle.std.specs.Prelude.{All}
+use Rattle.std.proofs.lemmas.List.Elements.{All-nil}
+use Rattle.bus_schedule.specs.Shown.{indices_of, leaves_of}
 use Rattle.bus_schedule.specs.Timetable.{public_of}
 use Rattle.epoch_learner.proofs.RuleLaws.{start_code}
 use Rattle.epoch_learner.specs.Learner.{learner_at_start, HasCode}
@@ -37,4 +39,6 @@ returns-clause-counts g c log none = record {
       (sym c.new-learner.ensures.start)
       (subst (λ events. HasCode (public_of c.args.config.now) (indices_of events) (learner_at_start c.args.config.now))
       (sym none) (start_code c.args.config.now));
+  leaves = subst (All (λ leaf. leaf < 2 ^ c.args.config.now.shape.levels)) (sym (ap leaves_of none))
+      (All-nil (λ leaf. leaf < 2 ^ c.args.config.now.shape.levels));
 }

@@ -60,6 +60,16 @@ returns-then-self-clause-up g c = λ none at is.
     subst (λ n. IsUp clock.config n c.args.asked clock' log) at_is
     (subst (λ (x : Config). IsUp x now.next c.args.asked clock' log) config up)
 
+pub begin-requires-clause-rests : goal.begin-requires-clause-rests
+begin-requires-clause-rests g c =
+    let none : c.args.self.now.clock.stop ≡ None = search rules in
+    c.in-Ok.ensures.rests 0 (c.requires.rests none)
+
+pub returns-then-self-clause-counts : goal.returns-then-self-clause-counts
+returns-then-self-clause-counts g c counted =
+    let k = c.pass_until.ensures.counts counted in
+    record { dummies = k.dummies; real = k.real; code = k.code; leaves = k.leaves }
+
 pub returns-then-self-clause-stopped : goal.returns-then-self-clause-stopped
 returns-then-self-clause-stopped g c = λ none.
     let now = c.pass_until.new.self.clock in
@@ -177,9 +187,7 @@ returns-then-self-clause-step g c =
           c.args.self.now.clock (record now.clock { stop = Some (TimeUp now.clock.next) }) c.args.self.now.tree
           now.tree c.in-Ok.ensures.ran;
       stopped = returns-then-self-clause-stopped g c none;
-      counts = λ counted.
-          let k = c.pass_until.ensures.counts counted in
-          record { dummies = k.dummies; real = k.real; code = k.code };
+      counts = returns-then-self-clause-counts g c;
       breaks = returns-then-self-clause-breaks g c none;
     })
 
