@@ -1,5 +1,5 @@
-//! Laws of the line list: which lines a step asks for, in which order, and how a run's items are those of its steps. The calls
-//! do nothing.
+//! Laws of the steps, by the instruction table, and of the line list: which lines a step asks for, in which order, and
+//! how a run's items are those of its steps. The calls do nothing.
 
 ghost use Rattle.std.specs.Prelude.{◌≡◌, ◌≢◌, ℕ, suc, ◌+◌, ◌/◌, ◌<◌, ◌≤◌, length, true, false, List, [], ◌∷◌, ◌++◌, map, All, AllPairs};
 ghost use Rattle.std.specs.Int.{from_le_bytes, w32};
@@ -7,17 +7,34 @@ ghost use Rattle.asc_base.specs.Memory.{IsMemory};
 ghost use Rattle.request_plan.specs.Plan.{Plan, Done as Outcome, Ask, bind, Asks, Outcomes};
 ghost use Rattle.request_plan.specs.Play.{served};
 ghost use Rattle.rv32_core.specs.Access.{Access, Load, IsAccess, access_bytes};
-ghost use Rattle.rv32_core.specs.Machine.{CoreState, Machine, IsCore, is_inside};
-ghost use Rattle.rv32_core.specs.FlatMachine.{trap_at, bytes_at, flat_step};
+ghost use Rattle.rv32_table.specs.Table.{table, Matches};
+ghost use Rattle.rv32_core.specs.Machine.{CoreState, Machine, IsCore, is_inside, effect_of_word, cost_of_word};
+ghost use Rattle.rv32_core.specs.FlatMachine.{trap_at, bytes_at, effected, flat_step};
+ghost use Rattle.rv32_core.specs.RowStep.{row_step};
 ghost use Rattle.rv32_core.specs.FlatRun.{Budget, Exited, finished_before, flat_run, gone_on, machine_at_start, output_limit};
 ghost use Rattle.rv32_core.specs.RunPlan.{end_of, after_instruction, run_plan};
 ghost use Rattle.rv32_core.specs.StepPlan.{word_plan, step_plan};
 ghost use Rattle.rv32_core.specs.LineList.{Read, WholeWrite, LineUse, LineItem, used, word_lines, fetch_line, step_lines, items_after};
 ghost use Rattle.rv32_core.specs.LineList.{run_items, image_items, image_cost, line_list, line_used, AsksLines, asked_lines, cost_after};
+ghost use Rattle.rv32_core.specs.declared.effect.Effect.TheVariants.{Traps};
 ghost use Rattle.rv32_core.specs.declared.outcome.Done.{Done};
 ghost use Rattle.rv32_core.specs.declared.outcome.TrapKind.{TrapKind};
-ghost use Rattle.rv32_core.specs.declared.outcome.TrapKind.TheVariants.{FetchFault};
+ghost use Rattle.rv32_core.specs.declared.outcome.TrapKind.TheVariants.{FetchFault, Illegal};
 ghost use Rattle.rv32_core.specs.declared.outcome.Ended.TheVariants.{No, Trap};
+
+/// A word that matches a row of the instruction table does what the meaning beside the row says, by the meaning's name
+/// and the fields of the row's form alone; so does a step that fetches it. A word that matches no row is illegal.
+pub fn steps_are_the_table()
+    ensures word { (machine : Machine) (memory : List ℕ) (cost word : ℕ)
+        → All (λ row. Matches word row
+        → effected machine memory cost (effect_of_word machine word) ≡ row_step machine memory cost word row) table }
+    ensures step { (machine : Machine) (memory : List ℕ) (word : ℕ) → is_inside machine.core machine.core.pc 4 ≡ true
+        → from_le_bytes w32 (bytes_at machine memory machine.core.pc 4) ≡ word
+        → All (λ row. Matches word row
+        → flat_step machine memory ≡ row_step machine memory (cost_of_word machine word) word row) table }
+    ensures illegal { (machine : Machine) (word : ℕ) → All (λ row. ¬ Matches word row) table
+        → effect_of_word machine word ≡ Traps Illegal }
+{}
 
 /// Whatever is answered, a step asks for the lines of its instruction in order, each once: for its fetch, and then for its
 /// data. Where the four bytes at pc aren't all in the memory it asks for nothing.

@@ -27,7 +27,8 @@ pub use flat::{FlatBytes, Never};
 pub use hart::Core;
 pub use laws::{
     bytes_stay, image_lines_first, items_go_on, lines_in_order, lines_rise, outputs_begin_alike,
-    run_is_one_plan, runs_go_on, step_asks_its_lines, traps_give_no_data, worked_line_lists,
+    run_is_one_plan, runs_go_on, step_asks_its_lines, steps_are_the_table, traps_give_no_data,
+    worked_line_lists,
 };
 pub use memory::Bytes;
 pub use outcome::{Done, Ended, TrapKind};
