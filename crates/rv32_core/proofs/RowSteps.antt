@@ -1,11 +1,13 @@
 -- A step does what the row of its word means.
-use Rattle.std.proofs.Common.{◌≡◌, ℕ, ◌%◌, zero, suc, Bool, true, false, ◌==◌, if◌then◌else◌, List, [], ◌∷◌, refl, sym, ap, ◌∙◌, arith}
-use Rattle.std.specs.Prelude.{ℤ, Option, Some, None, option_map, find, bit_and, All, AllPairs}
+use Rattle.std.proofs.Common.{◌≡◌, ℕ, ◌%◌, suc, Bool, true, false, ◌==◌, if◌then◌else◌, List, [], ◌∷◌, refl, ap, ◌∙◌}
+use Rattle.std.proofs.Common.{arith}
+use Rattle.std.specs.Prelude.{Option, Some, option_map, find, bit_and, All, AllPairs}
 use Rattle.std.specs.Int.{from_le_bytes, w32}
 use Rattle.std.proofs.lemmas.Bool.{eq-eqb, eqb-true}
 use Rattle.std.proofs.lemmas.List.Elements.{All-nil, All-cons}
 use Rattle.rv32_table.specs.Fields.{rd_of, rs1_of, rs2_of, immediate_i, immediate_s, immediate_b}
-use Rattle.rv32_table.specs.Meaning.{Branches, Loads, Stores, register_meaning, branch_meaning, load_meaning, load_width, store_width, address_of, target_of}
+use Rattle.rv32_table.specs.Meaning.{Branches, Loads, Stores, register_meaning, branch_meaning, load_meaning}
+use Rattle.rv32_table.specs.Meaning.{load_width, store_width, address_of, target_of}
 use Rattle.rv32_table.specs.Table.{Row, table, Matches, is_match, instruction_of, decoded}
 use Rattle.rv32_table.specs.declared.instruction.Instr.{Instr}
 use Rattle.rv32_table.specs.declared.instruction.Instr.TheVariants.{Branch, Load, Store}
@@ -18,12 +20,14 @@ use Rattle.rv32_table.specs.declared.instruction.StoreOp.TheVariants.{Sb, Sh, Sw
 use Rattle.rv32_table.proofs.Apart.{table-apart}
 use Rattle.rv32_table.proofs.ListLaws.{◌▹◌, EachRow, NotBoth}
 use Rattle.rv32_table.proofs.TableLaws.{outside-decoded}
-use Rattle.rv32_core.specs.Machine.{Machine, is_inside, register, jump_to, branch_of, load_from, store_at, effect_of, effect_of_decoded, effect_of_word, cost_of_word}
+use Rattle.rv32_core.specs.Machine.{Machine, is_inside, register, jump_to, effect_of, effect_of_decoded, effect_of_word}
+use Rattle.rv32_core.specs.Machine.{cost_of_word}
 use Rattle.rv32_core.specs.FlatMachine.{FlatStep, bytes_at, effected, flat_step}
 use Rattle.rv32_core.specs.RowStep.{meant, row_step}
 use Rattle.rv32_core.specs.declared.effect.Effect.{Effect}
 use Rattle.rv32_core.specs.declared.effect.Effect.TheVariants.{Passes, Loads as LoadsTo, Stores as StoresAt, Traps}
-use Rattle.rv32_core.specs.declared.outcome.TrapKind.TheVariants.{Illegal, FetchFault, LoadMisaligned, StoreMisaligned, LoadFault, StoreFault}
+use Rattle.rv32_core.specs.declared.outcome.TrapKind.TheVariants.{Illegal, FetchFault, LoadMisaligned, StoreMisaligned}
+use Rattle.rv32_core.specs.declared.outcome.TrapKind.TheVariants.{LoadFault, StoreFault}
 
 -- ---- the row that a word matches is the one that is found
 found-here : (word : ℕ) (rows : List Row) (x : Row) → Matches word x → find (is_match word) (x ∷ rows) ≡ Some x
@@ -169,7 +173,8 @@ pub row-stepped : (machine : Machine) (memory : List ℕ) (word : ℕ) → is_in
     → All (λ r. Matches word r
     → flat_step machine memory ≡ row_step machine memory (cost_of_word machine word) word r) table
 row-stepped machine memory word inside is = λ k d below m.
-    fetched-step machine memory word inside is ∙ row-effected machine memory (cost_of_word machine word) word k d below m
+    fetched-step machine memory word inside is
+    ∙ row-effected machine memory (cost_of_word machine word) word k d below m
 
 pub row-illegal : (machine : Machine) (word : ℕ) → All (λ r. Matches word r → ⊥) table
     → effect_of_word machine word ≡ Traps Illegal

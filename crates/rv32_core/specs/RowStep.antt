@@ -2,13 +2,16 @@
 -- which names no instruction.
 use Rattle.std.specs.Prelude.{ℕ, ℤ, pos, ◌%◌, ◌==◌, if◌then◌else◌, List, take}
 use Rattle.std.specs.Int.{from_le_bytes, to_le_bytes, w32}
-use Rattle.rv32_table.specs.Fields.{rd_of, rs1_of, rs2_of, immediate_i, immediate_s, immediate_b, immediate_u, immediate_j}
-use Rattle.rv32_table.specs.Meaning.{Meaning, SetsUpper, SetsFromBoth, SetsFromImmediate, Links, Branches, Loads, Stores, Passes, CallsHost, BreaksOff, low_word, target_of, address_of}
+use Rattle.rv32_table.specs.Fields.{rd_of, rs1_of, rs2_of, immediate_i, immediate_s, immediate_b, immediate_u}
+use Rattle.rv32_table.specs.Fields.{immediate_j}
+use Rattle.rv32_table.specs.Meaning.{Meaning, SetsUpper, SetsFromBoth, SetsFromImmediate, Links, Branches, Loads}
+use Rattle.rv32_table.specs.Meaning.{Stores, Passes, CallsHost, BreaksOff, low_word, target_of, address_of}
 use Rattle.rv32_table.specs.Table.{Form, FormR, FormI, FormShift, FormS, FormB, FormU, FormJ, FormFence, FormWhole, Row}
 use Rattle.rv32_core.specs.Machine.{Machine, is_inside, register, at_pc, next_pc, jump_to, call_of}
 use Rattle.rv32_core.specs.FlatMachine.{FlatStep, set_to, bytes_at, with_bytes, stepped, effected}
 use Rattle.rv32_core.specs.declared.effect.Effect.TheVariants.{Passes as GoesOn, Sets, Traps}
-use Rattle.rv32_core.specs.declared.outcome.TrapKind.TheVariants.{LoadMisaligned, StoreMisaligned, LoadFault, StoreFault, Breakpoint}
+use Rattle.rv32_core.specs.declared.outcome.TrapKind.TheVariants.{LoadMisaligned, StoreMisaligned, LoadFault}
+use Rattle.rv32_core.specs.declared.outcome.TrapKind.TheVariants.{StoreFault, Breakpoint}
 
 -- the signed immediate of a word in a form, a shift's amount too; 0 where the form has none
 abbrev pub immediate_of : Form → ℕ → ℤ

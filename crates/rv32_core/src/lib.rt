@@ -1,12 +1,12 @@
 //! The machine: a RISC-V core with 32 registers of 32 bits over any bytes, and its input and output.
 //!
-//! A core keeps its registers and its program counter, and asks a [`Bytes`] for every word that it fetches. What it asks
-//! and what comes of it is `step_plan` of `specs/StepPlan.antt`; over bytes that are told, a step is `flat_step` of
-//! `specs/FlatMachine.antt`, and a run of so many steps is `flat_run` of `specs/FlatRun.antt`. Sections that the
+//! A core keeps its registers and its program counter, and asks a [`Bytes`] for every word that it fetches. What it
+//! asks and what comes of it is `step_plan` of `specs/StepPlan.antt`; over bytes that are told, a step is `flat_step`
+//! of `specs/FlatMachine.antt`, and a run of so many steps is `flat_run` of `specs/FlatRun.antt`. Sections that the
 //! definitions name are those of the RISC-V unprivileged manual.
 //!
-//! The instructions are those of RV32IM and FENCE.I; an ECALL knows the host calls 63, read, 64, write, 93, exit, and 214,
-//! brk, and answers -38 to every other number.
+//! The instructions are those of RV32IM and FENCE.I; an ECALL knows the host calls 63, read, 64, write, 93, exit, and
+//! 214, brk, and answers -38 to every other number.
 #![tactic(auto)]
 
 mod access;
