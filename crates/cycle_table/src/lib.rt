@@ -1,8 +1,8 @@
 //! The cost of each instruction in cycles.
 //!
-//! Plain instructions cost 1, taken jumps and branches 2, loads and stores 2, multiplications 3, divisions and remainders
-//! 34, and a host call 10 and one for each byte that it moves. The numbers are this project's own; they stand in
-//! `specs/Costs.antt`.
+//! Plain instructions cost 1, taken jumps and branches 2, loads and stores 2, multiplications 3, divisions and
+//! remainders 34, and a host call 10 and one for each byte that it moves. The numbers are this project's own; they
+//! stand in `specs/Costs.antt`.
 #![tactic(auto)]
 
 ghost use Rattle.std.specs.Prelude.{◌≡◌, ◌^◌, ◌<◌};
@@ -31,8 +31,8 @@ const DIVIDE: u64 = 34;
 /// The cycles of a host call that moves no byte.
 const CALL: u64 = 10;
 
-/// The cycles of an instruction that ends without a trap. `taken` says whether a branch is taken; JAL and JALR always are.
-/// `moved` is how many bytes a host call moves. Other instructions ignore both.
+/// The cycles of an instruction that ends without a trap. `taken` says whether a branch is taken; JAL and JALR always
+/// are. `moved` is how many bytes a host call moves. Other instructions ignore both.
 pub fn cost(instr: &Instr, taken: bool, moved: u64) -> u64
     requires { moved < 2 ^ 32 }
     ensures { result ≡ cost_of instr.now taken moved }

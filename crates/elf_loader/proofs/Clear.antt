@@ -1,10 +1,15 @@
 -- Where the program headers stand in a file without faults.
-use Rattle.std.proofs.Common.{◌≡◌, ℕ, ◌+◌, ◌*◌, ◌≤◌, ◌<◌, ◌%◌, inl, inr, List, length, arith, [], ◌∷◌, get_or, ap, subst, refl, sym, ◌∙◌}
+use Rattle.std.proofs.Common.{◌≡◌, ℕ, ◌+◌, ◌*◌, ◌≤◌, ◌<◌, ◌%◌, inl, inr, List, length, arith, [], ◌∷◌, get_or, ap}
+use Rattle.std.proofs.Common.{subst, refl, sym, ◌∙◌}
 use Rattle.std.proofs.lemmas.Bool.{cases_lt, cases_eq}
 use Rattle.elf_loader.specs.Elf.{entry_of, header_at, header_count, header_offset}
-use Rattle.elf_loader.specs.Faults.{HasNoTable, HasOtherEntry, HasTable, IsBadSegment, IsClearBefore, IsFault, IsFaultless, IsFirstFault, IsInterpreter, IsLoad, IsOutside, IsReadable, IsShort, OverlapsLower, index_of, place_of}
+use Rattle.elf_loader.specs.Faults.{HasNoTable, HasOtherEntry, HasTable, IsBadSegment, IsClearBefore, IsFault}
+use Rattle.elf_loader.specs.Faults.{IsFaultless, IsFirstFault, IsInterpreter, IsLoad, IsOutside, IsReadable, IsShort}
+use Rattle.elf_loader.specs.Faults.{OverlapsLower, index_of, place_of}
 use Rattle.elf_loader.specs.declared.fault.ElfFault.{ElfFault}
-use Rattle.elf_loader.specs.declared.fault.ElfFault.TheVariants.{Short, Magic, Class, Order, Version, FileType, Machine, Compressed, HeaderSize, Table, Interp, Segment, Outside, Overlap, Entry, NoMemory}
+use Rattle.elf_loader.specs.declared.fault.ElfFault.TheVariants.{Short, Magic, Class, Order, Version, FileType, Machine}
+use Rattle.elf_loader.specs.declared.fault.ElfFault.TheVariants.{Compressed, HeaderSize, Table, Interp, Segment}
+use Rattle.elf_loader.specs.declared.fault.ElfFault.TheVariants.{Outside, Overlap, Entry, NoMemory}
 
 table : (file : List ℕ) → ¬ IsShort file → ¬ HasNoTable file → HasTable file
 table file long tabled = record {

@@ -1,6 +1,7 @@
 -- Two stretches meet exactly where they have a byte in common, so a line is touched exactly where the file part covers
 -- an address of it.
-use Rattle.std.proofs.Common.{◌≡◌, ℕ, ◌+◌, ◌≤◌, ◌<◌, arith, true, max, ◌&&◌, ◌==◌, nat_le, nat_lt, min, refl, ltb-true, lt-ltb}
+use Rattle.std.proofs.Common.{◌≡◌, ℕ, ◌+◌, ◌≤◌, ◌<◌, arith, true, max, ◌&&◌, ◌==◌, nat_le, nat_lt, min, refl, ltb-true}
+use Rattle.std.proofs.Common.{lt-ltb}
 use Rattle.std.proofs.lemmas.Bool.Decides.{nat_tests}
 use Rattle.elf_loader.specs.declared.header.ProgramHeader.{ProgramHeader}
 use Rattle.elf_loader.specs.Layout.{covers, meets, touches}

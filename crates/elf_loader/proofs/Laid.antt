@@ -1,5 +1,7 @@
 -- File parts in their places among zeros are the memory that a file describes.
-use Rattle.std.proofs.Common.{◌≡◌, ℕ, ◌+◌, ◌≤◌, ◌<◌, inl, inr, List, [], ◌∷◌, ◌++◌, length, get_or, map, replicate, refl, ap, ◌∙◌, sym, subst, arith, Bool, true, false, cond, Some, None, Option, zero, suc, add-one, zero-add, append-nil, ◌&&◌, ◌==◌, nat_le, nat_lt, max}
+use Rattle.std.proofs.Common.{◌≡◌, ℕ, ◌+◌, ◌≤◌, ◌<◌, inl, inr, List, [], ◌∷◌, ◌++◌, length, get_or, map, replicate}
+use Rattle.std.proofs.Common.{refl, ap, ◌∙◌, sym, subst, arith, Bool, true, false, cond, Some, None, Option, zero, suc}
+use Rattle.std.proofs.Common.{add-one, zero-add, append-nil, ◌&&◌, ◌==◌, nat_le, nat_lt, max}
 use Rattle.std.specs.List.{filter, find, fold, list_any, range_with_len}
 use Rattle.std.specs.Option.{option_or}
 use Rattle.std.proofs.lemmas.Bool.{cases_lt}
@@ -9,12 +11,14 @@ use Rattle.std.proofs.lemmas.List.{get_or-replicate, length-replicate, map-appen
 use Rattle.std.proofs.lemmas.List.Folds.{find-append, list_any_at, list_any_none}
 use Rattle.std.proofs.lemmas.List.Elements.{All-from_get_or}
 use Rattle.std.proofs.lemmas.List.Sums.{fold-append}
-use Rattle.std.proofs.lemmas.List.FromFn.{length-map-range_with_len, get_or-map-range_with_len, map-range_with_len_more, filter_of_map_range_with_len_more}
+use Rattle.std.proofs.lemmas.List.FromFn.{length-map-range_with_len, get_or-map-range_with_len, map-range_with_len_more}
+use Rattle.std.proofs.lemmas.List.FromFn.{filter_of_map_range_with_len_more}
 use Rattle.elf_loader.specs.declared.header.ProgramHeader.{ProgramHeader}
 use Rattle.elf_loader.specs.Elf.{header_at, header_count, first_headers, headers}
 use Rattle.elf_loader.specs.Faults.{IsBadSegment, IsFaultless, IsOutside, ShareMemory}
 use Rattle.elf_loader.specs.declared.fault.ElfFault.TheVariants.{Segment, Outside, Overlap}
-use Rattle.elf_loader.specs.Layout.{byte_at, byte_of, covers, end_of, greatest_end, image_byte, image_bytes, takes_memory, IsPlaced}
+use Rattle.elf_loader.specs.Layout.{byte_at, byte_of, covers, end_of, greatest_end, image_byte, image_bytes}
+use Rattle.elf_loader.specs.Layout.{takes_memory, IsPlaced}
 use Rattle.elf_loader.proofs.Covered.{common_meets}
 
 -- the bytes of a memory of `size` bytes from `base` on once the parts of the first `count` headers are in their places

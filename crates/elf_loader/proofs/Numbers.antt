@@ -1,5 +1,6 @@
 -- The bytes of the numbers that stand in a file.
-use Rattle.std.proofs.Common.{◌≡◌, ℕ, ◌+◌, ◌-◌, ◌≤◌, ◌<◌, List, [], ◌∷◌, length, get_or, take, drop, refl, arith, drop-cons, add-one}
+use Rattle.std.proofs.Common.{◌≡◌, ℕ, ◌+◌, ◌-◌, ◌≤◌, ◌<◌, List, [], ◌∷◌, length, get_or, take, drop, refl, arith}
+use Rattle.std.proofs.Common.{drop-cons, add-one}
 use Rattle.std.specs.Int.{from_le_bytes, w16, w32}
 use Rattle.elf_loader.specs.Elf.{half, word}
 

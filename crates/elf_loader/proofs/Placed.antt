@@ -1,5 +1,6 @@
 -- A file part in its place among bytes.
-use Rattle.std.proofs.Common.{◌≡◌, ℕ, ◌+◌, ◌-◌, ◌≤◌, ◌<◌, inl, inr, List, ◌++◌, length, get_or, take, drop, refl, ap, ◌∙◌, arith, true, false, ◌&&◌, ◌==◌, nat_le, nat_lt, length-append, length-drop}
+use Rattle.std.proofs.Common.{◌≡◌, ℕ, ◌+◌, ◌-◌, ◌≤◌, ◌<◌, inl, inr, List, ◌++◌, length, get_or, take, drop, refl, ap}
+use Rattle.std.proofs.Common.{◌∙◌, arith, true, false, ◌&&◌, ◌==◌, nat_le, nat_lt, length-append, length-drop}
 use Rattle.std.proofs.lemmas.Bool.{cases_lt}
 use Rattle.std.proofs.lemmas.Bool.Decides.{nat_tests}
 use Rattle.std.proofs.lemmas.List.{get_or-take, get_or-drop, length-take-le}

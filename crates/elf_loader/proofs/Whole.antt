@@ -1,17 +1,21 @@
 -- The image of a file without faults is one of the memory that it was asked for.
-use Rattle.std.proofs.Common.{◌≡◌, ℕ, ◌+◌, ◌*◌, ◌/◌, ◌%◌, ◌≤◌, ◌<◌, inl, inr, List, ◌∷◌, ◌++◌, length, get_or, suc, take, drop, refl, ap, ◌∙◌, subst, sym, arith, Bool, true, add-one, drop-cons, zero-add, map}
+use Rattle.std.proofs.Common.{◌≡◌, ℕ, ◌+◌, ◌*◌, ◌/◌, ◌%◌, ◌≤◌, ◌<◌, inl, inr, List, ◌∷◌, ◌++◌, length, get_or, suc}
+use Rattle.std.proofs.Common.{take, drop, refl, ap, ◌∙◌, subst, sym, arith, Bool, true, add-one, drop-cons, zero-add}
+use Rattle.std.proofs.Common.{map}
 use Rattle.std.specs.List.{filter, find, list_any, range_with_len, Contains, All}
 use Rattle.std.specs.List.Sorted.{IsStrictlyIncreasing}
 use Rattle.std.proofs.lemmas.Bool.{cases_lt, cases_eq}
 use Rattle.std.proofs.lemmas.List.{take-append-drop}
 use Rattle.std.proofs.lemmas.List.Elements.{All-filter, All-from_get_or, Contains-append_right, filter-append}
-use Rattle.std.proofs.lemmas.List.FromFn.{length-range_with_len, get_or-range_with_len, length-map-range_with_len, get_or-map-range_with_len}
+use Rattle.std.proofs.lemmas.List.FromFn.{length-range_with_len, get_or-range_with_len, length-map-range_with_len}
+use Rattle.std.proofs.lemmas.List.FromFn.{get_or-map-range_with_len}
 use Rattle.std.proofs.lemmas.List.Kept.{IsStrictlyIncreasing-filter}
 use Rattle.elf_loader.specs.declared.fault.ElfFault.TheVariants.{Entry}
 use Rattle.elf_loader.specs.declared.image.Image.{Image}
 use Rattle.elf_loader.specs.Elf.{header_at, header_count, headers, entry_of}
 use Rattle.elf_loader.specs.Faults.{IsFaultless}
-use Rattle.elf_loader.specs.Layout.{byte_of, covers, end_of, first_break, greatest_end, image_byte, image_bytes, marked_lines, takes_memory, touches}
+use Rattle.elf_loader.specs.Layout.{byte_of, covers, end_of, first_break, greatest_end, image_byte, image_bytes}
+use Rattle.elf_loader.specs.Layout.{marked_lines, takes_memory, touches}
 use Rattle.asc_base.specs.Memory.{IsMemory}
 use Rattle.elf_loader.specs.Memory.{IsImage}
 use Rattle.elf_loader.proofs.Covered.{covers-touches}

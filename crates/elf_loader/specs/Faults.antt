@@ -1,11 +1,15 @@
 -- What makes a file no program for this machine: one test for each fault, and the files that have none
 -- (System V gABI, "ELF Header" and "Program Header"; RISC-V psABI, "File Header").
-use Rattle.std.specs.Prelude.{◌≡◌, ◌≢◌, ◌⊎◌, ℕ, ◌+◌, ◌*◌, ◌%◌, ◌<◌, ◌≤◌, List, length, slice_index, false, nat_eq, bit_and, IsTrue}
+use Rattle.std.specs.Prelude.{◌≡◌, ◌≢◌, ◌⊎◌, ℕ, ◌+◌, ◌*◌, ◌%◌, ◌<◌, ◌≤◌, List, length, slice_index, false, nat_eq}
+use Rattle.std.specs.Prelude.{bit_and, IsTrue}
 use Rattle.std.specs.List.{starts_with}
 use Rattle.elf_loader.specs.declared.fault.ElfFault.{ElfFault}
-use Rattle.elf_loader.specs.declared.fault.ElfFault.TheVariants.{Short, Magic, Class, Order, Version, FileType, Machine, Compressed, HeaderSize, Table, Interp, Segment, Outside, Overlap, Entry, NoMemory}
+use Rattle.elf_loader.specs.declared.fault.ElfFault.TheVariants.{Short, Magic, Class, Order, Version, FileType, Machine}
+use Rattle.elf_loader.specs.declared.fault.ElfFault.TheVariants.{Compressed, HeaderSize, Table, Interp, Segment}
+use Rattle.elf_loader.specs.declared.fault.ElfFault.TheVariants.{Outside, Overlap, Entry, NoMemory}
 use Rattle.elf_loader.specs.declared.header.ProgramHeader.{ProgramHeader}
-use Rattle.elf_loader.specs.Elf.{magic, file_type, machine_of, entry_of, header_offset, flags_of, header_size, header_count, header_at}
+use Rattle.elf_loader.specs.Elf.{magic, file_type, machine_of, entry_of, header_offset, flags_of, header_size}
+use Rattle.elf_loader.specs.Elf.{header_count, header_at}
 use Rattle.elf_loader.specs.Layout.{meets}
 
 -- the file ends before its ELF header does

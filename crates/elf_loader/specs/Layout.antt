@@ -1,5 +1,6 @@
 -- The memory that a file describes (System V gABI, "Program Loading").
-use Rattle.std.specs.Prelude.{ℕ, ◌+◌, ◌-◌, ◌*◌, ◌/◌, min, max, Bool, true, false, ◌&&◌, ◌==◌, nat_lt, nat_le, ◌≡◌, ◌<◌, length, Option, None, Some, List, map, filter, slice_index}
+use Rattle.std.specs.Prelude.{ℕ, ◌+◌, ◌-◌, ◌*◌, ◌/◌, min, max, Bool, true, false, ◌&&◌, ◌==◌, nat_lt, nat_le, ◌≡◌, ◌<◌}
+use Rattle.std.specs.Prelude.{length, Option, None, Some, List, map, filter, slice_index}
 use Rattle.std.specs.List.{find, fold, list_any, range_with_len}
 use Rattle.std.specs.Int.{next_multiple_of}
 use Rattle.elf_loader.specs.declared.header.ProgramHeader.{ProgramHeader}

@@ -1,7 +1,8 @@
 //! The ELF header and the program headers (System V gABI, "ELF Header" and "Program Header"; RISC-V psABI).
 
 ghost use Rattle.std.specs.Prelude.{◌≡◌, ℕ, ◌+◌, ◌≤◌, ◌↔◌, length, IsTrue, if◌then◌else◌, ◌<◌, ◌*◌, ◌^◌, take, drop};
-ghost use Rattle.elf_loader.specs.Elf.{half, word, entry_of, flags_of, header_count, header_from, header_at, header_offset, header_size, file_type, machine_of};
+ghost use Rattle.elf_loader.specs.Elf.{half, word, entry_of, flags_of, header_count, header_from, header_at};
+ghost use Rattle.elf_loader.specs.Elf.{header_offset, header_size, file_type, machine_of};
 ghost use Rattle.elf_loader.specs.Faults.{HasTable, IsBadSegment, IsInterpreter, IsLoad, IsOutside, ShareMemory};
 ghost use Rattle.elf_loader.specs.Layout.{end_of, is_load, takes_memory, touches};
 

@@ -1,8 +1,10 @@
 //! The judgement of a file: its first fault, in the order in which they are named.
 
-ghost use Rattle.std.specs.Prelude.{◌≡◌, ◌≢◌, ℕ, ◌+◌, ◌≤◌, ◌<◌, ◌%◌, ◌↔◌, length, false, IsTrue, IfErr, IfNone, IfSome, OnOk};
+ghost use Rattle.std.specs.Prelude.{◌≡◌, ◌≢◌, ℕ, ◌+◌, ◌≤◌, ◌<◌, ◌%◌, ◌↔◌, length, false, IsTrue, IfErr, IfNone, IfSome};
+ghost use Rattle.std.specs.Prelude.{OnOk};
 ghost use Rattle.elf_loader.specs.Elf.{header_at, header_count};
-ghost use Rattle.elf_loader.specs.Faults.{HasTable, IsBadSegment, IsClearBefore, IsFaultless, IsFirstFault, IsInterpreter, IsOutside, OverlapsLower};
+ghost use Rattle.elf_loader.specs.Faults.{HasTable, IsBadSegment, IsClearBefore, IsFaultless, IsFirstFault};
+ghost use Rattle.elf_loader.specs.Faults.{IsInterpreter, IsOutside, OverlapsLower};
 
 use crate::fault::ElfFault;
 use crate::header::{self, read_half, read_word};
@@ -97,8 +99,10 @@ fn judge_table(file: &[u8]) -> Result<(), ElfFault>
 /// Whether a program header names an interpreter.
 fn has_interpreter(file: &[u8]) -> bool
     requires { HasTable file.now }
-    ensures found { IsTrue result → (index : ℕ) × (index < header_count file.now) × IsInterpreter (header_at file.now index) }
-    ensures none { result ≡ false → (index : ℕ) → index < header_count file.now → ¬ IsInterpreter (header_at file.now index) }
+    ensures found { IsTrue result
+        → (index : ℕ) × (index < header_count file.now) × IsInterpreter (header_at file.now index) }
+    ensures none { result ≡ false
+        → (index : ℕ) → index < header_count file.now → ¬ IsInterpreter (header_at file.now index) }
 {
     for index in 0..header::count(file) {
         if header::nth(file, index).is_interpreter() {
@@ -114,7 +118,8 @@ fn find_bad(file: &[u8]) -> Option<u32>
     ensures within { IfSome result (λ index. index < header_count file.now) }
     ensures found { IfSome result (λ index. IsBadSegment file.now (header_at file.now index)) }
     ensures least { IfSome result (λ index. (k : ℕ) → k < index → ¬ IsBadSegment file.now (header_at file.now k)) }
-    ensures none { IfNone result ((k : ℕ) → k < header_count file.now → ¬ IsBadSegment file.now (header_at file.now k)) }
+    ensures none { IfNone result
+        ((k : ℕ) → k < header_count file.now → ¬ IsBadSegment file.now (header_at file.now k)) }
 {
     for index in 0..header::count(file) {
         if header::nth(file, index).is_bad(file) {

@@ -55,14 +55,15 @@ pub fn parse(alloc: Global, file: &[u8], base: u32, size: u32) -> Result<Image, 
     })
 }
 
-/// p_vaddr, p_flags and the file part of the program header of this index, counted from 0: None exactly where there is no
-/// such header or it isn't PT_LOAD. The file has no fault of the kinds up to `Segment`, whatever the memory.
+/// p_vaddr, p_flags and the file part of the program header of this index, counted from 0: None exactly where there is
+/// no such header or it isn't PT_LOAD. The file has no fault of the kinds up to `Segment`, whatever the memory.
 pub fn part(file: &[u8], index: u32) -> Option<(u32, u32, &[u8])>
     requires { IsReadable file.now }
     ensures found { IsSome result ↔ ((index < header_count file.now) × IsLoad (header_at file.now index)) }
     ensures address { IfSome result (λ part. part.0 ≡ (header_at file.now index).address) }
     ensures flags { IfSome result (λ part. part.1 ≡ (header_at file.now index).flags) }
-    ensures bytes { IfSome result (λ part. part.2.now ≡ take (header_at file.now index).file_size (drop (header_at file.now index).offset file.now)) }
+    ensures bytes { IfSome result (λ part. part.2.now
+        ≡ take (header_at file.now index).file_size (drop (header_at file.now index).offset file.now)) }
 {
     if index >= header::count(file) {
         return None;

@@ -1,7 +1,9 @@
 -- Chains whose states note items: the plan is run on exactly the items that were noted.
-use Rattle.std.proofs.Common.{◌≡◌, List, [], ◌∷◌, ◌++◌, Option, Some, None, Result, refl, sym, ap, subst, inl, inr, ◌∙◌, append_assoc, append-nil}
+use Rattle.std.proofs.Common.{◌≡◌, List, [], ◌∷◌, ◌++◌, Option, Some, None, Result, refl, sym, ap, subst, inl, inr, ◌∙◌}
+use Rattle.std.proofs.Common.{append_assoc, append-nil}
 use Rattle.request_plan.specs.Plan.{Plan, Done, Ask, Ends, Stops, bind}
-use Rattle.request_plan.specs.Course.{Source, Known, Noted, Course, Finished, after_read, after_source, after_course, course, Notes, UsesAll}
+use Rattle.request_plan.specs.Course.{Source, Known, Noted, Course, Finished, after_read, after_source, after_course}
+use Rattle.request_plan.specs.Course.{course, Notes, UsesAll}
 use Rattle.request_plan.specs.Laws.{NotesAnswers, StopsUnnoted}
 
 -- what is noted at a request and what the rest notes are noted together

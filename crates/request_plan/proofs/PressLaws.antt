@@ -1,11 +1,15 @@
 -- The press and the folder meet what the laws ask of single steps.
-use Rattle.std.proofs.Common.{◌≡◌, ℕ, zero, suc, ◌+◌, ◌-◌, ◌*◌, ◌<◌, Bool, true, false, if◌then◌else◌, [], ◌∷◌, ◌++◌, Some, None, Ok, Err, refl, sym, ap, subst, inl, inr, ◌∙◌, append-nil, arith}
+use Rattle.std.proofs.Common.{◌≡◌, ℕ, zero, suc, ◌+◌, ◌-◌, ◌*◌, ◌<◌, Bool, true, false, if◌then◌else◌, [], ◌∷◌, ◌++◌}
+use Rattle.std.proofs.Common.{Some, None, Ok, Err, refl, sym, ap, subst, inl, inr, ◌∙◌, append-nil, arith}
 use Rattle.std.proofs.lemmas.Grind.{flat_map-append}
 use Rattle.std.specs.List.{flat_map}
 use Rattle.request_plan.specs.Plan.{Ends, Stops, ComesTo}
 use Rattle.request_plan.specs.Play.{Turn, play, bare, halt}
-use Rattle.request_plan.specs.Laws.{AnswersKeep, Within, EndsBelow, StopsBelow, Tells, NotesAnswers, StopsUnnoted, StaysClean, TakesTurns, CutsTurns, EndsTurns, StaysQuiet}
-use Rattle.request_plan.specs.Press.{PressState, loaded, with_sheet, Prints, IsSound, IsFew, sheets_to, pages_of, pages, IsFirstPage, IsJam, IsOut, shift_of, shift, IsLike, IsEmpty, told_sheets, count_sheet, numbers, FolderState, leaflet_plan, Folds, hand_out, sheets_plan}
+use Rattle.request_plan.specs.Laws.{AnswersKeep, Within, EndsBelow, StopsBelow, Tells, NotesAnswers, StopsUnnoted}
+use Rattle.request_plan.specs.Laws.{StaysClean, TakesTurns, CutsTurns, EndsTurns, StaysQuiet}
+use Rattle.request_plan.specs.Press.{PressState, loaded, with_sheet, Prints, IsSound, IsFew, sheets_to, pages_of, pages}
+use Rattle.request_plan.specs.Press.{IsFirstPage, IsJam, IsOut, shift_of, shift, IsLike, IsEmpty, told_sheets}
+use Rattle.request_plan.specs.Press.{count_sheet, numbers, FolderState, leaflet_plan, Folds, hand_out, sheets_plan}
 use Rattle.request_plan.specs.declared.press.Halted.TheVariants.{NoPaper, Jammed}
 use Rattle.request_plan.proofs.Plays.{IsCut, Stops-follows, Stops-late}
 use Rattle.request_plan.proofs.Keeps.{Stops-narrows}

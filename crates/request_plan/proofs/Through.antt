@@ -1,6 +1,7 @@
 -- A layer T whose every step is a chain of steps of what is below it: its chains are chains of what is below.
 use Rattle.std.proofs.Common.{◌⊎◌, Result, Err, refl, sym, ap, subst, inl, inr}
-use Rattle.request_plan.specs.Plan.{Plan, Done, Ask, Ends, Stops, through, Reply, Refuses, Gives, Refused, Ended, caught, ComesTo}
+use Rattle.request_plan.specs.Plan.{Plan, Done, Ask, Ends, Stops, through, Reply, Refuses, Gives, Refused, Ended}
+use Rattle.request_plan.specs.Plan.{caught, ComesTo}
 use Rattle.request_plan.specs.Laws.{EndsBelow, StopsBelow, GivesBelow, RefusesBelow}
 use Rattle.request_plan.proofs.Chains.{Ends-bind, Stops-bind, Stops-bind-next}
 

@@ -1,15 +1,21 @@
 //! The laws of chains of steps that follow plans. The calls do nothing.
 
-ghost use Rattle.std.specs.Prelude.{◌≡◌, ◌⊎◌, suc, Bool, true, false, List, [], ◌∷◌, ◌++◌, length, Option, Some, Result, Ok, Err};
+ghost use Rattle.std.specs.Prelude.{◌≡◌, ◌⊎◌, suc, Bool, true, false, List, [], ◌∷◌, ◌++◌, length, Option, Some};
+ghost use Rattle.std.specs.Prelude.{Result, Ok, Err};
 ghost use Rattle.std.specs.List.{flat_map};
-ghost use Rattle.request_plan.specs.Plan.{Plan, Done, Ends, Stops, bind, through, Reply, caught, Refused, Ended, Asks, Outcomes, ComesTo};
+ghost use Rattle.request_plan.specs.Plan.{Plan, Done, Ends, Stops, bind, through, Reply, caught, Refused, Ended, Asks};
+ghost use Rattle.request_plan.specs.Plan.{Outcomes, ComesTo};
 ghost use Rattle.request_plan.specs.Play.{served, Turn, bare, play, IsHalt, halt};
 ghost use Rattle.request_plan.specs.Course.{Source, Finished, course, after_course, UsesAll};
-ghost use Rattle.request_plan.specs.Laws.{AnswersKeep, Within, EndsBelow, StopsBelow, GivesBelow, RefusesBelow, Tells, NotesAnswers};
-ghost use Rattle.request_plan.specs.Laws.{StopsUnnoted, StaysClean, TakesTurns, CutsTurns, EndsTurns, StaysQuiet, AnswersCarry};
+ghost use Rattle.request_plan.specs.Laws.{AnswersKeep, Within, EndsBelow, StopsBelow, GivesBelow, RefusesBelow, Tells};
+ghost use Rattle.request_plan.specs.Laws.{NotesAnswers};
+ghost use Rattle.request_plan.specs.Laws.{StopsUnnoted, StaysClean, TakesTurns, CutsTurns, EndsTurns, StaysQuiet};
+ghost use Rattle.request_plan.specs.Laws.{AnswersCarry};
 ghost use Rattle.request_plan.specs.Laws.{StopsCarry};
-ghost use Rattle.request_plan.specs.Press.{PressState, loaded, Prints, IsSound, IsFew, sheets_to, pages_of, pages, IsFirstPage};
-ghost use Rattle.request_plan.specs.Press.{IsJam, IsOut, shift, IsLike, IsEmpty, told_sheets, count_sheet, numbers, FolderState};
+ghost use Rattle.request_plan.specs.Press.{PressState, loaded, Prints, IsSound, IsFew, sheets_to, pages_of, pages};
+ghost use Rattle.request_plan.specs.Press.{IsFirstPage};
+ghost use Rattle.request_plan.specs.Press.{IsJam, IsOut, shift, IsLike, IsEmpty, told_sheets, count_sheet, numbers};
+ghost use Rattle.request_plan.specs.Press.{FolderState};
 ghost use Rattle.request_plan.specs.Press.{leaflet_plan, Folds, sheets_plan, with_sheet, hand_out};
 ghost use Rattle.request_plan.specs.declared.press.Halted.TheVariants.{NoPaper, Jammed};
 

@@ -29,8 +29,8 @@ pub fn store_width(op: StoreOp) -> u32
     }
 }
 
-/// What a load puts into rd, for the number that its bytes are, the lowest byte first: LB and LH extend the sign, LBU and
-/// LHU zeros. (RV32I, Load and Store Instructions)
+/// What a load puts into rd, for the number that its bytes are, the lowest byte first: LB and LH extend the sign, LBU
+/// and LHU zeros. (RV32I, Load and Store Instructions)
 #[tactic(auto, unfolding(rv32_table::specs::Meaning::load_meaning))]
 pub fn extend(op: LoadOp, loaded: u32) -> u32
     requires { loaded < 2 ^ (8 * load_width op) }

@@ -7,9 +7,9 @@ use crate::register::operate;
 use crate::word::low_word;
 use rv32_table::{ImmOp, RegOp};
 
-/// What an operation on a register and an immediate answers, for the value `x` of rs1 and the sign-extended immediate: what
-/// the operation on two registers does for the word that the immediate is. So SLTIU reads the immediate as unsigned, and a
-/// shift takes its low five bits. (RV32I, Integer Register-Immediate Instructions)
+/// What an operation on a register and an immediate answers, for the value `x` of rs1 and the sign-extended immediate:
+/// what the operation on two registers does for the word that the immediate is. So SLTIU reads the immediate as
+/// unsigned, and a shift takes its low five bits. (RV32I, Integer Register-Immediate Instructions)
 pub fn operate_immediate(op: ImmOp, x: u32, imm: i32) -> u32
     ensures { result ≡ immediate_meaning op x imm }
 {

@@ -1,8 +1,8 @@
 //! What the operations of the instruction table compute on values of 32 bits.
 //!
 //! The meanings are those of the crate `rv32_table` (its `specs/Meaning.antt`), over whole numbers, after the RISC-V
-//! unprivileged manual (RV32I 2.1 and M 2.0). Each function here answers exactly its meaning, for all values. Nothing here
-//! knows of registers, of a memory or of a program counter's rules: those are the core's.
+//! unprivileged manual (RV32I 2.1 and M 2.0). Each function here answers exactly its meaning, for all values. Nothing
+//! here knows of registers, of a memory or of a program counter's rules: those are the core's.
 #![tactic(auto)]
 
 mod access;

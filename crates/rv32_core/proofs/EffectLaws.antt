@@ -1,5 +1,6 @@
 -- What holds of every effect of a word, of a buffer, and of the bytes of a load or a store.
-use Rattle.std.proofs.Common.{◌≡◌, ℕ, ◌+◌, ◌%◌, ◌^◌, ◌<◌, ◌≤◌, ◌==◌, ◌||◌, min, nat_le, Bool, IsTrue, true, false, if◌then◌else◌, length, refl, arith, zero, suc, rules}
+use Rattle.std.proofs.Common.{◌≡◌, ℕ, ◌+◌, ◌%◌, ◌^◌, ◌<◌, ◌≤◌, ◌==◌, ◌||◌, min, nat_le, Bool, IsTrue, true, false}
+use Rattle.std.proofs.Common.{if◌then◌else◌, length, refl, arith, zero, suc, rules}
 use Rattle.std.specs.Prelude.{ℤ, Option, Some, None, option_map, find}
 use Rattle.std.proofs.lemmas.Bool.Decides.{nat_tests}
 use Rattle.rv32_table.specs.Fields.{rd_of}
@@ -7,7 +8,8 @@ use Rattle.rv32_table.specs.Fits.{Fits}
 use Rattle.rv32_table.specs.Meaning.{branch_meaning, target_of, jump_target, address_of, load_width, store_width}
 use Rattle.rv32_table.specs.Table.{Row, table, Matches, is_match, instruction_of, decoded}
 use Rattle.rv32_table.specs.declared.instruction.Instr.{Instr}
-use Rattle.rv32_table.specs.declared.instruction.Instr.TheVariants.{Lui, Auipc, Jal, Jalr, Branch, Load, Store, OpImm, Op, Fence, FenceI, Ecall, Ebreak}
+use Rattle.rv32_table.specs.declared.instruction.Instr.TheVariants.{Lui, Auipc, Jal, Jalr, Branch, Load, Store, OpImm}
+use Rattle.rv32_table.specs.declared.instruction.Instr.TheVariants.{Op, Fence, FenceI, Ecall, Ebreak}
 use Rattle.rv32_table.specs.declared.instruction.BranchOp.{BranchOp}
 use Rattle.rv32_table.specs.declared.instruction.LoadOp.{LoadOp}
 use Rattle.rv32_table.specs.declared.instruction.LoadOp.TheVariants.{Lb, Lh, Lw, Lbu, Lhu}
@@ -15,11 +17,16 @@ use Rattle.rv32_table.specs.declared.instruction.StoreOp.{StoreOp}
 use Rattle.rv32_table.specs.declared.instruction.StoreOp.TheVariants.{Sb, Sh, Sw}
 use Rattle.rv32_table.proofs.ListLaws.{EachRow, find-each}
 use Rattle.rv32_core.specs.Access.{IsInLine}
-use Rattle.rv32_core.specs.Machine.{CoreState, Machine, IsEffect, is_buffer, is_inside, takes_break, register, bytes_left, read_of, write_of, break_of, call_of, jump_to, branch_of, load_from, store_at, effect_of, effect_of_decoded, effect_of_word, bad_file, bad_buffer, no_call}
+use Rattle.rv32_core.specs.Machine.{CoreState, Machine, IsEffect, is_buffer, is_inside, takes_break, register}
+use Rattle.rv32_core.specs.Machine.{bytes_left, read_of, write_of, break_of, call_of, jump_to, branch_of, load_from}
+use Rattle.rv32_core.specs.Machine.{store_at, effect_of, effect_of_decoded, effect_of_word, bad_file, bad_buffer}
+use Rattle.rv32_core.specs.Machine.{no_call}
 use Rattle.rv32_core.specs.Transfer.{IsRange}
 use Rattle.rv32_core.specs.declared.effect.Effect.{Effect}
-use Rattle.rv32_core.specs.declared.effect.Effect.TheVariants.{Passes, Jumps, Loads, Stores, Answers, Breaks, Reads, Writes, Exits, Traps}
-use Rattle.rv32_core.specs.declared.outcome.TrapKind.TheVariants.{FetchMisaligned, LoadMisaligned, StoreMisaligned, LoadFault, StoreFault, OutputLimit}
+use Rattle.rv32_core.specs.declared.effect.Effect.TheVariants.{Passes, Jumps, Loads, Stores, Answers, Breaks, Reads}
+use Rattle.rv32_core.specs.declared.effect.Effect.TheVariants.{Writes, Exits, Traps}
+use Rattle.rv32_core.specs.declared.outcome.TrapKind.TheVariants.{FetchMisaligned, LoadMisaligned, StoreMisaligned}
+use Rattle.rv32_core.specs.declared.outcome.TrapKind.TheVariants.{LoadFault, StoreFault, OutputLimit}
 
 -- a buffer that isn't empty begins at the memory's base or above it
 pub is_buffer-above : (core : CoreState) (address count : ℕ) → IsTrue (is_buffer core address count) → 0 < count

@@ -2,7 +2,8 @@
 use Rattle.std.proofs.Common.{◌≡◌, ℕ, ◌+◌, ◌-◌, ◌<◌, ◌≤◌, List, refl, sym, ap, subst, ◌∙◌, arith, zero, suc}
 use Rattle.rv32_core.specs.Machine.{Machine}
 use Rattle.rv32_core.specs.FlatMachine.{FlatStep, flat_step}
-use Rattle.rv32_core.specs.FlatRun.{FlatEnding, Exited, Trapped, Budget, FlatRun, finished_before, run_from, flat_run, gone_on_from, gone_on}
+use Rattle.rv32_core.specs.FlatRun.{FlatEnding, Exited, Trapped, Budget, FlatRun, finished_before, run_from, flat_run}
+use Rattle.rv32_core.specs.FlatRun.{gone_on_from, gone_on}
 use Rattle.rv32_core.specs.declared.outcome.Ended.{Ended}
 use Rattle.rv32_core.specs.declared.outcome.Ended.TheVariants.{No, Exit, Trap}
 use Rattle.rv32_core.specs.declared.outcome.TrapKind.{TrapKind}

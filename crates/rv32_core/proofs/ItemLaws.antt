@@ -1,5 +1,6 @@
 -- The items of a run: step by step, in parts, and that their lines rise and lie in the memory.
-use Rattle.std.proofs.Common.{◌≡◌, ℕ, ◌+◌, ◌-◌, ◌/◌, ◌%◌, ◌<◌, ◌≤◌, Bool, true, false, if◌then◌else◌, List, [], ◌∷◌, ◌++◌, map, refl, sym, ap, subst, ◌∙◌, arith, zero, suc, append-nil, append_assoc}
+use Rattle.std.proofs.Common.{◌≡◌, ℕ, ◌+◌, ◌-◌, ◌/◌, ◌%◌, ◌<◌, ◌≤◌, Bool, true, false, if◌then◌else◌, List, [], ◌∷◌}
+use Rattle.std.proofs.Common.{◌++◌, map, refl, sym, ap, subst, ◌∙◌, arith, zero, suc, append-nil, append_assoc}
 use Rattle.std.specs.Prelude.{All, AllPairs}
 use Rattle.std.specs.Int.{from_le_bytes, w32}
 use Rattle.std.proofs.lemmas.List.Elements.{All-nil, All-cons, All-append}
@@ -9,9 +10,12 @@ use Rattle.rv32_table.specs.Meaning.{load_width, store_width}
 use Rattle.rv32_core.specs.Machine.{CoreState, Machine, IsEffect, is_inside, effect_of_word, cost_of_word}
 use Rattle.rv32_core.specs.FlatMachine.{FlatStep, bytes_at, effected, flat_step}
 use Rattle.rv32_core.specs.FlatRun.{Budget, FlatRun, run_from, flat_run}
-use Rattle.rv32_core.specs.LineList.{LineKind, Read, Write, WholeWrite, LineUse, LineItem, line_of, lines_from, lines_of, used, data_lines, word_lines, fetch_line, step_lines, items_after, items_from, run_items, image_items, cost_after}
+use Rattle.rv32_core.specs.LineList.{LineKind, Read, Write, WholeWrite, LineUse, LineItem, line_of, lines_from}
+use Rattle.rv32_core.specs.LineList.{lines_of, used, data_lines, word_lines, fetch_line, step_lines, items_after}
+use Rattle.rv32_core.specs.LineList.{items_from, run_items, image_items, cost_after}
 use Rattle.rv32_core.specs.declared.effect.Effect.{Effect}
-use Rattle.rv32_core.specs.declared.effect.Effect.TheVariants.{Passes, Sets, Jumps, Loads, Stores, Answers, Breaks, Reads, Writes, Exits, Traps}
+use Rattle.rv32_core.specs.declared.effect.Effect.TheVariants.{Passes, Sets, Jumps, Loads, Stores, Answers, Breaks}
+use Rattle.rv32_core.specs.declared.effect.Effect.TheVariants.{Reads, Writes, Exits, Traps}
 use Rattle.rv32_core.specs.declared.outcome.Done.{Done}
 use Rattle.rv32_core.specs.declared.outcome.Ended.{Ended}
 use Rattle.rv32_core.specs.declared.outcome.Ended.TheVariants.{No, Exit, Trap}

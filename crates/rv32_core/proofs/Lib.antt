@@ -7,6 +7,7 @@ pub mod LineLaws
 pub mod OutputLaws
 pub mod PlanLaws
 pub mod LineRows
+pub mod RowSteps
 pub mod RunLaws
 pub mod Served
 pub mod StepLines

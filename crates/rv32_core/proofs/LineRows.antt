@@ -2,7 +2,8 @@
 use Rattle.std.proofs.Common.{refl}
 use Rattle.std.specs.Prelude.{◌≡◌, ℕ, [], ◌∷◌}
 use Rattle.rv32_core.specs.FlatRun.{Exited, flat_run, machine_at_start, output_limit}
-use Rattle.rv32_core.specs.LineList.{LineKind, Read, WholeWrite, LineItem, line_list, run_items, image_items, lines_from}
+use Rattle.rv32_core.specs.LineList.{LineKind, Read, WholeWrite, LineItem, line_list, run_items, image_items}
+use Rattle.rv32_core.specs.LineList.{lines_from}
 use Rattle.rv32_table.specs.Table.{decoded, table}
 use Rattle.rv32_table.specs.Meaning.{register_meaning, load_meaning}
 

@@ -1,5 +1,6 @@
 -- A flat run's output is a prefix of a longer one's, and its bytes stay as many.
-use Rattle.std.proofs.Common.{◌≡◌, ℕ, suc, zero, ◌+◌, ◌-◌, ◌≤◌, ◌<◌, List, [], ◌∷◌, ◌++◌, IsTrue, length, refl, sym, ap, subst, ◌∙◌, append_assoc, append-nil, arith}
+use Rattle.std.proofs.Common.{◌≡◌, ℕ, suc, zero, ◌+◌, ◌-◌, ◌≤◌, ◌<◌, List, [], ◌∷◌, ◌++◌, IsTrue, length, refl, sym, ap}
+use Rattle.std.proofs.Common.{subst, ◌∙◌, append_assoc, append-nil, arith}
 use Rattle.std.proofs.lemmas.Grind.{common_steps}
 use Rattle.std.specs.Int.{from_le_bytes, w32}
 use Rattle.rv32_table.specs.Meaning.{store_width}
@@ -9,11 +10,13 @@ use Rattle.rv32_core.specs.Machine.{Machine, IsEffect, is_inside, is_buffer, cos
 use Rattle.rv32_core.specs.FlatMachine.{FlatStep, flat_step, effected, bytes_at, stored_bytes}
 use Rattle.rv32_core.specs.FlatRun.{FlatEnding, Exited, Trapped, Budget, FlatRun, flat_run, run_from, gone_on_from}
 use Rattle.rv32_core.specs.declared.effect.Effect.{Effect}
-use Rattle.rv32_core.specs.declared.effect.Effect.TheVariants.{Passes, Sets, Jumps, Loads, Stores, Answers, Breaks, Reads, Writes, Exits, Traps}
+use Rattle.rv32_core.specs.declared.effect.Effect.TheVariants.{Passes, Sets, Jumps, Loads, Stores, Answers, Breaks}
+use Rattle.rv32_core.specs.declared.effect.Effect.TheVariants.{Reads, Writes, Exits, Traps}
 use Rattle.rv32_core.specs.declared.outcome.Ended.{Ended}
 use Rattle.rv32_core.specs.declared.outcome.Ended.TheVariants.{No, Exit, Trap}
 use Rattle.rv32_core.specs.declared.outcome.TrapKind.TheVariants.{FetchFault}
-use Rattle.rv32_core.proofs.EffectLaws.{is_buffer-above, is_buffer-below, is_inside-above, is_inside-below, effect_of_word-fine}
+use Rattle.rv32_core.proofs.EffectLaws.{is_buffer-above, is_buffer-below, is_inside-above, is_inside-below}
+use Rattle.rv32_core.proofs.EffectLaws.{effect_of_word-fine}
 use Rattle.rv32_core.proofs.FlatRunLaws.{flat_run-zero, flat_run-suc, flat_run-goes_on}
 use Rattle.rv32_core.proofs.ItemLaws.{step-if, flat_step-size}
 use Rattle.rv32_core.proofs.PlanLaws.{length-stored_bytes}

@@ -1,5 +1,6 @@
 -- What every step's plan asks for lies in one line of the memory, and every outcome of it is a core of the same memory.
-use Rattle.std.proofs.Common.{◌≡◌, ℕ, ◌+◌, ◌-◌, ◌%◌, ◌<◌, ◌≤◌, Bool, true, false, if◌then◌else◌, List, [], ◌∷◌, ◌++◌, Result, refl, sym, subst, arith, zero, suc, take, drop, length, length-drop}
+use Rattle.std.proofs.Common.{◌≡◌, ℕ, ◌+◌, ◌-◌, ◌%◌, ◌<◌, ◌≤◌, Bool, true, false, if◌then◌else◌, List, [], ◌∷◌, ◌++◌}
+use Rattle.std.proofs.Common.{Result, refl, sym, subst, arith, zero, suc, take, drop, length, length-drop}
 use Rattle.std.proofs.lemmas.Bool.Decides.{nat_tests}
 use Rattle.std.proofs.lemmas.Grind.{common_steps}
 use Rattle.std.proofs.lemmas.List.{length-take-le}
@@ -12,15 +13,18 @@ use Rattle.rv32_table.specs.Meaning.{load_meaning, store_width}
 use Rattle.rv32_table.specs.declared.instruction.StoreOp.{StoreOp}
 use Rattle.rv32_table.specs.declared.instruction.StoreOp.TheVariants.{Sb, Sh, Sw}
 use Rattle.rv32_core.specs.Access.{Access, Load, IsInLine, IsAccess, slice_of}
-use Rattle.rv32_core.specs.Machine.{CoreState, Machine, IsCore, IsEffect, core_at_start, is_inside, at_pc, next_pc, with_register, effect_of_word, cost_of_word}
+use Rattle.rv32_core.specs.Machine.{CoreState, Machine, IsCore, IsEffect, core_at_start, is_inside, at_pc, next_pc}
+use Rattle.rv32_core.specs.Machine.{with_register, effect_of_word, cost_of_word}
 use Rattle.rv32_core.specs.FlatMachine.{going_on, stored_bytes, after_read, after_write}
 use Rattle.rv32_core.specs.Transfer.{pieces_within, pieces, stores_plan, loads_plan}
 use Rattle.rv32_core.specs.StepPlan.{effect_plan, word_plan, step_plan}
 use Rattle.rv32_core.specs.declared.effect.Effect.{Effect}
-use Rattle.rv32_core.specs.declared.effect.Effect.TheVariants.{Passes, Sets, Jumps, Loads, Stores, Answers, Breaks, Reads, Writes, Exits, Traps}
+use Rattle.rv32_core.specs.declared.effect.Effect.TheVariants.{Passes, Sets, Jumps, Loads, Stores, Answers, Breaks}
+use Rattle.rv32_core.specs.declared.effect.Effect.TheVariants.{Reads, Writes, Exits, Traps}
 use Rattle.rv32_core.specs.declared.outcome.Done.{Done}
 use Rattle.rv32_core.specs.declared.outcome.TrapKind.TheVariants.{FetchFault}
-use Rattle.rv32_core.proofs.EffectLaws.{is_buffer-above, is_buffer-below, load-in_line, store-in_line, effect_of_word-fine}
+use Rattle.rv32_core.proofs.EffectLaws.{is_buffer-above, is_buffer-below, load-in_line, store-in_line}
+use Rattle.rv32_core.proofs.EffectLaws.{effect_of_word-fine}
 use Rattle.rv32_core.proofs.Served.{length-slice_of}
 use Rattle.rv32_core.proofs.TransferLaws.{first_length, pieces_within-none, pieces_within-more}
 

@@ -12,7 +12,8 @@ use Rattle.rv32_core.specs.Access.{Access, Load, Store, IsAccess, access_bytes}
 use Rattle.rv32_core.specs.Machine.{CoreState, Machine, IsCore}
 use Rattle.rv32_core.specs.FlatMachine.{FlatStep, flat_step}
 use Rattle.rv32_core.specs.FlatRun.{Trapped, Budget, FlatRun, finished_before, run_from, flat_run}
-use Rattle.rv32_core.specs.LineList.{LineUse, LineItem, step_lines, items_after, items_from, run_items, line_used, noting, asked_lines}
+use Rattle.rv32_core.specs.LineList.{LineUse, LineItem, step_lines, items_after, items_from, run_items, line_used}
+use Rattle.rv32_core.specs.LineList.{noting, asked_lines}
 use Rattle.rv32_core.specs.RunPlan.{RunEnd, end_of, MachineRun, after_instruction, run_plan}
 use Rattle.rv32_core.specs.StepPlan.{step_plan}
 use Rattle.rv32_core.specs.declared.outcome.Done.{Done}

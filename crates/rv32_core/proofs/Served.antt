@@ -1,6 +1,7 @@
 -- Where the bytes are told, a chain of steps of a plan is the plan served by their list, and a step is the flat
 -- machine's.
-use Rattle.std.proofs.Common.{◌≡◌, ℕ, ◌-◌, ◌≤◌, Bool, true, false, if◌then◌else◌, List, [], Result, Ok, Option, Some, length, refl, sym, ap, ◌∙◌, arith}
+use Rattle.std.proofs.Common.{◌≡◌, ℕ, ◌-◌, ◌≤◌, Bool, true, false, if◌then◌else◌, List, [], Result, Ok, Option, Some}
+use Rattle.std.proofs.Common.{length, refl, sym, ap, ◌∙◌, arith}
 use Rattle.std.proofs.lemmas.Grind.{common_steps}
 use Rattle.std.specs.Int.{from_le_bytes, w32}
 use Rattle.request_plan.specs.Plan.{Plan, Done as Outcome, Ask, Ends}
@@ -12,7 +13,8 @@ use Rattle.rv32_core.specs.FlatMachine.{FlatStep, going_on, after_read, after_wr
 use Rattle.rv32_core.specs.StepPlan.{effect_plan, word_plan, step_plan, TellsStep}
 use Rattle.rv32_core.specs.Transfer.{pieces, stores_plan, loads_plan}
 use Rattle.rv32_core.specs.declared.effect.Effect.{Effect}
-use Rattle.rv32_core.specs.declared.effect.Effect.TheVariants.{Passes, Sets, Jumps, Loads, Stores, Answers, Breaks, Reads, Writes, Exits, Traps}
+use Rattle.rv32_core.specs.declared.effect.Effect.TheVariants.{Passes, Sets, Jumps, Loads, Stores, Answers, Breaks}
+use Rattle.rv32_core.specs.declared.effect.Effect.TheVariants.{Reads, Writes, Exits, Traps}
 use Rattle.rv32_core.specs.declared.outcome.Done.{Done}
 use Rattle.rv32_core.specs.declared.outcome.TrapKind.TheVariants.{FetchFault}
 use Rattle.rv32_core.proofs.EffectLaws.{is_buffer-above, effect_of_word-fine}

@@ -1,5 +1,6 @@
 -- The lines of a step: where an effect's bytes lie, what its plan asks for, and what a trap gives.
-use Rattle.std.proofs.Common.{◌≡◌, ℕ, ◌+◌, ◌%◌, ◌<◌, ◌≤◌, Bool, IsTrue, true, false, if◌then◌else◌, List, [], ◌∷◌, refl, sym, ap, subst, arith}
+use Rattle.std.proofs.Common.{◌≡◌, ℕ, ◌+◌, ◌%◌, ◌<◌, ◌≤◌, Bool, IsTrue, true, false, if◌then◌else◌, List, [], ◌∷◌, refl}
+use Rattle.std.proofs.Common.{sym, ap, subst, arith}
 use Rattle.std.proofs.lemmas.Bool.Decides.{nat_tests}
 use Rattle.std.specs.Int.{from_le_bytes, w32}
 use Rattle.asc_base.specs.Memory.{IsMemory}
@@ -14,14 +15,18 @@ use Rattle.rv32_core.specs.Transfer.{pieces, stores_plan, loads_plan}
 use Rattle.rv32_core.specs.Machine.{CoreState, Machine, IsEffect, is_inside, is_buffer, effect_of_word, cost_of_word}
 use Rattle.rv32_core.specs.FlatMachine.{trap_at, bytes_at, after_read, after_write, going_on, effected, flat_step}
 use Rattle.rv32_core.specs.StepPlan.{effect_plan, word_plan, step_plan}
-use Rattle.rv32_core.specs.LineList.{Read, Write, LineUse, line_of, lines_of, used, data_lines, word_lines, fetch_line, step_lines, AsksLines, asked_lines}
+use Rattle.rv32_core.specs.LineList.{Read, Write, LineUse, line_of, lines_of, used, data_lines, word_lines, fetch_line}
+use Rattle.rv32_core.specs.LineList.{step_lines, AsksLines, asked_lines}
 use Rattle.rv32_core.specs.declared.effect.Effect.{Effect}
-use Rattle.rv32_core.specs.declared.effect.Effect.TheVariants.{Passes, Sets, Jumps, Loads, Stores, Answers, Breaks, Reads, Writes, Exits, Traps}
+use Rattle.rv32_core.specs.declared.effect.Effect.TheVariants.{Passes, Sets, Jumps, Loads, Stores, Answers, Breaks}
+use Rattle.rv32_core.specs.declared.effect.Effect.TheVariants.{Reads, Writes, Exits, Traps}
 use Rattle.rv32_core.specs.declared.outcome.Ended.TheVariants.{Trap}
 use Rattle.rv32_core.specs.declared.outcome.TrapKind.{TrapKind}
 use Rattle.rv32_core.specs.declared.outcome.TrapKind.TheVariants.{FetchFault}
-use Rattle.rv32_core.proofs.EffectLaws.{is_buffer-above, is_buffer-below, is_inside-above, is_inside-below, effect_of_word-fine}
-use Rattle.rv32_core.proofs.LineLaws.{lines_of-one, AsksLines-last, AsksLines-asked, stores_plan-lines, loads_plan-lines}
+use Rattle.rv32_core.proofs.EffectLaws.{is_buffer-above, is_buffer-below, is_inside-above, is_inside-below}
+use Rattle.rv32_core.proofs.EffectLaws.{effect_of_word-fine}
+use Rattle.rv32_core.proofs.LineLaws.{lines_of-one, AsksLines-last, AsksLines-asked, stores_plan-lines}
+use Rattle.rv32_core.proofs.LineLaws.{loads_plan-lines}
 
 -- ---- where the bytes of an effect lie
 -- so many bytes from an address on are none, or all in the memory

@@ -1,11 +1,13 @@
 -- Pieces of a range of bytes, and plans over them: one piece more, and what serving them by a list of bytes does.
-use Rattle.std.proofs.Common.{◌≡◌, ℕ, ◌+◌, ◌-◌, ◌%◌, ◌^◌, ◌<◌, ◌≤◌, ◌==◌, min, false, List, [], ◌∷◌, ◌++◌, Result, Ok, Err, refl, sym, ap, subst, ◌∙◌, arith, zero, suc, take, drop, length, inl, inr}
+use Rattle.std.proofs.Common.{◌≡◌, ℕ, ◌+◌, ◌-◌, ◌%◌, ◌^◌, ◌<◌, ◌≤◌, ◌==◌, min, false, List, [], ◌∷◌, ◌++◌, Result, Ok}
+use Rattle.std.proofs.Common.{Err, refl, sym, ap, subst, ◌∙◌, arith, zero, suc, take, drop, length, inl, inr}
 use Rattle.std.proofs.Common.{append_assoc, append-nil, length-append, length-drop}
 use Rattle.std.proofs.Math.Seq.{drop-append-add}
 use Rattle.std.proofs.lemmas.Bool.{cases_lt}
 use Rattle.std.proofs.lemmas.Bool.Decides.{nat_tests}
 use Rattle.std.proofs.lemmas.Grind.{common_steps}
-use Rattle.std.proofs.lemmas.List.{take-append-drop, take-take, take_all, take_at, drop-drop, drop-take, drop_all, length-take-le}
+use Rattle.std.proofs.lemmas.List.{take-append-drop, take-take, take_all, take_at, drop-drop, drop-take, drop_all}
+use Rattle.std.proofs.lemmas.List.{length-take-le}
 use Rattle.request_plan.specs.Plan.{Plan, Ask, Ends, Stops}
 use Rattle.request_plan.specs.Play.{served}
 use Rattle.rv32_core.specs.Access.{Access, Load, Store, access_bytes, slice_of, spliced}

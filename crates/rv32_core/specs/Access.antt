@@ -1,7 +1,8 @@
 -- What a machine asks of its bytes, what is told of them, and bytes that are one list.
 use Rattle.std.proofs.Common.{refl, ap, sym, ◌∙◌, arith}
 use Rattle.std.proofs.lemmas.Grind.{common_steps}
-use Rattle.std.specs.Prelude.{◌≡◌, ℕ, ◌+◌, ◌-◌, ◌%◌, ◌<◌, ◌≤◌, List, [], ◌++◌, Option, Some, Result, Ok, Err, All, take, drop, length}
+use Rattle.std.specs.Prelude.{◌≡◌, ℕ, ◌+◌, ◌-◌, ◌%◌, ◌<◌, ◌≤◌, List, [], ◌++◌, Option, Some, Result, Ok, Err, All, take}
+use Rattle.std.specs.Prelude.{drop, length}
 
 -- A load of so many bytes from an address on, which is answered by them; a store of bytes, which is answered by none.
 pub data Access : Type 0 where

@@ -5,9 +5,11 @@ use Rattle.rv32_table.specs.Meaning.{load_width, load_meaning, store_width}
 use Rattle.rv32_table.specs.declared.instruction.LoadOp.{LoadOp}
 use Rattle.rv32_table.specs.declared.instruction.StoreOp.{StoreOp}
 use Rattle.rv32_core.specs.Access.{slice_of, spliced}
-use Rattle.rv32_core.specs.Machine.{CoreState, Machine, is_inside, at_pc, next_pc, with_register, effect_of_word, cost_of_word}
+use Rattle.rv32_core.specs.Machine.{CoreState, Machine, is_inside, at_pc, next_pc, with_register, effect_of_word}
+use Rattle.rv32_core.specs.Machine.{cost_of_word}
 use Rattle.rv32_core.specs.declared.effect.Effect.{Effect}
-use Rattle.rv32_core.specs.declared.effect.Effect.TheVariants.{Passes, Sets, Jumps, Loads, Stores, Answers, Breaks, Reads, Writes, Exits, Traps}
+use Rattle.rv32_core.specs.declared.effect.Effect.TheVariants.{Passes, Sets, Jumps, Loads, Stores, Answers, Breaks}
+use Rattle.rv32_core.specs.declared.effect.Effect.TheVariants.{Reads, Writes, Exits, Traps}
 use Rattle.rv32_core.specs.declared.outcome.Done.{Done}
 use Rattle.rv32_core.specs.declared.outcome.Ended.TheVariants.{No, Exit, Trap}
 use Rattle.rv32_core.specs.declared.outcome.TrapKind.{TrapKind}

@@ -3,6 +3,7 @@ pub mod FlatMachine
 pub mod FlatRun
 pub mod LineList
 pub mod Machine
+pub mod RowStep
 pub mod RunPlan
 pub mod StepPlan
 pub mod Transfer

@@ -1,17 +1,24 @@
 -- The state of a machine without its memory, and what an instruction does.
-use Rattle.std.specs.Prelude.{◌≡◌, ◌≢◌, ℕ, ℤ, ◌+◌, ◌-◌, ◌%◌, ◌^◌, ◌<◌, ◌≤◌, nat_le, min, Bool, true, false, IsTrue, ◌&&◌, ◌||◌, ◌==◌, if◌then◌else◌, List, length, replicate, slice_index, slice_set, Option, Some, None}
+use Rattle.std.specs.Prelude.{◌≡◌, ◌≢◌, ℕ, ℤ, ◌+◌, ◌-◌, ◌%◌, ◌^◌, ◌<◌, ◌≤◌, nat_le, min, Bool, true, false, IsTrue}
+use Rattle.std.specs.Prelude.{◌&&◌, ◌||◌, ◌==◌, if◌then◌else◌, List, length, replicate, slice_index, slice_set, Option}
+use Rattle.std.specs.Prelude.{Some, None}
 use Rattle.asc_base.specs.Memory.{IsMemory}
-use Rattle.rv32_table.specs.Meaning.{register_meaning, immediate_meaning, branch_meaning, target_of, jump_target, auipc_value, address_of, load_width, store_width}
+use Rattle.rv32_table.specs.Meaning.{register_meaning, immediate_meaning, branch_meaning, target_of, jump_target}
+use Rattle.rv32_table.specs.Meaning.{auipc_value, address_of, load_width, store_width}
 use Rattle.rv32_table.specs.Table.{decoded}
 use Rattle.rv32_table.specs.declared.instruction.Instr.{Instr}
-use Rattle.rv32_table.specs.declared.instruction.Instr.TheVariants.{Lui, Auipc, Jal, Jalr, Branch, Load, Store, OpImm, Op, Fence, FenceI, Ecall, Ebreak}
+use Rattle.rv32_table.specs.declared.instruction.Instr.TheVariants.{Lui, Auipc, Jal, Jalr, Branch, Load, Store, OpImm}
+use Rattle.rv32_table.specs.declared.instruction.Instr.TheVariants.{Op, Fence, FenceI, Ecall, Ebreak}
 use Rattle.rv32_table.specs.declared.instruction.BranchOp.{BranchOp}
 use Rattle.rv32_table.specs.declared.instruction.LoadOp.{LoadOp}
 use Rattle.rv32_table.specs.declared.instruction.StoreOp.{StoreOp}
 use Rattle.cycle_table.specs.Costs.{cost_of}
 use Rattle.rv32_core.specs.declared.effect.Effect.{Effect}
-use Rattle.rv32_core.specs.declared.effect.Effect.TheVariants.{Passes, Sets, Jumps, Loads, Stores, Answers, Breaks, Reads, Writes, Exits, Traps}
-use Rattle.rv32_core.specs.declared.outcome.TrapKind.TheVariants.{FetchFault, Illegal, FetchMisaligned, LoadMisaligned, StoreMisaligned, LoadFault, StoreFault, Breakpoint, OutputLimit}
+use Rattle.rv32_core.specs.declared.effect.Effect.TheVariants.{Passes, Sets, Jumps, Loads, Stores, Answers, Breaks}
+use Rattle.rv32_core.specs.declared.effect.Effect.TheVariants.{Reads, Writes, Exits, Traps}
+use Rattle.rv32_core.specs.declared.outcome.TrapKind.TheVariants.{FetchFault, Illegal, FetchMisaligned, LoadMisaligned}
+use Rattle.rv32_core.specs.declared.outcome.TrapKind.TheVariants.{StoreMisaligned, LoadFault, StoreFault, Breakpoint}
+use Rattle.rv32_core.specs.declared.outcome.TrapKind.TheVariants.{OutputLimit}
 
 -- The program counter, the 32 registers, where the memory begins and how long it is, the first break and the break.
 pub record CoreState : Type 0 where

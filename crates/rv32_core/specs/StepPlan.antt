@@ -5,10 +5,13 @@ use Rattle.request_plan.specs.Plan.{Plan, Done as Outcome, Ask, bind}
 use Rattle.rv32_table.specs.Meaning.{load_width}
 use Rattle.rv32_core.specs.Access.{Access, Load, Store, slice_of}
 use Rattle.rv32_core.specs.Transfer.{pieces, stores_plan, loads_plan}
-use Rattle.rv32_core.specs.Machine.{CoreState, FilesState, Machine, is_inside, at_pc, next_pc, effect_of_word, cost_of_word}
-use Rattle.rv32_core.specs.FlatMachine.{going_on, exit_with, trap_at, moved_on, set_to, after_load, stored_bytes, answered, after_break, after_read, after_write, flat_step}
+use Rattle.rv32_core.specs.Machine.{CoreState, FilesState, Machine, is_inside, at_pc, next_pc, effect_of_word}
+use Rattle.rv32_core.specs.Machine.{cost_of_word}
+use Rattle.rv32_core.specs.FlatMachine.{going_on, exit_with, trap_at, moved_on, set_to, after_load, stored_bytes}
+use Rattle.rv32_core.specs.FlatMachine.{answered, after_break, after_read, after_write, flat_step}
 use Rattle.rv32_core.specs.declared.effect.Effect.{Effect}
-use Rattle.rv32_core.specs.declared.effect.Effect.TheVariants.{Passes, Sets, Jumps, Loads, Stores, Answers, Breaks, Reads, Writes, Exits, Traps}
+use Rattle.rv32_core.specs.declared.effect.Effect.TheVariants.{Passes, Sets, Jumps, Loads, Stores, Answers, Breaks}
+use Rattle.rv32_core.specs.declared.effect.Effect.TheVariants.{Reads, Writes, Exits, Traps}
 use Rattle.rv32_core.specs.declared.outcome.Done.{Done}
 use Rattle.rv32_core.specs.declared.outcome.TrapKind.TheVariants.{FetchFault}
 

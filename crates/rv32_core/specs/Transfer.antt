@@ -1,5 +1,6 @@
 -- How bytes are moved between the memory and a file: in pieces, each in one line, in rising order.
-use Rattle.std.specs.Prelude.{ℕ, ◌+◌, ◌-◌, ◌%◌, ◌<◌, ◌≤◌, ◌^◌, ◌==◌, if◌then◌else◌, min, List, [], ◌∷◌, ◌++◌, take, drop, zero, suc}
+use Rattle.std.specs.Prelude.{ℕ, ◌+◌, ◌-◌, ◌%◌, ◌<◌, ◌≤◌, ◌^◌, ◌==◌, if◌then◌else◌, min, List, [], ◌∷◌, ◌++◌, take}
+use Rattle.std.specs.Prelude.{drop, zero, suc}
 use Rattle.request_plan.specs.Plan.{Plan, Done as Outcome, Ask}
 use Rattle.rv32_core.specs.Access.{Access, Load, Store}
 

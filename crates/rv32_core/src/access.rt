@@ -14,7 +14,8 @@ use rv32_table::{LoadOp, StoreOp};
 pub(crate) fn load_value<B: Bytes>(bytes: &mut B, op: LoadOp, address: u32) -> Result<u32, B::Stop>
     requires line { IsInLine (B.base bytes.old) (B.size bytes.old) address (load_width op) }
     requires ready { B.ready bytes.old }
-    ensures ok { IfOk result (λ value. (loaded : List ℕ) × B.step bytes.old (Load address (load_width op)) (Ok loaded) bytes.new
+    ensures ok { IfOk result (λ value. (loaded : List ℕ)
+        × B.step bytes.old (Load address (load_width op)) (Ok loaded) bytes.new
         × (value ≡ load_meaning op (from_le_bytes w32 loaded))) }
     ensures err { IfErr result (λ stop. B.step bytes.old (Load address (load_width op)) (Err stop) bytes.new) }
     ensures base { B.base bytes.new ≡ B.base bytes.old }
@@ -34,7 +35,8 @@ pub(crate) fn store_value<B: Bytes>(
 ) -> Result<(), B::Stop>
     requires line { IsInLine (B.base bytes.old) (B.size bytes.old) address (store_width op) }
     requires ready { B.ready bytes.old }
-    ensures ok { OnOk result ((done : List ℕ) × B.step bytes.old (Store address (stored_bytes op value)) (Ok done) bytes.new) }
+    ensures ok { OnOk result ((done : List ℕ)
+        × B.step bytes.old (Store address (stored_bytes op value)) (Ok done) bytes.new) }
     ensures err { IfErr result (λ stop. B.step bytes.old (Store address (stored_bytes op value)) (Err stop) bytes.new) }
     ensures base { B.base bytes.new ≡ B.base bytes.old }
     ensures size { B.size bytes.new ≡ B.size bytes.old }

@@ -30,7 +30,12 @@ impl Model for Files {
 
     ghost Value = { FilesState };
 
-    ghost view = { λ f. record { input = f.input.items; position = f.position; output = f.output.items; limit = f.limit } };
+    ghost view = { λ f. record {
+      input = f.input.items;
+      position = f.position;
+      output = f.output.items;
+      limit = f.limit;
+    } };
 
     ghost invariant = { λ f. (f.position ≤ length f.input.items) × (length f.output.items ≤ f.limit)
         × (f.limit ≤ vec_capacity f.output) };
@@ -39,7 +44,8 @@ impl Model for Files {
 impl Files {
     /// Nothing was read of `input`, and nothing was written. Room for `limit` bytes of output is reserved.
     pub fn new(alloc: Global, input: &[u8], limit: usize) -> Result<Files, NoMemory>
-        ensures { IfOk result (λ files. files ≡ record { input = input.now; position = 0; output = []; limit = limit }) }
+        ensures { IfOk result (λ files. files
+            ≡ record { input = input.now; position = 0; output = []; limit = limit }) }
     {
         let Ok(input) = input.to_vec(alloc) else {
             return Err(NoMemory);

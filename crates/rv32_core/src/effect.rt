@@ -17,8 +17,8 @@ pub enum Effect {
         register: u8,
         value: u32,
     },
-    /// A register gets the address of the next instruction, and the one at `target` follows. A taken branch is a jump that
-    /// sets x0, which stays 0.
+    /// A register gets the address of the next instruction, and the one at `target` follows. A taken branch is a jump
+    /// that sets x0, which stays 0.
     Jumps {
         register: u8,
         target: u32,

@@ -2,7 +2,9 @@
 
 ghost use Rattle.std.specs.Prelude.{◌≡◌, ◌^◌, ◌<◌, IfSome};
 ghost use Rattle.rv32_table.specs.Fits.{Fits};
-ghost use Rattle.rv32_core.specs.Machine.{IsEffect, jump_to, load_from, store_at, branch_of, call_of, read_of, write_of, break_of, is_buffer, effect_of, effect_of_decoded, is_jump, moved_by, cost_of_decoded};
+ghost use Rattle.rv32_core.specs.Machine.{IsEffect, jump_to, load_from, store_at, branch_of, call_of, read_of};
+ghost use Rattle.rv32_core.specs.Machine.{write_of, break_of, is_buffer, effect_of, effect_of_decoded, is_jump};
+ghost use Rattle.rv32_core.specs.Machine.{moved_by, cost_of_decoded};
 ghost use Rattle.rv32_core.specs.StepPlan.{machine_of};
 
 use crate::console::Files;

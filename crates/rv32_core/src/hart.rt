@@ -3,7 +3,8 @@
 ghost use Rattle.std.specs.Prelude.{◌≡◌, ◌+◌, ◌%◌, ◌^◌, ◌<◌, ◌≤◌, IfOk, IfErr, OnErr};
 ghost use Rattle.request_plan.specs.Plan.{Ends, Stops};
 ghost use Rattle.asc_base.specs.Memory.{IsMemory};
-ghost use Rattle.rv32_core.specs.Machine.{IsEffect, core_at_start, at_pc, next_pc, register, with_register, is_inside, takes_break};
+ghost use Rattle.rv32_core.specs.Machine.{IsEffect, core_at_start, at_pc, next_pc, register, with_register, is_inside};
+ghost use Rattle.rv32_core.specs.Machine.{takes_break};
 ghost use Rattle.rv32_core.specs.FlatMachine.{going_on, trap_at};
 ghost use Rattle.rv32_core.specs.StepPlan.{machine_of, effect_plan, step_plan, TellsStep};
 
@@ -75,9 +76,10 @@ impl Core {
         }
     }
 
-    /// One instruction, over bytes that lie where the core's memory does. Each request lies in one line of 64 bytes, and
-    /// `step_plan` has them in order. Where one is stopped, the registers and the files are unchanged; a trap changes
-    /// nothing and costs nothing. Where the bytes are told after an Ok, the step is that of the flat machine on them.
+    /// One instruction, over bytes that lie where the core's memory does. Each request lies in one line of 64 bytes,
+    /// and `step_plan` has them in order. Where one is stopped, the registers and the files are unchanged; a trap
+    /// changes nothing and costs nothing. Where the bytes are told after an Ok, the step is that of the flat machine on
+    /// them.
     pub fn step<B: Bytes>(&mut self, bytes: &mut B, files: &mut Files) -> Result<Done, B::Stop>
         requires base { B.base bytes.old ≡ self.old.base }
         requires size { B.size bytes.old ≡ self.old.size }

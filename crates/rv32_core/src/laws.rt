@@ -1,26 +1,47 @@
-//! Laws of the line list: which lines a step asks for, in which order, and how a run's items are those of its steps. The calls
-//! do nothing.
+//! Laws of the steps, by the instruction table, and of the line list: which lines a step asks for, in which order, and
+//! how a run's items are those of its steps. The calls do nothing.
 
-ghost use Rattle.std.specs.Prelude.{◌≡◌, ◌≢◌, ℕ, suc, ◌+◌, ◌/◌, ◌<◌, ◌≤◌, length, true, false, List, [], ◌∷◌, ◌++◌, map, All, AllPairs};
+ghost use Rattle.std.specs.Prelude.{◌≡◌, ◌≢◌, ℕ, suc, ◌+◌, ◌/◌, ◌<◌, ◌≤◌, length, true, false, List, [], ◌∷◌, ◌++◌};
+ghost use Rattle.std.specs.Prelude.{map, All, AllPairs};
 ghost use Rattle.std.specs.Int.{from_le_bytes, w32};
 ghost use Rattle.asc_base.specs.Memory.{IsMemory};
 ghost use Rattle.request_plan.specs.Plan.{Plan, Done as Outcome, Ask, bind, Asks, Outcomes};
 ghost use Rattle.request_plan.specs.Play.{served};
 ghost use Rattle.rv32_core.specs.Access.{Access, Load, IsAccess, access_bytes};
-ghost use Rattle.rv32_core.specs.Machine.{CoreState, Machine, IsCore, is_inside};
-ghost use Rattle.rv32_core.specs.FlatMachine.{trap_at, bytes_at, flat_step};
-ghost use Rattle.rv32_core.specs.FlatRun.{Budget, Exited, finished_before, flat_run, gone_on, machine_at_start, output_limit};
+ghost use Rattle.rv32_table.specs.Table.{table, Matches};
+ghost use Rattle.rv32_core.specs.Machine.{CoreState, Machine, IsCore, is_inside, effect_of_word, cost_of_word};
+ghost use Rattle.rv32_core.specs.FlatMachine.{trap_at, bytes_at, effected, flat_step};
+ghost use Rattle.rv32_core.specs.RowStep.{row_step};
+ghost use Rattle.rv32_core.specs.FlatRun.{Budget, Exited, finished_before, flat_run, gone_on, machine_at_start};
+ghost use Rattle.rv32_core.specs.FlatRun.{output_limit};
 ghost use Rattle.rv32_core.specs.RunPlan.{end_of, after_instruction, run_plan};
 ghost use Rattle.rv32_core.specs.StepPlan.{word_plan, step_plan};
-ghost use Rattle.rv32_core.specs.LineList.{Read, WholeWrite, LineUse, LineItem, used, word_lines, fetch_line, step_lines, items_after};
-ghost use Rattle.rv32_core.specs.LineList.{run_items, image_items, image_cost, line_list, line_used, AsksLines, asked_lines, cost_after};
+ghost use Rattle.rv32_core.specs.LineList.{Read, WholeWrite, LineUse, LineItem, used, word_lines, fetch_line};
+ghost use Rattle.rv32_core.specs.LineList.{step_lines, items_after};
+ghost use Rattle.rv32_core.specs.LineList.{run_items, image_items, image_cost, line_list, line_used, AsksLines};
+ghost use Rattle.rv32_core.specs.LineList.{asked_lines, cost_after};
+ghost use Rattle.rv32_core.specs.declared.effect.Effect.TheVariants.{Traps};
 ghost use Rattle.rv32_core.specs.declared.outcome.Done.{Done};
 ghost use Rattle.rv32_core.specs.declared.outcome.TrapKind.{TrapKind};
-ghost use Rattle.rv32_core.specs.declared.outcome.TrapKind.TheVariants.{FetchFault};
+ghost use Rattle.rv32_core.specs.declared.outcome.TrapKind.TheVariants.{FetchFault, Illegal};
 ghost use Rattle.rv32_core.specs.declared.outcome.Ended.TheVariants.{No, Trap};
 
-/// Whatever is answered, a step asks for the lines of its instruction in order, each once: for its fetch, and then for its
-/// data. Where the four bytes at pc aren't all in the memory it asks for nothing.
+/// A word that matches a row of the instruction table does what the meaning beside the row says, by the meaning's name
+/// and the fields of the row's form alone; so does a step that fetches it. A word that matches no row is illegal.
+pub fn steps_are_the_table()
+    ensures word { (machine : Machine) (memory : List ℕ) (cost word : ℕ)
+        → All (λ row. Matches word row
+        → effected machine memory cost (effect_of_word machine word) ≡ row_step machine memory cost word row) table }
+    ensures step { (machine : Machine) (memory : List ℕ) (word : ℕ) → is_inside machine.core machine.core.pc 4 ≡ true
+        → from_le_bytes w32 (bytes_at machine memory machine.core.pc 4) ≡ word
+        → All (λ row. Matches word row
+        → flat_step machine memory ≡ row_step machine memory (cost_of_word machine word) word row) table }
+    ensures illegal { (machine : Machine) (word : ℕ) → All (λ row. ¬ Matches word row) table
+        → effect_of_word machine word ≡ Traps Illegal }
+{}
+
+/// Whatever is answered, a step asks for the lines of its instruction in order, each once: for its fetch, and then for
+/// its data. Where the four bytes at pc aren't all in the memory it asks for nothing.
 pub fn step_asks_its_lines()
     ensures fetch { (machine : Machine) → is_inside machine.core machine.core.pc 4 ≡ true
         → step_plan machine
@@ -36,8 +57,8 @@ pub fn step_asks_its_lines()
         ≡ step_lines machine memory }
 {}
 
-/// Where a plan asks for these lines, each server is asked for them, in order; and one plan after another asks for the lines
-/// of the first and then for those of the second.
+/// Where a plan asks for these lines, each server is asked for them, in order; and one plan after another asks for the
+/// lines of the first and then for those of the second.
 pub fn lines_in_order<H, A, B, C, D>()
     ensures asked { (core : CoreState) (serve : H → Access → List ℕ × H) (plan : Plan Access (List ℕ) B A)
         (held : H) (lines : List LineUse) → AsksLines core plan lines → asked_lines core serve plan held ≡ lines }
@@ -56,8 +77,8 @@ pub fn lines_rise()
         → All (λ (item : LineItem). item.use_of.line < machine.core.size / 64) (run_items n cost machine memory) }
 {}
 
-/// An instruction that traps gives its fetch alone, a FetchFault gives nothing, and one that finishes gives its fetch and
-/// then its data.
+/// An instruction that traps gives its fetch alone, a FetchFault gives nothing, and one that finishes gives its fetch
+/// and then its data.
 pub fn traps_give_no_data()
     ensures fault { (machine : Machine) (memory : List ℕ) (pc : ℕ)
         → (flat_step machine memory).done.ended ≡ Trap FetchFault pc → step_lines machine memory ≡ [] }
@@ -70,8 +91,8 @@ pub fn traps_give_no_data()
         ≡ fetch_line machine.core ∷ word_lines machine (from_le_bytes w32 (bytes_at machine memory machine.core.pc 4)) }
 {}
 
-/// The items of a run are those of its first step, and then those of the run from there, at the cost of that step. After
-/// so many instructions that finish they are those of the run so far, and then those of the run from there.
+/// The items of a run are those of its first step, and then those of the run from there, at the cost of that step.
+/// After so many instructions that finish they are those of the run so far, and then those of the run from there.
 pub fn items_go_on()
     ensures none { (cost : ℕ) (machine : Machine) (memory : List ℕ) → run_items 0 cost machine memory ≡ [] }
     ensures next { (n cost : ℕ) (machine next : Machine) (memory after : List ℕ) (done : Done)
@@ -99,8 +120,8 @@ pub fn image_lines_first()
         ≡ items_after cost (used WholeWrite (line ∷ [])) ++ image_items 1 marked }
 {}
 
-/// A run of n instructions and then of k more is that of n + k: where all n finished it goes on from there, and one that ended
-/// stays as it is. With `Budget` exactly n finished, and never more.
+/// A run of n instructions and then of k more is that of n + k: where all n finished it goes on from there, and one
+/// that ended stays as it is. With `Budget` exactly n finished, and never more.
 pub fn runs_go_on()
     ensures parts { (n more : ℕ) (machine : Machine) (memory : List ℕ)
         → flat_run (n + more) machine memory ≡ gone_on more (flat_run n machine memory) }
@@ -132,9 +153,9 @@ pub fn bytes_stay()
         → length (flat_run n machine memory).memory ≡ length memory }
 {}
 
-/// A run as one plan, which is that of its instructions, one after another. Served by a list of bytes it is the flat run, it
-/// asks for the lines of the line list, in order, and whatever is answered it asks for bytes inside the memory and inside one
-/// line alone.
+/// A run as one plan, which is that of its instructions, one after another. Served by a list of bytes it is the flat
+/// run, it asks for the lines of the line list, in order, and whatever is answered it asks for bytes inside the memory
+/// and inside one line alone.
 pub fn run_is_one_plan()
     ensures none { (before : ℕ) (machine : Machine)
         → run_plan 0 before machine
@@ -146,7 +167,8 @@ pub fn run_is_one_plan()
     ensures flat { (n before : ℕ) (machine : Machine) (memory : List ℕ)
         → served (access_bytes machine.core.base) (run_plan n before machine) memory
         ≡ (end_of (finished_before before (flat_run n machine memory)), (flat_run n machine memory).memory) }
-    ensures lines { (n before cost : ℕ) (machine : Machine) (memory : List ℕ) → IsMemory machine.core.base machine.core.size
+    ensures lines { (n before cost : ℕ) (machine : Machine) (memory : List ℕ)
+        → IsMemory machine.core.base machine.core.size
         → asked_lines machine.core (access_bytes machine.core.base) (run_plan n before machine) memory
         ≡ map (λ (item : LineItem). item.use_of) (run_items n cost machine memory) }
     ensures inside { (n before : ℕ) (machine : Machine) → IsCore machine.core

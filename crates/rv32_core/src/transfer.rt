@@ -1,6 +1,7 @@
 //! Bytes moved between a memory and a file, piece by piece in rising order, each piece inside one line.
 
-ghost use Rattle.std.specs.Prelude.{◌≡◌, ℕ, ◌+◌, ◌-◌, ◌%◌, ◌^◌, ◌<◌, ◌≤◌, min, List, ◌++◌, Ok, Err, IfErr, OnOk, OnErr, length, take, vec_len, vec_capacity};
+ghost use Rattle.std.specs.Prelude.{◌≡◌, ℕ, ◌+◌, ◌-◌, ◌%◌, ◌^◌, ◌<◌, ◌≤◌, min, List, ◌++◌, Ok, Err, IfErr, OnOk, OnErr};
+ghost use Rattle.std.specs.Prelude.{length, take, vec_len, vec_capacity};
 ghost use Rattle.request_plan.specs.Plan.{Ends, Stops};
 ghost use Rattle.rv32_core.specs.Access.{Load, IsInLine};
 ghost use Rattle.rv32_core.specs.Transfer.{IsRange, pieces, stores_plan, loads_plan};

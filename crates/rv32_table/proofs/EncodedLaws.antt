@@ -1,13 +1,17 @@
 -- The word of an instruction that fits is this instruction.
 use Rattle.std.proofs.Common.{◌≡◌, ℕ, ◌+◌, ◌*◌, ◌%◌, ◌<◌, ◌^◌, refl, ◌∙◌, ap, lit<, arith}
 use Rattle.std.specs.Prelude.{ℤ, pos, Some, option_map}
-use Rattle.rv32_table.specs.Fields.{opcode_of, rd_of, rs1_of, rs2_of, funct7_of, immediate_i, immediate_s, immediate_b, immediate_u, immediate_j}
+use Rattle.rv32_table.specs.Fields.{opcode_of, rd_of, rs1_of, rs2_of, funct7_of, immediate_i, immediate_s, immediate_b}
+use Rattle.rv32_table.specs.Fields.{immediate_u, immediate_j}
 use Rattle.rv32_table.specs.Fits.{Fits, IsSigned, IsAmount, IsRest}
 use Rattle.rv32_table.specs.ByFields.{by_opcode, branch_at, load_at, store_at, register_at}
-use Rattle.rv32_table.specs.Encoded.{encoded, part, word_of, word_i, word_s, word_b, word_u, word_j, branch_funct3, load_funct3, store_funct3, register_funct3, register_funct7}
+use Rattle.rv32_table.specs.Encoded.{encoded, part, word_of, word_i, word_s, word_b, word_u, word_j, branch_funct3}
+use Rattle.rv32_table.specs.Encoded.{load_funct3, store_funct3, register_funct3, register_funct7}
 use Rattle.rv32_table.specs.Table.{decoded}
-use Rattle.rv32_table.proofs.FieldLaws.{any_funct7, op_imm_with, by_lui, by_auipc, by_jal, by_jalr, by_branch, by_load, by_store, by_op_imm, by_op, by_fence}
-use Rattle.rv32_table.proofs.FormLaws.{HasI, HasS, HasB, HasU, HasJ, HasRest, forth_i, forth_s, forth_b, forth_u, forth_j, forth_rest, part-amount}
+use Rattle.rv32_table.proofs.FieldLaws.{any_funct7, op_imm_with, by_lui, by_auipc, by_jal, by_jalr, by_branch, by_load}
+use Rattle.rv32_table.proofs.FieldLaws.{by_store, by_op_imm, by_op, by_fence}
+use Rattle.rv32_table.proofs.FormLaws.{HasI, HasS, HasB, HasU, HasJ, HasRest, forth_i, forth_s, forth_b, forth_u}
+use Rattle.rv32_table.proofs.FormLaws.{forth_j, forth_rest, part-amount}
 use Rattle.rv32_table.proofs.WordLaws.{AreFields, HasFields, word_of-fields}
 use Rattle.rv32_table.proofs.TableLaws.{decoded-by_opcode}
 use Rattle.rv32_table.specs.declared.instruction.BranchOp.{BranchOp}
@@ -17,11 +21,14 @@ use Rattle.rv32_table.specs.declared.instruction.LoadOp.TheVariants.{Lb, Lh, Lw,
 use Rattle.rv32_table.specs.declared.instruction.StoreOp.{StoreOp}
 use Rattle.rv32_table.specs.declared.instruction.StoreOp.TheVariants.{Sb, Sh, Sw}
 use Rattle.rv32_table.specs.declared.instruction.ImmOp.{ImmOp}
-use Rattle.rv32_table.specs.declared.instruction.ImmOp.TheVariants.{Addi, Slti, Sltiu, Xori, Ori, Andi, Slli, Srli, Srai}
+use Rattle.rv32_table.specs.declared.instruction.ImmOp.TheVariants.{Addi, Slti, Sltiu, Xori, Ori, Andi, Slli, Srli}
+use Rattle.rv32_table.specs.declared.instruction.ImmOp.TheVariants.{Srai}
 use Rattle.rv32_table.specs.declared.instruction.RegOp.{RegOp}
-use Rattle.rv32_table.specs.declared.instruction.RegOp.TheVariants.{Add, Sub, Sll, Slt, Sltu, Xor, Srl, Sra, Or, And, Mul, Mulh, Mulhsu, Mulhu, Div, Divu, Rem, Remu}
+use Rattle.rv32_table.specs.declared.instruction.RegOp.TheVariants.{Add, Sub, Sll, Slt, Sltu, Xor, Srl, Sra, Or, And}
+use Rattle.rv32_table.specs.declared.instruction.RegOp.TheVariants.{Mul, Mulh, Mulhsu, Mulhu, Div, Divu, Rem, Remu}
 use Rattle.rv32_table.specs.declared.instruction.Instr.{Instr}
-use Rattle.rv32_table.specs.declared.instruction.Instr.TheVariants.{Lui, Auipc, Jal, Jalr, Branch, Load, Store, OpImm, Op, Fence, FenceI, Ecall, Ebreak}
+use Rattle.rv32_table.specs.declared.instruction.Instr.TheVariants.{Lui, Auipc, Jal, Jalr, Branch, Load, Store, OpImm}
+use Rattle.rv32_table.specs.declared.instruction.Instr.TheVariants.{Op, Fence, FenceI, Ecall, Ebreak}
 
 branch_funct3-below : (op : BranchOp) → branch_funct3 op < 2 ^ 3
 branch_funct3-below Beq = lit< tt

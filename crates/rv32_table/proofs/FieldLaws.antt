@@ -1,11 +1,13 @@
 -- What a word is by its fields, at each opcode.
 use Rattle.std.proofs.Common.{◌≡◌, ℕ, ◌+◌, ◌*◌, ◌^◌, ◌<◌, refl, sym, ◌∙◌, ap, arith}
 use Rattle.std.specs.Prelude.{pos, ◌==◌, if◌then◌else◌, bit_and, Option, Some, None, option_map}
-use Rattle.rv32_table.specs.Fields.{opcode_of, rd_of, funct3_of, rs1_of, rs2_of, funct7_of, immediate_i, immediate_s, immediate_b, immediate_u, immediate_j, rest_of}
+use Rattle.rv32_table.specs.Fields.{opcode_of, rd_of, funct3_of, rs1_of, rs2_of, funct7_of, immediate_i, immediate_s}
+use Rattle.rv32_table.specs.Fields.{immediate_b, immediate_u, immediate_j, rest_of}
 use Rattle.rv32_table.specs.ByFields.{by_opcode, branch_at, load_at, store_at, immediate_at, shift_at, register_at}
 use Rattle.rv32_table.proofs.Masks.{and-opcode, and-funct3, and-funct7, and-whole}
 use Rattle.rv32_table.specs.declared.instruction.Instr.{Instr}
-use Rattle.rv32_table.specs.declared.instruction.Instr.TheVariants.{Lui, Auipc, Jal, Jalr, Branch, Load, Store, OpImm, Op, Fence, FenceI, Ecall, Ebreak}
+use Rattle.rv32_table.specs.declared.instruction.Instr.TheVariants.{Lui, Auipc, Jal, Jalr, Branch, Load, Store, OpImm}
+use Rattle.rv32_table.specs.declared.instruction.Instr.TheVariants.{Op, Fence, FenceI, Ecall, Ebreak}
 
 -- the fields of a word that the masks fix
 pub record AtFunct3 (word opcode funct3 : ℕ) : Type 0 where

@@ -4,11 +4,14 @@ use Rattle.std.proofs.Common.{◌≡◌, ℕ, ◌+◌, ◌*◌, ◌/◌, ◌%◌
 use Rattle.std.specs.Prelude.{ℤ, pos, negsuc, int_rem}
 use Rattle.std.specs.Int.{w32, cast_unsigned}
 use Rattle.std.proofs.lemmas.Int.{ints}
-use Rattle.rv32_table.specs.Fields.{bits, signed, opcode_of, rd_of, funct3_of, rs1_of, rs2_of, funct7_of, immediate_i, immediate_s, immediate_b, immediate_u, immediate_j, rest_of}
+use Rattle.rv32_table.specs.Fields.{bits, signed, opcode_of, rd_of, funct3_of, rs1_of, rs2_of, funct7_of, immediate_i}
+use Rattle.rv32_table.specs.Fields.{immediate_s, immediate_b, immediate_u, immediate_j, rest_of}
 use Rattle.rv32_table.specs.Fits.{IsSigned, IsOffset, IsAmount, IsUpper, IsRest}
 use Rattle.rv32_table.specs.Encoded.{part, word_of, word_i, word_s, word_b, word_u, word_j}
 use Rattle.rv32_table.proofs.WordLaws.{HasFields, word_of-fields, fields-word_of}
-use Rattle.rv32_table.proofs.Immediates.{cast-signed_12, cast-signed_13, cast-signed_21, IsSigned-signed_12, IsSigned-signed_13, IsSigned-signed_21, signed-cast_12, signed-cast_13, signed-cast_21}
+use Rattle.rv32_table.proofs.Immediates.{cast-signed_12, cast-signed_13, cast-signed_21, IsSigned-signed_12}
+use Rattle.rv32_table.proofs.Immediates.{IsSigned-signed_13, IsSigned-signed_21, signed-cast_12, signed-cast_13}
+use Rattle.rv32_table.proofs.Immediates.{signed-cast_21}
 
 -- the halves of twelve bits
 low_of_12 : (u v : ℕ) → u % 2 ^ 12 ≡ v → u / 2 ^ 0 % 2 ^ 5 ≡ v % 2 ^ 5

@@ -1,5 +1,6 @@
 -- The row of a list that a word matches.
-use Rattle.std.proofs.Common.{◌≡◌, ℕ, List, [], ◌∷◌, zero, suc, refl, sym, ap, arith, Bool, true, false, not, ◌&&◌, subst}
+use Rattle.std.proofs.Common.{◌≡◌, ℕ, List, [], ◌∷◌, zero, suc, refl, sym, ap, arith, Bool, true, false, not, ◌&&◌}
+use Rattle.std.proofs.Common.{subst}
 use Rattle.std.specs.Prelude.{◌==◌, bit_and, Option, Some, None, find, slice_get, AllPairs, All, if◌then◌else◌}
 use Rattle.std.specs.List.{list_all}
 use Rattle.std.proofs.lemmas.Nat.{and_assoc, and_comm}

@@ -1,11 +1,13 @@
 -- Rows of the manual on what operations answer, checked by computing.
 use Rattle.std.proofs.Common.{◌≡◌, refl}
 use Rattle.std.specs.Prelude.{pos, negsuc, true, false}
-use Rattle.rv32_table.specs.Meaning.{register_meaning, immediate_meaning, branch_meaning, load_meaning, target_of, jump_target}
+use Rattle.rv32_table.specs.Meaning.{register_meaning, immediate_meaning, branch_meaning, load_meaning, target_of}
+use Rattle.rv32_table.specs.Meaning.{jump_target}
 use Rattle.rv32_table.specs.declared.instruction.BranchOp.TheVariants.{Bge, Bgeu, Blt, Bltu}
 use Rattle.rv32_table.specs.declared.instruction.LoadOp.TheVariants.{Lb, Lh, Lbu}
 use Rattle.rv32_table.specs.declared.instruction.ImmOp.TheVariants.{Addi, Sltiu, Srai}
-use Rattle.rv32_table.specs.declared.instruction.RegOp.TheVariants.{Sub, Slt, Sra, Mul, Mulh, Mulhsu, Mulhu, Div, Divu, Rem, Remu}
+use Rattle.rv32_table.specs.declared.instruction.RegOp.TheVariants.{Sub, Slt, Sra, Mul, Mulh, Mulhsu, Mulhu, Div, Divu}
+use Rattle.rv32_table.specs.declared.instruction.RegOp.TheVariants.{Rem, Remu}
 
 -- by zero (M, table of the semantics for division by zero and division overflow)
 div-zero : register_meaning Div 7 0 ≡ 4294967295

@@ -5,7 +5,9 @@ use Rattle.rv32_table.specs.Fields.{opcode_of, funct7_of}
 use Rattle.rv32_table.specs.ByFields.{by_opcode}
 use Rattle.rv32_table.specs.Table.{table, Matches, instruction_of}
 use Rattle.rv32_table.proofs.ListLaws.{◌▹◌, EachRow}
-use Rattle.rv32_table.proofs.FieldLaws.{at_opcode, at_funct3, at_funct7, at_whole, any_funct7, by_lui, by_auipc, by_jal, by_jalr, by_branch, by_load, by_store, by_op_imm, by_op, by_fence, by_ecall, by_ebreak}
+use Rattle.rv32_table.proofs.FieldLaws.{at_opcode, at_funct3, at_funct7, at_whole, any_funct7, by_lui, by_auipc, by_jal}
+use Rattle.rv32_table.proofs.FieldLaws.{by_jalr, by_branch, by_load, by_store, by_op_imm, by_op, by_fence, by_ecall}
+use Rattle.rv32_table.proofs.FieldLaws.{by_ebreak}
 
 pub rows-by_opcode : (w : ℕ) → w < 2 ^ 32
     → EachRow (λ r. Matches w r → by_opcode (opcode_of w) w ≡ Some (instruction_of r.form w)) table

@@ -1,13 +1,16 @@
 -- What each row of the table is as a word again.
 use Rattle.std.proofs.Common.{◌≡◌, ℕ, ◌+◌, ◌*◌, ◌<◌, ◌^◌, sym, ◌∙◌, ap, lit<, arith}
 use Rattle.std.specs.Prelude.{pos}
-use Rattle.rv32_table.specs.Fields.{opcode_of, rd_of, funct3_of, rs1_of, rs2_of, immediate_i, immediate_s, immediate_b, immediate_u, immediate_j, rest_of}
+use Rattle.rv32_table.specs.Fields.{opcode_of, rd_of, funct3_of, rs1_of, rs2_of, immediate_i, immediate_s, immediate_b}
+use Rattle.rv32_table.specs.Fields.{immediate_u, immediate_j, rest_of}
 use Rattle.rv32_table.specs.Fits.{Fits}
 use Rattle.rv32_table.specs.Encoded.{encoded, part, word_of, word_i, word_s, word_b, word_u, word_j}
 use Rattle.rv32_table.specs.Table.{table, Matches, instruction_of}
 use Rattle.rv32_table.proofs.ListLaws.{◌▹◌, EachRow}
 use Rattle.rv32_table.proofs.FieldLaws.{AtFunct3, AtFunct7, at_opcode, at_funct3, at_funct7, at_whole}
-use Rattle.rv32_table.proofs.FormLaws.{back_i, back_shift, back_s, back_b, back_j, back_u, back_rest, IsSigned-immediate_i, IsAmount-rs2, IsSigned-immediate_s, IsOffset-immediate_b, IsOffset-immediate_j, IsUpper-immediate_u, IsRest-rest_of}
+use Rattle.rv32_table.proofs.FormLaws.{back_i, back_shift, back_s, back_b, back_j, back_u, back_rest}
+use Rattle.rv32_table.proofs.FormLaws.{IsSigned-immediate_i, IsAmount-rs2, IsSigned-immediate_s, IsOffset-immediate_b}
+use Rattle.rv32_table.proofs.FormLaws.{IsOffset-immediate_j, IsUpper-immediate_u, IsRest-rest_of}
 use Rattle.rv32_table.proofs.WordLaws.{fields-word_of}
 
 whole_i : (w o n : ℕ) → w < 2 ^ 32 → AtFunct3 w o n → word_i o (rd_of w) n (rs1_of w) (immediate_i w) ≡ w

@@ -1,6 +1,7 @@
 -- The same by cases on the fields of a word: opcode, funct3, funct7.
 use Rattle.std.specs.Prelude.{ℕ, pos, ◌==◌, if◌then◌else◌, Option, Some, None, option_map}
-use Rattle.rv32_table.specs.Fields.{rd_of, funct3_of, rs1_of, rs2_of, funct7_of, immediate_i, immediate_s, immediate_b, immediate_u, immediate_j, rest_of}
+use Rattle.rv32_table.specs.Fields.{rd_of, funct3_of, rs1_of, rs2_of, funct7_of, immediate_i, immediate_s, immediate_b}
+use Rattle.rv32_table.specs.Fields.{immediate_u, immediate_j, rest_of}
 use Rattle.rv32_table.specs.declared.instruction.BranchOp.{BranchOp}
 use Rattle.rv32_table.specs.declared.instruction.BranchOp.TheVariants.{Beq, Bne, Blt, Bge, Bltu, Bgeu}
 use Rattle.rv32_table.specs.declared.instruction.LoadOp.{LoadOp}
@@ -8,11 +9,14 @@ use Rattle.rv32_table.specs.declared.instruction.LoadOp.TheVariants.{Lb, Lh, Lw,
 use Rattle.rv32_table.specs.declared.instruction.StoreOp.{StoreOp}
 use Rattle.rv32_table.specs.declared.instruction.StoreOp.TheVariants.{Sb, Sh, Sw}
 use Rattle.rv32_table.specs.declared.instruction.ImmOp.{ImmOp}
-use Rattle.rv32_table.specs.declared.instruction.ImmOp.TheVariants.{Addi, Slti, Sltiu, Xori, Ori, Andi, Slli, Srli, Srai}
+use Rattle.rv32_table.specs.declared.instruction.ImmOp.TheVariants.{Addi, Slti, Sltiu, Xori, Ori, Andi, Slli, Srli}
+use Rattle.rv32_table.specs.declared.instruction.ImmOp.TheVariants.{Srai}
 use Rattle.rv32_table.specs.declared.instruction.RegOp.{RegOp}
-use Rattle.rv32_table.specs.declared.instruction.RegOp.TheVariants.{Add, Sub, Sll, Slt, Sltu, Xor, Srl, Sra, Or, And, Mul, Mulh, Mulhsu, Mulhu, Div, Divu, Rem, Remu}
+use Rattle.rv32_table.specs.declared.instruction.RegOp.TheVariants.{Add, Sub, Sll, Slt, Sltu, Xor, Srl, Sra, Or, And}
+use Rattle.rv32_table.specs.declared.instruction.RegOp.TheVariants.{Mul, Mulh, Mulhsu, Mulhu, Div, Divu, Rem, Remu}
 use Rattle.rv32_table.specs.declared.instruction.Instr.{Instr}
-use Rattle.rv32_table.specs.declared.instruction.Instr.TheVariants.{Lui, Auipc, Jal, Jalr, Branch, Load, Store, OpImm, Op, Fence, FenceI, Ecall, Ebreak}
+use Rattle.rv32_table.specs.declared.instruction.Instr.TheVariants.{Lui, Auipc, Jal, Jalr, Branch, Load, Store, OpImm}
+use Rattle.rv32_table.specs.declared.instruction.Instr.TheVariants.{Op, Fence, FenceI, Ecall, Ebreak}
 
 abbrev pub branch_at : ℕ → Option BranchOp
 branch_at funct3 =

@@ -1,17 +1,28 @@
 -- The instruction table. (RISC-V unprivileged manual, RV32/64G Instruction Set Listings: RV32I 2.1, M 2.0, Zifencei
 -- 2.0)
-use Rattle.std.specs.Prelude.{◌≡◌, ℕ, ℤ, pos, Bool, ◌==◌, List, [], ◌∷◌, Option, option_map, find, bit_and, bit_or, bit_xor}
-use Rattle.rv32_table.specs.Fields.{rd_of, rs1_of, rs2_of, immediate_i, immediate_s, immediate_b, immediate_u, immediate_j, rest_of}
-use Rattle.rv32_table.specs.Meaning.{Meaning, SetsUpper, SetsFromBoth, SetsFromImmediate, Links, Branches, Loads, Stores, Passes, CallsHost, BreaksOff}
-use Rattle.rv32_table.specs.Meaning.{upper_value, auipc_value, from_pc, from_register, is_equal, is_unequal, is_less_signed, is_not_less_signed, is_less_unsigned, is_not_less_unsigned, extended_byte, extended_half, as_it_is}
-use Rattle.rv32_table.specs.Meaning.{sum_of, difference_of, shifted_left, one_if_less_signed, one_if_less_unsigned, shifted_right, shifted_right_signed, low_product, high_product_signed, high_product_mixed, high_product_unsigned, quotient_signed, quotient_unsigned, remainder_signed, remainder_unsigned}
+use Rattle.std.specs.Prelude.{◌≡◌, ℕ, ℤ, pos, Bool, ◌==◌, List, [], ◌∷◌, Option, option_map, find, bit_and, bit_or}
+use Rattle.std.specs.Prelude.{bit_xor}
+use Rattle.rv32_table.specs.Fields.{rd_of, rs1_of, rs2_of, immediate_i, immediate_s, immediate_b, immediate_u}
+use Rattle.rv32_table.specs.Fields.{immediate_j, rest_of}
+use Rattle.rv32_table.specs.Meaning.{Meaning, SetsUpper, SetsFromBoth, SetsFromImmediate, Links, Branches, Loads}
+use Rattle.rv32_table.specs.Meaning.{Stores, Passes, CallsHost, BreaksOff}
+use Rattle.rv32_table.specs.Meaning.{upper_value, auipc_value, from_pc, from_register, is_equal, is_unequal}
+use Rattle.rv32_table.specs.Meaning.{is_less_signed, is_not_less_signed, is_less_unsigned, is_not_less_unsigned}
+use Rattle.rv32_table.specs.Meaning.{extended_byte, extended_half, as_it_is}
+use Rattle.rv32_table.specs.Meaning.{sum_of, difference_of, shifted_left, one_if_less_signed, one_if_less_unsigned}
+use Rattle.rv32_table.specs.Meaning.{shifted_right, shifted_right_signed, low_product, high_product_signed}
+use Rattle.rv32_table.specs.Meaning.{high_product_mixed, high_product_unsigned, quotient_signed, quotient_unsigned}
+use Rattle.rv32_table.specs.Meaning.{remainder_signed, remainder_unsigned}
 use Rattle.rv32_table.specs.declared.instruction.BranchOp.TheVariants.{Beq, Bne, Blt, Bge, Bltu, Bgeu}
 use Rattle.rv32_table.specs.declared.instruction.LoadOp.TheVariants.{Lb, Lh, Lw, Lbu, Lhu}
 use Rattle.rv32_table.specs.declared.instruction.StoreOp.TheVariants.{Sb, Sh, Sw}
-use Rattle.rv32_table.specs.declared.instruction.ImmOp.TheVariants.{Addi, Slti, Sltiu, Xori, Ori, Andi, Slli, Srli, Srai}
-use Rattle.rv32_table.specs.declared.instruction.RegOp.TheVariants.{Add, Sub, Sll, Slt, Sltu, Xor, Srl, Sra, Or, And, Mul, Mulh, Mulhsu, Mulhu, Div, Divu, Rem, Remu}
+use Rattle.rv32_table.specs.declared.instruction.ImmOp.TheVariants.{Addi, Slti, Sltiu, Xori, Ori, Andi, Slli, Srli}
+use Rattle.rv32_table.specs.declared.instruction.ImmOp.TheVariants.{Srai}
+use Rattle.rv32_table.specs.declared.instruction.RegOp.TheVariants.{Add, Sub, Sll, Slt, Sltu, Xor, Srl, Sra, Or, And}
+use Rattle.rv32_table.specs.declared.instruction.RegOp.TheVariants.{Mul, Mulh, Mulhsu, Mulhu, Div, Divu, Rem, Remu}
 use Rattle.rv32_table.specs.declared.instruction.Instr.{Instr}
-use Rattle.rv32_table.specs.declared.instruction.Instr.TheVariants.{Lui, Auipc, Jal, Jalr, Branch, Load, Store, OpImm, Op, Fence, FenceI, Ecall, Ebreak}
+use Rattle.rv32_table.specs.declared.instruction.Instr.TheVariants.{Lui, Auipc, Jal, Jalr, Branch, Load, Store, OpImm}
+use Rattle.rv32_table.specs.declared.instruction.Instr.TheVariants.{Op, Fence, FenceI, Ecall, Ebreak}
 
 -- A form, and the instruction that it makes of the fields of a word in the order of the manual's assembler: of rd, rs1
 -- and rs2; of rd, rs1 and an immediate; of rs1, rs2 and an immediate; of rd and an immediate.

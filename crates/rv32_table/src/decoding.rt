@@ -5,7 +5,11 @@ ghost use Rattle.rv32_table.specs.Fits.{Fits};
 ghost use Rattle.rv32_table.specs.Table.{table, Matches, decoded};
 ghost use Rattle.rv32_table.specs.Encoded.{encoded};
 ghost use Rattle.rv32_table.specs.Fields.{opcode_of};
-ghost use Rattle.rv32_table.specs.ByFields.{by_opcode, jump_by_fields, branch_at, branch_by_fields, load_at, load_by_fields, store_at, store_by_fields, immediate_at, shift_at, op_imm_by_fields, register_at, plain_at, other_at, multiply_at, op_by_fields, fence_by_fields, system_by_fields, shift_by_fields, immediate_by_fields, plain_shift_at, sign_shift_at};
+ghost use Rattle.rv32_table.specs.ByFields.{by_opcode, jump_by_fields, branch_at, branch_by_fields, load_at};
+ghost use Rattle.rv32_table.specs.ByFields.{load_by_fields, store_at, store_by_fields, immediate_at, shift_at};
+ghost use Rattle.rv32_table.specs.ByFields.{op_imm_by_fields, register_at, plain_at, other_at, multiply_at};
+ghost use Rattle.rv32_table.specs.ByFields.{op_by_fields, fence_by_fields, system_by_fields, shift_by_fields};
+ghost use Rattle.rv32_table.specs.ByFields.{immediate_by_fields, plain_shift_at, sign_shift_at};
 
 use crate::fields::{
     funct3, funct7, immediate_b, immediate_i, immediate_j, immediate_s, immediate_u, opcode, rd,
@@ -279,8 +283,8 @@ fn decode_system(word: u32) -> Option<Instr>
     }
 }
 
-/// The instruction that a word is, and None exactly where the word is illegal: it matches no row of the instruction table.
-/// It fits, and its word is this one.
+/// The instruction that a word is, and None exactly where the word is illegal: it matches no row of the instruction
+/// table. It fits, and its word is this one.
 pub fn decode(word: u32) -> Option<Instr>
     ensures row { result ≡ decoded word }
     ensures illegal { (result ≡ None) ↔ All (λ row. ¬ Matches word row) table }

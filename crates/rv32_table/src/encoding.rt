@@ -3,7 +3,9 @@
 ghost use Rattle.std.specs.Prelude.{◌≡◌, ◌+◌, ◌*◌, ◌%◌, ◌^◌, ◌<◌, ◌≤◌};
 ghost use Rattle.rv32_table.specs.Fits.{Fits};
 ghost use Rattle.rv32_table.specs.Table.{decoded};
-ghost use Rattle.rv32_table.specs.Encoded.{encoded, part, word_of, word_i, word_s, word_b, word_u, word_j, word_op_imm, branch_funct3, load_funct3, store_funct3, immediate_funct3, shift_funct7, register_funct3, register_funct7};
+ghost use Rattle.rv32_table.specs.Encoded.{encoded, part, word_of, word_i, word_s, word_b, word_u, word_j, word_op_imm};
+ghost use Rattle.rv32_table.specs.Encoded.{branch_funct3, load_funct3, store_funct3, immediate_funct3, shift_funct7};
+ghost use Rattle.rv32_table.specs.Encoded.{register_funct3, register_funct7};
 
 use crate::fields::field;
 use crate::instruction::{BranchOp, ImmOp, Instr, LoadOp, RegOp, StoreOp};

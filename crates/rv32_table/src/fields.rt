@@ -1,7 +1,8 @@
 //! The fields and the immediates of a word.
 
 ghost use Rattle.std.specs.Prelude.{◌≡◌, ◌+◌, ◌*◌, ◌^◌, ◌<◌, ◌≤◌, pos, ◌-ℤ◌};
-ghost use Rattle.rv32_table.specs.Fields.{bits, signed, opcode_of, rd_of, funct3_of, rs1_of, rs2_of, funct7_of, immediate_i, immediate_s, immediate_b, immediate_u, immediate_j, rest_of};
+ghost use Rattle.rv32_table.specs.Fields.{bits, signed, opcode_of, rd_of, funct3_of, rs1_of, rs2_of, funct7_of};
+ghost use Rattle.rv32_table.specs.Fields.{immediate_i, immediate_s, immediate_b, immediate_u, immediate_j, rest_of};
 
 /// So many bits of a word, from the bit `low` on.
 pub(crate) fn field(word: u32, low: u32, count: u32) -> u32

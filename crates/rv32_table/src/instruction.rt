@@ -243,8 +243,8 @@ impl ImmOp {
 }
 
 impl Instr {
-    /// Whether it has a word: its registers are below 32, its immediate is in its form's range, an offset is even, a shift
-    /// amount is from 0 to 31, and `rest` has no bit of opcode and funct3.
+    /// Whether it has a word: its registers are below 32, its immediate is in its form's range, an offset is even, a
+    /// shift amount is from 0 to 31, and `rest` has no bit of opcode and funct3.
     pub fn fits(&self) -> bool
         ensures { IsTrue result ↔ Fits self.now }
     {

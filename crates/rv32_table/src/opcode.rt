@@ -1,5 +1,5 @@
-//! The opcodes, bits 6 to 0 of a word, and the two words that have no other field. (RISC-V unprivileged manual, RV32/64G
-//! Instruction Set Listings)
+//! The opcodes, bits 6 to 0 of a word, and the two words that have no other field. (RISC-V unprivileged manual,
+//! RV32/64G Instruction Set Listings)
 
 pub(crate) const LUI: u32 = 0b011_0111;
 

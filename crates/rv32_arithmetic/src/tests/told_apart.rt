@@ -123,7 +123,8 @@ fn registers(rt: HostRuntime) -> Result<(), Fail> {
     Ok(())
 }
 
-/// Each operation with an immediate has rows, whose answer it alone gives, also of the operations on registers but its own.
+/// Each operation with an immediate has rows, whose answer it alone gives, also of the operations on registers but its
+/// own.
 #[test]
 fn immediates(rt: HostRuntime) -> Result<(), Fail> {
     let rows = [

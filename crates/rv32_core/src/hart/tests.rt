@@ -42,7 +42,8 @@ impl Bytes for Stopping {
 
     ghost ready = { λ _. Unit {0} };
 
-    ghost step = { λ s access answer t. (t.inner.base ≡ s.inner.base) × (length t.inner.bytes ≡ length s.inner.bytes) × IfOk answer (IsAnswer access) };
+    ghost step = { λ s access answer t. (t.inner.base ≡ s.inner.base) × (length t.inner.bytes ≡ length s.inner.bytes)
+        × IfOk answer (IsAnswer access) };
 
     fn load(&mut self, address: u32, into: &mut [u8]) -> Result<(), Stopped> {
         if self.left == 0 {

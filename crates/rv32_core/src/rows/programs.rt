@@ -1,4 +1,5 @@
-//! Whole programs, and the host calls, over bytes in one vector. `tools/core_rows.py` prints the words and what they do.
+//! Whole programs, and the host calls, over bytes in one vector. `tools/core_rows.py` prints the words and what they
+//! do.
 
 ghost use Rattle.std.specs.Prelude.{◌≡◌, length};
 
@@ -260,8 +261,8 @@ fn make(rt: &impl Abort, alloc: Global, input: &[u8], calls: &[Call]) -> Result<
     Ok(files)
 }
 
-/// Files and buffers that aren't there, numbers that no call has, the break, the ends of the memory, and the limit of the
-/// output.
+/// Files and buffers that aren't there, numbers that no call has, the break, the ends of the memory, and the limit of
+/// the output.
 #[test]
 fn calls(rt: HostRuntime) -> Result<(), Fail> {
     let cases: [&[Call]; 6] = [

@@ -1,4 +1,7 @@
-use Rattle.request_plan.proofs.PressLaws.{press-keeps, press-clean, press-turns, press-cuts, press-late, press-quiet, press-notes, press-unnoted, press-tells, folder-ends, folder-stops, stays_jammed, two_sheets, third_is_cut, third_is_late, third_halt, third_pages, late-noted, handed, refused}
+use Rattle.request_plan.proofs.PressLaws.{press-keeps, press-clean, press-turns, press-cuts, press-late, press-quiet}
+use Rattle.request_plan.proofs.PressLaws.{press-notes, press-unnoted, press-tells, folder-ends, folder-stops}
+use Rattle.request_plan.proofs.PressLaws.{stays_jammed, two_sheets, third_is_cut, third_is_late, third_halt}
+use Rattle.request_plan.proofs.PressLaws.{third_pages, late-noted, handed, refused}
 use Rattle.request_plan.proofs.laws.press_meets_the_laws.Goals as goal
 
 pub returns-clause-keeps : goal.returns-clause-keeps

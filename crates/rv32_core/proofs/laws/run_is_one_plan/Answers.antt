@@ -1,5 +1,6 @@
 use Rattle.std.proofs.Common.{refl}
-use Rattle.rv32_core.proofs.RunLaws.{run_plan-none, run_plan-next, served-run_plan, asked-run_plan, Asks-run_plan, step_plan-keeps}
+use Rattle.rv32_core.proofs.RunLaws.{run_plan-none, run_plan-next, served-run_plan, asked-run_plan, Asks-run_plan}
+use Rattle.rv32_core.proofs.RunLaws.{step_plan-keeps}
 use Rattle.rv32_core.proofs.laws.run_is_one_plan.Goals as goal
 
 pub returns-clause-none : goal.returns-clause-none
