@@ -11,5 +11,6 @@ mod laws;
 
 pub use laws::{
     accesses_take_asked_slots, answered_requests_take_slots, answered_requests_take_slots_in_turn,
-    ports_keep_the_pace, shown_accesses_are_walked, walked_accesses_take_play_slots,
+    ports_keep_the_pace, requests_stand_as_plays, shown_accesses_are_walked,
+    walked_accesses_take_play_slots,
 };
