@@ -1,17 +1,15 @@
 -- An encrypted memory that stands where a play stands, stands there after each request, or its log shows a forgery.
-use Rattle.std.proofs.Common.{◌≡◌, ◌<◌, ◌≤◌, ◌⊎◌, inl, inr, ℕ, List, [], ◌∷◌, ◌++◌, Option, None, Some, Ok, max, length}
+use Rattle.std.proofs.Common.{◌≡◌, ◌<◌, ◌≤◌, ◌⊎◌, inl, inr, ℕ, List, [], ◌++◌, None, Some, Ok, max}
 use Rattle.std.proofs.Common.{refl, sym, ap, ◌∙◌, subst, arith}
-use Rattle.request_plan.specs.Plan.{Ends}
 use Rattle.request_plan.proofs.Keeps.{Ends-has}
 use Rattle.asc_base.specs.Settings.{IsConfig}
-use Rattle.asc_base.specs.TreeShape.{children_of}
 use Rattle.asc_base.specs.declared.block.Line.{Line}
 use Rattle.asc_base.specs.declared.settings.Config.{Config}
 use Rattle.asc_base.specs.declared.shape.Shape.{Shape}
 use Rattle.asc_base.proofs.ShapeFacts.{IsLayered, shape_layered}
 use Rattle.bus_schedule.specs.Timetable.{public_of}
 use Rattle.data_cache.specs.Lines.{LineRequest, Fetch, Store}
-use Rattle.oram_contents.specs.Counts.{Ghost, line_by, put_at, zero_line}
+use Rattle.oram_contents.specs.Counts.{line_by, put_at, zero_line}
 use Rattle.oram_contents.specs.Entries.{Keys, AreKeys}
 use Rattle.oram_contents.specs.Forgery.{Forgery}
 use Rattle.oram_contents.specs.Starts.{first_ghost}
@@ -25,7 +23,7 @@ use Rattle.oram_lines.proofs.FetchLaws.{data_leaf, data_inside, fetch_answers, s
 use Rattle.oram_lines.proofs.GrowLaws.{counted_walk}
 use Rattle.oram_lines.proofs.LineLaws.{new_stands, new_holds, wait_answers}
 use Rattle.oram_lines.proofs.NotedLaws.{zeros_outside}
-use Rattle.oram_walk.specs.Front.{FrontState, IsAfter, first_front, sizes_of}
+use Rattle.oram_walk.specs.Front.{FrontState, IsAfter, sizes_of}
 use Rattle.oram_walk.specs.Plans.{FrontPlan, fetch_plan, store_plan}
 use Rattle.oram_walk.specs.Request.{Steps}
 use Rattle.oram_walk.specs.Rows.{zeros}
@@ -34,8 +32,7 @@ use Rattle.oram_walk.specs.declared.slots.Seen.{Seen}
 use Rattle.oram_walk.proofs.HeldAfter.{fetch_after, store_after}
 use Rattle.oram_walk.proofs.Walked.{start_shown}
 use Rattle.posmap_lookaside.specs.Walk.{WalkSizes, OnChip, Walked, IsHeldList, chip_at_start, walk}
-use Rattle.rate_enforcer.specs.PortStep.{PortState}
-use Rattle.run_play.specs.Requests.{StoredLines, Standing, Taken, standing_at_start, data_line, walk_sizes, requested}
+use Rattle.run_play.specs.Requests.{Standing, Taken, standing_at_start, data_line, walk_sizes, requested}
 use Rattle.run_play.specs.Requests.{value_of, request_done, request_slots}
 use Rattle.run_play.specs.Slots.{Pace, Slot, first_pace, passed}
 use Rattle.run_play.proofs.Honest.{line-front}
@@ -44,7 +41,7 @@ use Rattle.oram_play.specs.InTurn.{AnsweredAccess, AreInTurn, slots_in_turn}
 use Rattle.oram_play.specs.Playing.{PlaysAs, called, IsTold}
 use Rattle.oram_play.specs.Shown.{AreShownAs}
 use Rattle.oram_play.specs.Taken.{HasTaken}
-use Rattle.oram_play.specs.Walked.{AreWalked, put_for, taken_in_turn}
+use Rattle.oram_play.specs.Walked.{AreWalked, put_for}
 use Rattle.oram_play.proofs.Between.{start-taken}
 use Rattle.oram_play.proofs.Found.{shown-walked}
 use Rattle.oram_play.proofs.PlayTurns.{request-played}
