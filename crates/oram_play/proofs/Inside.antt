@@ -1,7 +1,7 @@
 -- The accesses of a walk are to blocks of the shape, and what they displace are position-map blocks.
 use Rattle.std.proofs.Common.{◌≡◌, ◌+◌, ◌-◌, ◌^◌, ◌<◌, ◌≤◌, ℕ, zero, suc, Bool, true, false, nat_eq, nat_le, inl, inr}
 use Rattle.std.proofs.Common.{List, [], ◌∷◌, ◌++◌, map, take, reverse, slice_get, Option, Some, None}
-use Rattle.std.proofs.Common.{refl, sym, ap, ◌∙◌, subst, arith}
+use Rattle.std.proofs.Common.{refl, sym, subst, arith}
 use Rattle.std.specs.Prelude.{if◌then◌else◌, option_and_then}
 use Rattle.std.specs.List.{find}
 use Rattle.std.specs.Option.{option_map_or}

@@ -12,3 +12,4 @@ pub mod Pairs
 pub mod Notes
 pub mod Inside
 pub mod Found
+pub mod Stands

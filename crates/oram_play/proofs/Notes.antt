@@ -1,5 +1,5 @@
 -- The answers of a run of a plan, which can be noted; and a play against a memory whose lines they are.
-use Rattle.std.proofs.Common.{◌≡◌, ◌+◌, ◌++◌, ℕ, List, [], ◌∷◌, refl, sym, ap, ◌∙◌, subst, append-nil, append_assoc}
+use Rattle.std.proofs.Common.{◌≡◌, ◌+◌, ◌++◌, ℕ, [], ◌∷◌, refl, sym, ap, ◌∙◌, subst, append-nil, append_assoc}
 use Rattle.request_plan.specs.Plan.{Done, Ask, Ends}
 use Rattle.request_plan.specs.Play.{play}
 use Rattle.asc_base.specs.declared.block.Line.{Line}

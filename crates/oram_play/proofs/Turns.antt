@@ -78,6 +78,7 @@ module _ (keys : Keys) (levels : ℕ) (config : Config) (numbers : Numbers) wher
         → AreLinesIn (lines_appended lines message) takes.accesses
         → bare (play (memory cycles) other lines).records
         ≡ appended_shown message ++ flat_map answered_shown takes.accesses
+    pub same : t.clock.config ≡ config
     -- they are, where the answers are
     pub found : (lines : ℕ → Line) → AreAnswersIn lines answers
         → AreLinesIn (lines_appended lines message) takes.accesses
@@ -160,6 +161,7 @@ module _ (keys : Keys) (levels : ℕ) (config : Config) (numbers : Numbers) wher
               more.takes.taken;
         };
         shows = shows;
+        same = more.same;
         found = λ lines are.
             (are.0, more.found (put_back lines access.address.0 access.purpose) are.1);
       }
@@ -194,6 +196,7 @@ module _ (keys : Keys) (levels : ℕ) (config : Config) (numbers : Numbers) wher
     none = λ same. absurd (not_both behind is same);
     takes = more.takes;
     shows = shows;
+    same = more.same;
     found = λ lines are.
         let after : ℕ → Line = put_line lines message.address.0 message.line in
         subst (λ m. AreLinesIn (lines_appended after m) more.takes.accesses) (more.none refl) (more.found after are.1);
@@ -223,6 +226,7 @@ module _ (keys : Keys) (levels : ℕ) (config : Config) (numbers : Numbers) wher
       → Adds R (Ask (Answer line value) left k) behind asked end ((Answer line value, seen) ∷ answers) slots_with pace t
   adds_answer {A} R behind asked end line value left k seen answers slots_with pace t more = record {
     message = None;
+    same = more.same;
     found = λ lines are.
         subst (λ m. AreLinesIn (lines_appended lines m) more.takes.accesses) (more.none refl) (more.found lines are.1);
     none = λ same. refl;
@@ -245,6 +249,7 @@ module _ (keys : Keys) (levels : ℕ) (config : Config) (numbers : Numbers) wher
       (pace : Pace) (t : PortState) → Adds R (k seen) behind asked end answers slots_with pace t
       → Adds R (Ask Room left k) behind asked end answers slots_with pace t
   adds_room {A} R behind asked end left k seen answers slots_with pace t more = record {
+    same = more.same;
     found = more.found;
     message = more.message;
     none = more.none;
@@ -310,6 +315,7 @@ module _ (keys : Keys) (levels : ℕ) (config : Config) (numbers : Numbers) wher
       message = None;
       none = λ same. refl;
       shows = λ cycles other lines h are. done_shows R a cycles other lines h;
+      same = ap (λ (u : PortState). u.clock.config) ends.1 ∙ r.same;
       found = λ lines are. tt;
       takes = record {
         accesses = [];
@@ -411,6 +417,7 @@ answered keys levels notes numbers asked end line put R P plan outcome slots pac
             (subst (λ m. AreLinesIn (lines_appended lines m) adds.takes.accesses) (sym (adds.none refl)) are)
             ∙ ap (λ m. appended_shown m ++ flat_map answered_shown adds.takes.accesses) (adds.none refl))
             ∙ (over lines chip below shown).0);
+        config = adds.same;
         answers = answers;
         run = noted keys levels plan old.port new.port [] (new.front, outcome) ends;
         found = λ lines are.

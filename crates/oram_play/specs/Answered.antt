@@ -1,5 +1,5 @@
 -- What an answered request for a line comes to: the slots that it takes, and its answers as they can be noted.
-use Rattle.std.specs.Prelude.{◌<◌, ℕ, List, []}
+use Rattle.std.specs.Prelude.{◌≡◌, ◌<◌, ℕ, List, []}
 use Rattle.request_plan.specs.Plan.{Ends}
 use Rattle.asc_base.specs.declared.block.Line.{Line}
 use Rattle.oram_contents.specs.Entries.{Keys}
@@ -21,6 +21,7 @@ pub record IsAnswered {A : Type 0} (keys : Keys) (levels : ℕ) (numbers : Numbe
   -- it took slots access by access, which show the walk
   pub takes : TakesInTurn old.port.clock.config numbers asked end slots pace new.port
   pub walks : ShowsWalk old.front line put takes.accesses
+  pub config : new.port.clock.config ≡ old.port.clock.config
   -- the run of its plan, with each answer noted
   pub answers : Answers
   pub run : Ends (Steps (NotedStep keys levels)) plan (record { port = old.port; answers = [] })

@@ -1,15 +1,16 @@
 //! Laws of the slots that an encrypted memory takes. The functions do nothing: each states laws in its contract.
 
-ghost use Rattle.std.specs.Prelude.{◌≡◌, ◌<◌, ◌+◌, ℕ, List, [], ◌∷◌, ◌++◌, Option, None, Some, Ok, max};
+ghost use Rattle.std.specs.Prelude.{◌≡◌, ◌<◌, ◌≤◌, ◌+◌, ◌⊎◌, ℕ, List, [], ◌∷◌, ◌++◌, Option, None, Some, Ok, max};
 ghost use Rattle.std.specs.Option.{option_map};
-ghost use Rattle.asc_base.specs.Shape.{IsShape};
+ghost use Rattle.asc_base.specs.Settings.{IsConfig};
 ghost use Rattle.asc_base.specs.TreeShape.{olat_of};
 ghost use Rattle.asc_base.specs.declared.block.Line.{Line};
 ghost use Rattle.asc_base.specs.declared.block.Message.{Message};
 ghost use Rattle.asc_base.specs.declared.settings.Config.{Config};
 ghost use Rattle.bus_schedule.specs.Timetable.{public_of};
 ghost use Rattle.data_cache.specs.Lines.{LineRequest};
-ghost use Rattle.oram_contents.specs.Entries.{Keys};
+ghost use Rattle.oram_contents.specs.Entries.{Keys, AreKeys};
+ghost use Rattle.oram_contents.specs.Forgery.{Forgery};
 ghost use Rattle.oram_contents.specs.Starts.{empty_log};
 ghost use Rattle.oram_frontend.specs.Access.{SlotStep};
 ghost use Rattle.oram_frontend.specs.Oram.{OramState, OramStep, Told, Fetch, Store, Wait};
@@ -18,8 +19,10 @@ ghost use Rattle.oram_play.specs.Taken.{HasTaken, IsPaceOf, put_in, with_appende
 ghost use Rattle.oram_play.specs.Taken.{slots_taken};
 ghost use Rattle.oram_play.specs.InTurn.{AnsweredAccess, AreInTurn};
 ghost use Rattle.oram_play.specs.Answered.{IsAnswered};
+ghost use Rattle.oram_play.specs.Playing.{PlaysAs, called, IsTold};
 ghost use Rattle.oram_play.specs.Shown.{AreShownAs};
 ghost use Rattle.oram_play.specs.Walked.{AreWalked, put_for, taken_in_turn};
+ghost use Rattle.oram_lines.specs.Lines.{IsNew, IsRequest};
 ghost use Rattle.oram_lines.specs.Noted.{AreAnswersIn};
 ghost use Rattle.oram_walk.specs.Plans.{fetch_plan, store_plan};
 ghost use Rattle.oram_walk.specs.Shows.{Shows};
@@ -29,7 +32,7 @@ ghost use Rattle.oram_walk.specs.declared.slots.Purpose.TheVariants.{Keep, Repla
 ghost use Rattle.oram_walk.specs.declared.slots.Seen.{Seen};
 ghost use Rattle.posmap_lookaside.specs.Walk.{OnChip, IsHeldList, WalkAccess, walk};
 ghost use Rattle.rate_enforcer.specs.PortStep.{PortState, Resting};
-ghost use Rattle.run_play.specs.Requests.{StoredLines, data_line};
+ghost use Rattle.run_play.specs.Requests.{StoredLines, data_line, standing_at_start};
 ghost use Rattle.run_play.specs.Requests.{Standing, Taken, access_slot, one_by_one, put_back, message_of};
 ghost use Rattle.run_play.specs.Requests.{request_slots, request_done, requested, value_of, walk_sizes};
 ghost use Rattle.run_play.specs.Slots.{Pace, Numbers, Slot, first_pace, passed};
@@ -113,7 +116,7 @@ pub fn accesses_take_asked_slots()
 /// the walk's: what each puts back and what is appended behind it is what the play puts back and appends.
 pub fn shown_accesses_are_walked()
     ensures { (config : Config) (stored : StoredLines) (lines : ℕ → Line) (chip : OnChip) (request : LineRequest)
-        (accesses : List AnsweredAccess) → IsShape config.shape → IsHeldList (walk_sizes config) chip.held
+        (accesses : List AnsweredAccess) → 1 ≤ config.shape.layers → IsHeldList (walk_sizes config) chip.held
         → requested request < config.shape.lines
         → ((a : ℕ) → a < config.shape.lines → (lines a).0 ≡ data_line stored a)
         → AreShownAs (walk_sizes config) lines (put_for request)
@@ -141,4 +144,28 @@ pub fn walked_accesses_take_play_slots()
           standing = request_done request (record taken.standing { chip = walked.chip });
         } in
         request_slots config now request ≡ answered }
+{}
+
+/// An encrypted memory that stands where a play stands stands where the play stands after each request that it answers,
+/// or its log shows a forgery: it took the slots of the play's request, the time that is told is the play's clock, and a
+/// fetch tells the line as last stored. So it is from the start, with no slot, and where it waits, with the dummies that
+/// pass.
+pub fn requests_stand_as_plays()
+    ensures start { (keys : Keys) → AreKeys keys → (levels : ℕ) (config : Config) (o : OramState) → IsConfig config
+        → IsNew keys config levels o → o.port.clock.config ≡ config
+        → PlaysAs keys levels config [] (standing_at_start config) o }
+    ensures request { (keys : Keys) → AreKeys keys → (levels : ℕ) (config : Config) (slots : List Slot)
+        (now : Standing) (request : LineRequest) (told : Told) (old new : OramState)
+        → PlaysAs keys levels config slots now old → IsRequest config.shape.lines (called now.clock request)
+        → OramStep keys levels old (called now.clock request) (Ok told) new
+        → Forgery keys new.port.tap.log
+        ⊎ (let taken = request_slots config now request in
+        PlaysAs keys levels config (slots ++ taken.slots) (taken.standing) new
+        × (told.end ≡ taken.standing.clock) × IsTold now request told.line) }
+    ensures wait { (keys : Keys) → AreKeys keys → (levels : ℕ) (config : Config) (slots : List Slot) (now : Standing)
+        (time : ℕ) (told : Told) (old new : OramState) → PlaysAs keys levels config slots now old
+        → OramStep keys levels old (Wait time) (Ok told) new
+        → let more = passed (public_of config) now.numbers time now.pace in
+        PlaysAs keys levels config (slots ++ more.slots) (record now { pace = more.pace }) new
+        × (told.end ≡ max time more.pace.heard.ended) }
 {}
