@@ -9,3 +9,8 @@ pub mod Turns
 pub mod PlayTurns
 pub mod Alike
 pub mod Pairs
+pub mod Cuts
+pub mod CutSlots
+pub mod CutSteps
+pub mod PairsTo
+pub mod StopTurns

@@ -3,3 +3,5 @@ pub mod InTurn
 pub mod Walked
 pub mod Shown
 pub mod Playing
+pub mod Stopped
+pub mod StopsInTurn
