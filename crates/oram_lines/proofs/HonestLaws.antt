@@ -48,7 +48,7 @@ module _ (keys : Keys) (lawful : AreKeys keys) (levels : ℕ) where
       let bad : ◌≡◌ {A = Option Stop} None (Some (Integrity evidence)) =
       sym (x.stands.rests.2).going ∙ before.0 in cc
   call_blameless lines old new (Wait time) evidence x below serves (inr (stops, is, inr stop)) none =
-      idle_clear keys lawful levels x.ghost old.port new.port evidence x.stands.known none stop
+      idle_clear keys lawful levels x.ghost old.port new.port time evidence x.stands.known none stop
 
   -- nor one behind others
   pub calls_blameless : (lines : Lines) (old mid new : OramState) (calls : Calls) (request : OramRequest)

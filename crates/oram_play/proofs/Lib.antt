@@ -13,3 +13,8 @@ pub mod Notes
 pub mod Inside
 pub mod Found
 pub mod Stands
+pub mod Cuts
+pub mod CutSlots
+pub mod CutSteps
+pub mod PairsTo
+pub mod StopTurns

@@ -14,7 +14,7 @@ use Rattle.oram_play.specs.Shown.{appended_shown, answered_shown, AreShownAs}
 
 module _ (sizes : WalkSizes) (lines : ℕ → Line) (put : Purpose) where
   -- what is displaced in a walk
-  abbrev last_shown : Counters → Option ℕ → List Shown
+  abbrev pub last_shown : Counters → Option ℕ → List Shown
   last_shown counters displaced =
       option_map_or (λ last. displaced_by sizes (counter_at counters) last ∷ []) displaced []
 

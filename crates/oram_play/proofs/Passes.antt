@@ -126,11 +126,11 @@ module _ (p : Public) (some : 0 < count_of p) (numbers : Numbers) where
       (append_assoc slots (dummies_after k pace) (dummy_next p (waited k pace) numbers ∷ [])) more
 
   -- the same from the first one on
-  waited-first : (k : ℕ) (pace : Pace) → waited (suc k) pace ≡ waited k (pace_after p pace None)
+  pub waited-first : (k : ℕ) (pace : Pace) → waited (suc k) pace ≡ waited k (pace_after p pace None)
   waited-first zero pace = refl
   waited-first (suc k) pace = ap (λ (next : Pace). pace_after p next None) (waited-first k pace)
 
-  dummies-first : (k : ℕ) (pace : Pace)
+  pub dummies-first : (k : ℕ) (pace : Pace)
       → dummies_after (suc k) pace ≡ dummy_next p pace numbers ∷ dummies_after k (pace_after p pace None)
   dummies-first zero pace = refl
   dummies-first (suc k) pace =

@@ -84,7 +84,7 @@ module _ (keys : Keys) (levels : ℕ) (config : Config) (numbers : Numbers) wher
         → AreLinesIn (lines_appended lines message) takes.accesses
 
   -- a port that has just taken an access's slot
-  abbrev slot_with : Pace → Access → Line → List Slot → Option Message → List Slot
+  abbrev pub slot_with : Pace → Access → Line → List Slot → Option Message → List Slot
   slot_with pace access line slots message = slots ++ (asked_slots config numbers pace access line message).slots
 
   slot_last : (pace : Pace) (access : Access) (line : Line) (slots : List Slot)
@@ -101,13 +101,13 @@ module _ (keys : Keys) (levels : ℕ) (config : Config) (numbers : Numbers) wher
       }
 
   -- what an access takes, in these settings
-  record IsTaken (pace : Pace) (access : Access) (seen : Seen) (slots : List Slot) (t : PortState) : Type 0 where
+  pub record IsTaken (pace : Pace) (access : Access) (seen : Seen) (slots : List Slot) (t : PortState) : Type 0 where
     pub has : HasTaken t (slot_with pace access seen.line slots None)
         (asked_slots config numbers pace access seen.line None).pace
     pub early : asked_start config numbers pace access < config.time
     pub end : seen.end ≡ asked_start config numbers pace access + olat_of config.shape.levels
 
-  slot_taken : (access : Access) (seen : Seen) (s t : PortState) (slots : List Slot) (pace : Pace) (notes : ℕ)
+  pub slot_taken : (access : Access) (seen : Seen) (s t : PortState) (slots : List Slot) (pace : Pace) (notes : ℕ)
       → FitKeys keys s → Resting notes levels s → s.clock.config ≡ config → HasTaken s slots pace
       → SlotStep keys levels s (AccessSlot access) (Ok seen) t → IsTaken pace access seen slots t
   slot_taken access seen s t slots pace notes fits rests same had step =
@@ -119,7 +119,7 @@ module _ (keys : Keys) (levels : ℕ) (config : Config) (numbers : Numbers) wher
       × (seen.end ≡ asked_start c numbers pace access + olat_of c.shape.levels)) same taken in
       record { has = all.0; early = all.1; end = all.2 }
 
-  ready_slot : (behind : Bool) (access : Access) (seen : Seen) (s t : PortState)
+  pub ready_slot : (behind : Bool) (access : Access) (seen : Seen) (s t : PortState)
       (slots_with : Option Message → List Slot) (pace : Pace) → Ready behind slots_with pace s
       → SlotStep keys levels s (AccessSlot access) (Ok seen) t
       → Ready true (slot_with pace access seen.line (slots_with None))
@@ -272,13 +272,13 @@ module _ (keys : Keys) (levels : ℕ) (config : Config) (numbers : Numbers) wher
   done_shows R a cycles (Ask r c l) lines h = absurd h
 
   -- room for a note
-  behind_rests : (behind : Bool) (s : PortState) (slots_with : Option Message → List Slot) (pace : Pace)
+  pub behind_rests : (behind : Bool) (s : PortState) (slots_with : Option Message → List Slot) (pace : Pace)
       → behind ≡ true → Ready behind slots_with pace s → Resting 1 levels s
   behind_rests true s slots_with pace is r = rests_less 1 r.enough r.rests
   behind_rests false s slots_with pace is r = absurd cc
 
   -- behind a note nothing is appended
-  ready_noted : (slots_with : Option Message → List Slot) (slots : List Slot) (pace : Pace) (s t : PortState)
+  pub ready_noted : (slots_with : Option Message → List Slot) (slots : List Slot) (pace : Pace) (s t : PortState)
       → s.clock.config ≡ config → Keeps keys levels 0 s t → HasTaken t slots pace → Ready false (λ _. slots) pace t
   ready_noted slots_with slots pace s t same keeps has = record {
     fits = keeps.fits;
@@ -290,7 +290,7 @@ module _ (keys : Keys) (levels : ℕ) (config : Config) (numbers : Numbers) wher
     last = λ is. absurd cc;
   }
 
-  append_has : (message : Message) (seen : Seen) (s t : PortState) (slots_with : Option Message → List Slot)
+  pub append_has : (message : Message) (seen : Seen) (s t : PortState) (slots_with : Option Message → List Slot)
       (pace : Pace) → FitKeys keys s → Resting 1 levels s → HasTaken s (slots_with None) pace → HasLast slots_with
       → SlotStep keys levels s (Append message) (Ok seen) t → HasTaken t (slots_with (Some message)) pace
   append_has message seen s t slots_with pace fits rests had last step =
@@ -371,7 +371,7 @@ module _ (keys : Keys) (levels : ℕ) (config : Config) (numbers : Numbers) wher
       )
 
 -- ---- a fetch and a store
-ready_first : (keys : Keys) (levels notes : ℕ) (s : PortState) (slots : List Slot) (pace : Pace) (numbers : Numbers)
+pub ready_first : (keys : Keys) (levels notes : ℕ) (s : PortState) (slots : List Slot) (pace : Pace) (numbers : Numbers)
     → FitKeys keys s → Resting notes levels s → HasTaken s slots pace
     → Ready keys levels s.clock.config numbers false (λ _. slots) pace s
 ready_first keys levels notes s slots pace numbers fits rests had = record {

@@ -4,3 +4,5 @@ pub mod Walked
 pub mod Shown
 pub mod Answered
 pub mod Playing
+pub mod Stopped
+pub mod StopsInTurn

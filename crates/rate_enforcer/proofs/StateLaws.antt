@@ -21,6 +21,9 @@ use Rattle.bus_watch.specs.Log.{LogLists, TapState, with_event}
 use Rattle.bus_watch.specs.Made.{Made, Ran}
 use Rattle.bus_watch.specs.Path.{along, reads, reads_end, writes, writes_start, slot_moves}
 use Rattle.bus_watch.specs.Ready.{IsReady}
+use Rattle.bus_schedule.proofs.TimetableLaws.{length-starts}
+use Rattle.bus_schedule.specs.Scheduled.{log_code}
+use Rattle.bus_schedule.specs.Timetable.{public_of, end_at as last_end}
 use Rattle.bus_watch.specs.RunEnd.{RunEnd, Whole, MoveFailed, RanOut, end_at}
 use Rattle.epoch_learner.proofs.StandLaws.{stands_first, stands_begun, stands_passed, stands_chosen, stands_pace}
 use Rattle.epoch_learner.proofs.StandLaws.{reads_pace, writes_pace, stands_next, stands_apart, stands_from, inside_ran}
@@ -679,5 +682,9 @@ is_up {notes} {levels} {clock} {tree} {m} {t} clock' old asked r next last late 
   late = late;
   first = sym (stands_from (min asked clock.config.time) r.stands reached
       (started old asked clock.config.time clock.last (olat_of clock.config.shape.levels) past short r.in_time));
+  ended = last ∙ r.stands.last_is
+      ∙ ap (last_end (public_of clock.config) (log_code (public_of clock.config) t.log))
+      (sym (ap length r.stands.between.begun
+      ∙ length-starts (public_of clock.config) (log_code (public_of clock.config) t.log) r.done));
   pace = λ end after before. stands_pace end r.stands (omega (arith, after, last)) before;
 }

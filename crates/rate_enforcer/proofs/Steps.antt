@@ -1,6 +1,6 @@
 -- Calls of a port as steps, over plain states.
-use Rattle.std.proofs.Common.{◌≡◌, ◌+◌, ◌-◌, ◌*◌, ◌⊎◌, ℕ, List, [], ◌∷◌, Option, Some, refl, sym, subst}
-use Rattle.std.proofs.Common.{arith, append-nil}
+use Rattle.std.proofs.Common.{◌≡◌, ◌<◌, ◌+◌, ◌-◌, ◌*◌, ◌⊎◌, ℕ, List, [], ◌∷◌, Option, Some, refl, sym, subst}
+use Rattle.std.proofs.Common.{arith, append-nil, min}
 use Rattle.asc_base.specs.declared.block.Point.{Point}
 use Rattle.asc_base.specs.declared.stop.Stop.{Stop}
 use Rattle.asc_base.specs.declared.stop.Stop.TheVariants.{Integrity, StashFull, TimeUp, Device, NoMemory}
@@ -81,10 +81,10 @@ asked_stops old mid new tags leaf_of stop start start' first number asked point 
 -- a stop but for want of time
 pub open_breaks : (leaf_of : Point → ℕ) (levels asked : ℕ) (point : Point) (stop : Stop) (old new : PortState)
     (tags : List ℕ) → ((at : ℕ) → stop ≡ TimeUp at → ⊥)
-    → PassesStop (port_keys leaf_of levels old tags) old.tree.stash stop old.tap.log new.tap.log (contents old)
-    (contents new) new.clock.next old.clock.dummies
-    ⊎ AskedStops (port_keys leaf_of levels old tags) stop old.tap.log new.tap.log (contents old) (contents new)
-    new.clock.next old.clock.dummies asked point
+    → (PassesStop (port_keys leaf_of levels old tags) old.tree.stash stop old.tap.log new.tap.log (contents old)
+    (contents new) new.clock.next old.clock.dummies × (new.clock.next < min asked old.clock.config.time))
+    ⊎ (AskedStops (port_keys leaf_of levels old tags) stop old.tap.log new.tap.log (contents old) (contents new)
+    new.clock.next old.clock.dummies asked point × (new.clock.next < old.clock.config.time))
     → OpenBreaks leaf_of levels asked point stop old new tags
 open_breaks leaf_of levels asked point (Integrity evidence) old new tags never b = b
 open_breaks leaf_of levels asked point (StashFull held) old new tags never b = b

@@ -1,5 +1,6 @@
 -- All calls of a port as steps of one relation, between what stands before a call and what stands after it.
-use Rattle.std.specs.Prelude.{◌≡◌, ◌<◌, ◌≤◌, ◌+◌, ◌-◌, ◌++◌, ◌⊎◌, ℕ, max, List, [], ◌∷◌, Option, None, Some}
+use Rattle.std.specs.Prelude.{◌≡◌, ◌<◌, ◌≤◌, ◌+◌, ◌-◌, ◌++◌, ◌⊎◌, ℕ, min, max, List, [], ◌∷◌, Option, None}
+use Rattle.std.specs.Prelude.{Some}
 use Rattle.std.specs.Prelude.{Result, Ok, Err}
 use Rattle.asc_base.specs.TreeShape.{olat_of}
 use Rattle.asc_base.specs.declared.block.Address.{Address}
@@ -139,17 +140,19 @@ module _ (leaf_of : Point → ℕ) (levels : ℕ) where
     pub real : new.clock.real ≡ old.clock.real + 1
     pub counts : KeepsCount old new
 
-  -- The log and the contents of a stop in `Open`: in a dummy before the slot, in the slot, or where no slot is left.
+  -- The log and the contents of a stop in `Open`: in a dummy before the slot, which starts before the time asked and
+  -- that of the settings, in the slot, or where no slot is left.
   abbrev pub OpenBreaks : ℕ → Point → Stop → PortState → PortState → List ℕ → Type 0
   OpenBreaks asked point (TimeUp at) old new tags =
       IsUp old.clock.config at asked new.clock new.tap.log
       × ArePasses (port_keys old tags) (new.clock.dummies - old.clock.dummies) old.tap.log new.tap.log
       (contents old) (contents new) old.clock.dummies
+      × (old.clock.dummies ≤ new.clock.dummies)
   OpenBreaks asked point stop old new tags =
-      PassesStop (port_keys old tags) old.tree.stash stop old.tap.log new.tap.log (contents old) (contents new)
-      new.clock.next old.clock.dummies
-      ⊎ AskedStops (port_keys old tags) stop old.tap.log new.tap.log (contents old) (contents new)
-      new.clock.next old.clock.dummies asked point
+      (PassesStop (port_keys old tags) old.tree.stash stop old.tap.log new.tap.log (contents old) (contents new)
+      new.clock.next old.clock.dummies × (new.clock.next < min asked old.clock.config.time))
+      ⊎ (AskedStops (port_keys old tags) stop old.tap.log new.tap.log (contents old) (contents new)
+      new.clock.next old.clock.dummies asked point × (new.clock.next < old.clock.config.time))
 
   -- It stops there, and every later call answers the same stop.
   pub record OpenStopped (asked : ℕ) (point : Point) (stop : Stop) (old new : PortState) : Type 0 where
@@ -185,6 +188,7 @@ module _ (leaf_of : Point → ℕ) (levels : ℕ) where
     pub is_end : IsEndOf stop end
     pub used : Used end old new
     pub stopped : Stopped old.clock.config new.clock stop new.tap.log
+    pub next : new.clock.next ≡ old.clock.next
     pub dummies : new.clock.dummies ≡ old.clock.dummies
     pub real : new.clock.real ≡ old.clock.real
     pub counts : KeepsCount old new
@@ -267,8 +271,10 @@ module _ (leaf_of : Point → ℕ) (levels : ℕ) where
         old.tap.log new.tap.log (contents old) (contents new) old.clock.dummies
     pub pace : KeepsPace old.clock.config end new.tap.log
 
-  pub record IdleStopped (stop : Stop) (old new : PortState) : Type 0 where
+  -- One of them stops, which starts before the time.
+  pub record IdleStopped (time : ℕ) (stop : Stop) (old new : PortState) : Type 0 where
     pub going : old.clock.stop ≡ None
+    pub early : new.clock.next < time
     pub same : IsSamePort old new
     pub end : RunEnd
     pub is_end : IsEndOf stop end
@@ -296,4 +302,4 @@ module _ (leaf_of : Point → ℕ) (levels : ℕ) where
   PortStep old (Join entry) (Ok said) new = (said ≡ silent) × HasJoined entry old new
   PortStep old (Join entry) (Err stop) new = HadStopped stop old new ⊎ JoinStopped entry stop old new
   PortStep old (Idle time) (Ok said) new = (said ≡ told said.end) × HasIdled time said.end old new
-  PortStep old (Idle time) (Err stop) new = HadStopped stop old new ⊎ IdleStopped stop old new
+  PortStep old (Idle time) (Err stop) new = HadStopped stop old new ⊎ IdleStopped time stop old new

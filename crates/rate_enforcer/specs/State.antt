@@ -6,7 +6,8 @@ use Rattle.asc_base.specs.declared.settings.Config.{Config}
 use Rattle.asc_base.specs.declared.stop.Stop.{Stop}
 use Rattle.asc_outside.specs.Memory.{MemoryState}
 use Rattle.bus_schedule.specs.Scheduled.{log_code}
-use Rattle.bus_schedule.specs.Timetable.{public_of, first_from}
+use Rattle.bus_schedule.specs.Shown.{starts_of}
+use Rattle.bus_schedule.specs.Timetable.{public_of, end_at, first_from}
 use Rattle.bus_watch.specs.Log.{TapState, LogLists}
 use Rattle.bus_watch.specs.Path.{reads}
 use Rattle.bus_watch.specs.Ready.{IsReady}
@@ -80,10 +81,11 @@ pub record Stopped (config : Config) (clock : Clock) (stop : Stop) (log : LogLis
   pub in_time : clock.last < config.time + olat_of config.shape.levels
 
 -- No slot is left: the first that starts at or after the smaller of the time asked and the time of the settings would
--- start at this one, which isn't before that of the settings. The log keeps the pace up to each time from the last end
--- to this one.
+-- start at this one, which isn't before that of the settings. The last end is that of the slots that started, 0 before
+-- the first. The log keeps the pace up to each time from the last end to this one.
 pub record IsUp (config : Config) (at asked : ℕ) (clock : Clock) (log : LogLists) : Type 0 where
   pub next : at ≡ clock.next
   pub late : config.time ≤ at
   pub first : at ≡ first_from (public_of config) (log_code (public_of config) log) (min asked config.time)
+  pub ended : clock.last ≡ end_at (public_of config) (log_code (public_of config) log) (length (starts_of log.events))
   pub pace : (end : ℕ) → clock.last ≤ end → end ≤ at → KeepsPace config end log

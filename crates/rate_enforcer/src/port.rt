@@ -328,6 +328,7 @@ impl<L: LeafFn> Port<L> {
         ensures more { OnOk result (self.old.clock.dummies ≤ self.new.clock.dummies) }
         ensures real { self.new.clock.real ≡ self.old.clock.real }
         ensures reached { OnOk result (time ≤ self.new.clock.next) }
+        ensures early { OnErr result (self.new.clock.next < time) }
         ensures last { OnOk result (self.new.clock.last
             < max self.old.clock.last time + olat_of self.old.clock.config.shape.levels) }
         ensures ran { OnOk result (RanTo M.state W.state Whole bus.old bus.new) }

@@ -136,15 +136,15 @@ module _ (leaf_of : Point → ℕ) (levels : ℕ) where
 
   open_quiet : (asked : ℕ) (point : Point) (stop : Stop) (old new : PortState)
       → OpenBreaks leaf_of levels asked point stop old new [] → answered new.tap.log ≡ answered old.tap.log
-  open_quiet asked point (Integrity evidence) old new (inl h) = stop_quiet _ _ _ _ _ _ _ _ _ h
-  open_quiet asked point (Integrity evidence) old new (inr h) = asked_quiet _ _ _ _ _ _ _ _ _ _ h
-  open_quiet asked point (StashFull held) old new (inl h) = stop_quiet _ _ _ _ _ _ _ _ _ h
-  open_quiet asked point (StashFull held) old new (inr h) = asked_quiet _ _ _ _ _ _ _ _ _ _ h
+  open_quiet asked point (Integrity evidence) old new (inl h) = stop_quiet _ _ _ _ _ _ _ _ _ h.0
+  open_quiet asked point (Integrity evidence) old new (inr h) = asked_quiet _ _ _ _ _ _ _ _ _ _ h.0
+  open_quiet asked point (StashFull held) old new (inl h) = stop_quiet _ _ _ _ _ _ _ _ _ h.0
+  open_quiet asked point (StashFull held) old new (inr h) = asked_quiet _ _ _ _ _ _ _ _ _ _ h.0
   open_quiet asked point (TimeUp at) old new h = passes_quiet _ _ _ _ _ _ _ h.1
-  open_quiet asked point Device old new (inl h) = stop_quiet _ _ _ _ _ _ _ _ _ h
-  open_quiet asked point Device old new (inr h) = asked_quiet _ _ _ _ _ _ _ _ _ _ h
-  open_quiet asked point NoMemory old new (inl h) = stop_quiet _ _ _ _ _ _ _ _ _ h
-  open_quiet asked point NoMemory old new (inr h) = asked_quiet _ _ _ _ _ _ _ _ _ _ h
+  open_quiet asked point Device old new (inl h) = stop_quiet _ _ _ _ _ _ _ _ _ h.0
+  open_quiet asked point Device old new (inr h) = asked_quiet _ _ _ _ _ _ _ _ _ _ h.0
+  open_quiet asked point NoMemory old new (inl h) = stop_quiet _ _ _ _ _ _ _ _ _ h.0
+  open_quiet asked point NoMemory old new (inr h) = asked_quiet _ _ _ _ _ _ _ _ _ _ h.0
 
   port_stop : (old : PortState) (request : PortRequest) (stop : Stop) (new : PortState)
       → PortStep leaf_of levels old request (Err stop) new → answered new.tap.log ≡ answered old.tap.log

@@ -60,7 +60,7 @@ module _ (keys : Keys) (levels : ℕ) (old new : OramState) (fits : FitKeys keys
     oram_breaks (Wait time) stop (inr (stopped, front, inl had)) =
         let going = serving.serves.rests.going in absurd cc
     oram_breaks (Wait time) stop (inr (stopped, front, inr idle)) =
-        idle_breaks keys.leaf_of levels stop old.port new.port idle
+        idle_breaks keys.leaf_of levels time stop old.port new.port idle
 
     -- a wait doesn't want time
     pub wait_in_time : (time at : ℕ) → OramStep keys levels old (Wait time) (Err (TimeUp at)) new → ⊥

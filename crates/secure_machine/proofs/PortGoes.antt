@@ -185,7 +185,7 @@ module _ (leaf_of : Point → ℕ) (levels : ℕ) where
   open_pace asked point (Integrity evidence) old new h = h.stopped.pace
   open_pace asked point (StashFull held) old new h = h.stopped.pace
   open_pace asked point (TimeUp at) old new h =
-      let (up, passed) = h.breaks [] in
+      let (up, passed, more) = h.breaks [] in
       let (next, rate) = h.stopped.ends in
       (up.late, omega (arith, next, rate), up.pace)
   open_pace asked point Device old new h = h.stopped.pace
@@ -225,26 +225,26 @@ module _ (leaf_of : Point → ℕ) (levels : ℕ) where
     asked = made_asked h.used.made;
   }
 
-  idle_pace : (stop : Stop) (old new : PortState) → IdleStopped leaf_of levels stop old new
+  idle_pace : (time : ℕ) (stop : Stop) (old new : PortState) → IdleStopped leaf_of levels time stop old new
       → PaceAt old.clock.config stop new
-  idle_pace (Integrity evidence) old new h = h.stopped.pace
-  idle_pace (StashFull held) old new h = h.stopped.pace
-  idle_pace (TimeUp at) old new h = elim ((h.breaks []).stops) [
+  idle_pace time (Integrity evidence) old new h = h.stopped.pace
+  idle_pace time (StashFull held) old new h = h.stopped.pace
+  idle_pace time (TimeUp at) old new h = elim ((h.breaks []).stops) [
     | inl reads ↦ absurd reads
     | inr writes ↦ absurd (writes.writes)
   ]
-  idle_pace Device old new h = h.stopped.pace
-  idle_pace NoMemory old new h = h.stopped.pace
+  idle_pace time Device old new h = h.stopped.pace
+  idle_pace time NoMemory old new h = h.stopped.pace
 
-  pub idle_breaks : (stop : Stop) (old new : PortState) → IdleStopped leaf_of levels stop old new
+  pub idle_breaks : (time : ℕ) (stop : Stop) (old new : PortState) → IdleStopped leaf_of levels time stop old new
       → Breaks stop old new
-  idle_breaks stop old new h = record {
+  idle_breaks time stop old new h = record {
     config = h.same.config;
     counts = h.counts;
     tied = stop_tied stop h.end h.is_end h.used;
     later = h.used.made.later;
     cause = stop_cause stop h.end h.is_end h.used;
-    pace = idle_pace stop old new h;
+    pace = idle_pace time stop old new h;
     unaltered = h.used.made.honest.unaltered;
     asked = made_asked h.used.made;
   }

@@ -229,6 +229,7 @@ returns-in-Err-clause-step g c =
       used = used_so g.M.UntrustedMemory.state g.W.Watch.state c.args.bus.now c.write_path.new.bus
           c.args.self.now.clock c.stop_at.new.self.clock c.args.self.now.tree c.stop_at.new.self.tree ran.ran;
       stopped = returns-in-Err-clause-stopped g c;
+      next = ap (λ (x : Clock). x.next) is;
       dummies = ap (λ (x : Clock). x.dummies) is;
       real = ap (λ (x : Clock). x.real) is;
       counts = returns-in-Err-clause-counts g c;

@@ -22,6 +22,7 @@ returns-in-Err-clause-step g c =
     let ran = c.in-Err.ensures.ran_err in
     inr (record {
       going = search rules;
+      early = c.in-Err.ensures.early;
       same = record { config = c.pass_until.ensures.config; tree = c.pass_until.ensures.kept };
       end = ran.end;
       is_end = ran.is_end;

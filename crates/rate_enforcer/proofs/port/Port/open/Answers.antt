@@ -152,7 +152,11 @@ returns-in-Err-clause-breaks g c none tags =
     (g.W.Watch.state c.args.bus.now.tap.now))
     (port_of c.pass_until.new.self.clock c.pass_until.new.self.tree
     (g.M.UntrustedMemory.state c.pass_until.new.bus.memory.now) (g.W.Watch.state c.pass_until.new.bus.tap.now)) tags
-    c.in-Err.ensures.never (inl (c.in-Err.ensures.breaks tags))
+    c.in-Err.ensures.never (inl (
+      c.in-Err.ensures.breaks tags,
+      let min_is : c.min-from.result ≡ min c.args.asked c.args.self.now.clock.config.time = grind arith in
+          subst (λ n. c.pass_until.new.self.clock.next < n) min_is c.in-Err.ensures.early,
+    ))
 
 pub returns-in-Err-clause-step : goal.returns-in-Err-clause-step
 returns-in-Err-clause-step g c =
@@ -171,8 +175,11 @@ returns-in-Err-clause-step g c =
     })
 
 pub returns-then-self-clause-breaks : goal.returns-then-self-clause-breaks
-returns-then-self-clause-breaks g c none tags =
-    (returns-then-self-clause-up g c none c.pass_until.new.self.clock.next refl, c.in-Ok.ensures.passed tags)
+returns-then-self-clause-breaks g c none tags = (
+  returns-then-self-clause-up g c none c.pass_until.new.self.clock.next refl,
+  c.in-Ok.ensures.passed tags,
+  c.in-Ok.ensures.more,
+)
 
 pub returns-then-self-clause-step : goal.returns-then-self-clause-step
 returns-then-self-clause-step g c =
@@ -208,10 +215,18 @@ returns-in-Err-begin-clause-breaks g c none tags =
     (port_of old.clock old.tree (m c.args.bus.now.memory.now) (t c.args.bus.now.tap.now))
     (port_of now.clock now.tree (m c.begin.new.bus.memory.now) (t c.begin.new.bus.tap.now)) tags
     c.in-Err-begin.ensures.never
-    (inr (asked_stops old.tree mid.tree now.tree tags (leaf_of old.leaves) c.in-Err-begin.stop mid.clock.next
-    now.clock.next old.clock.dummies mid.clock.dummies c.args.asked c.args.point (t c.args.bus.now.tap.now)
-    (t c.pass_until.new.bus.tap.now) (t c.begin.new.bus.tap.now) c.pass_until.ensures.kept c.begin.ensures.next
-    (c.in-Ok.ensures.passed tags) stops))
+    (inr (
+      asked_stops old.tree mid.tree now.tree tags (leaf_of old.leaves) c.in-Err-begin.stop mid.clock.next
+          now.clock.next old.clock.dummies mid.clock.dummies c.args.asked c.args.point (t c.args.bus.now.tap.now)
+          (t c.pass_until.new.bus.tap.now) (t c.begin.new.bus.tap.now) c.pass_until.ensures.kept c.begin.ensures.next
+          (c.in-Ok.ensures.passed tags) stops,
+      omega (
+        arith,
+        c.if-self.false,
+        c.begin.ensures.next,
+        ap (λ (x : Config). x.time) c.pass_until.ensures.config,
+      ),
+    ))
 
 pub returns-in-Err-begin-clause-step : goal.returns-in-Err-begin-clause-step
 returns-in-Err-begin-clause-step g c =

@@ -1,0 +1,55 @@
+//! Laws of what a stop leaves of the slots of a play. The functions do nothing: each states laws in its contract.
+
+ghost use Rattle.std.specs.Prelude.{◌≡◌, ◌+◌, ℕ, List, [], ◌∷◌, ◌++◌, None, Err};
+ghost use Rattle.asc_base.specs.declared.block.Line.{Line};
+ghost use Rattle.asc_base.specs.declared.block.Message.{Message};
+ghost use Rattle.asc_base.specs.declared.stop.Stop.{Stop};
+ghost use Rattle.oram_contents.specs.Entries.{Keys};
+ghost use Rattle.oram_frontend.specs.Access.{SlotStep};
+ghost use Rattle.oram_frontend.specs.Oram.{OramState, OramStep, Fetch, Store, Wait};
+ghost use Rattle.oram_frontend.specs.Slots.{FitKeys};
+ghost use Rattle.oram_play.specs.Stopped.{AccessLeaves, AppendLeaves, WaitLeaves};
+ghost use Rattle.oram_play.specs.StopsInTurn.{StopsInTurn, ShowsWalkTo};
+ghost use Rattle.oram_play.specs.Taken.{HasTaken};
+ghost use Rattle.oram_walk.specs.Request.{Slot as AccessSlot, Append};
+ghost use Rattle.oram_walk.specs.declared.slots.Access.{Access};
+ghost use Rattle.oram_walk.specs.declared.slots.Purpose.TheVariants.{Keep, Replace};
+ghost use Rattle.rate_enforcer.specs.PortStep.{PortState, Resting};
+ghost use Rattle.run_play.specs.Slots.{Pace, Numbers, Slot};
+
+/// An access that is stopped leaves a part of the slots that it would take: the log says the slots before the one that
+/// stopped and what was done of that one, and the port's last end is that of the stop; or, where no slot is left that
+/// starts before the time of the settings, all dummies before it. So does an append, behind the last slot, and a wait.
+pub fn stopped_accesses_are_cut()
+    ensures slot { (keys : Keys) (levels notes : ℕ) (access : Access) (stop : Stop) (old new : PortState)
+        (slots : List Slot) (pace : Pace) (numbers : Numbers) → FitKeys keys old → Resting notes levels old
+        → HasTaken old slots pace → SlotStep keys levels old (AccessSlot access) (Err stop) new
+        → AccessLeaves keys levels numbers slots pace access old stop new }
+    ensures append { (keys : Keys) (levels notes : ℕ) (message : Message) (stop : Stop) (old new : PortState)
+        (slots : List Slot) (slot : Slot) (pace : Pace) → Resting (notes + 1) levels old
+        → HasTaken old (slots ++ slot ∷ []) pace → slot.appended ≡ None
+        → SlotStep keys levels old (Append message) (Err stop) new
+        → AppendLeaves levels slots slot message stop new }
+    ensures wait { (keys : Keys) (levels notes time : ℕ) (stop : Stop) (old new : OramState) (slots : List Slot)
+        (pace : Pace) (numbers : Numbers) → FitKeys keys old.port → Resting notes levels old.port → old.stop ≡ None
+        → HasTaken old.port slots pace → OramStep keys levels old (Wait time) (Err stop) new
+        → WaitLeaves keys levels numbers slots pace time old.port stop new.port }
+{}
+
+/// A fetch or a store that is stopped took slots access by access up to there, as an answered one does: then an access
+/// was stopped, which is asked for at the end of the last answered one, or an append behind it, or room was wanting. If
+/// each answered access had the line of a memory that shows the counters, they are the first of the walk, and what was
+/// stopped is the next access of it, or the append behind the last one.
+pub fn stopped_requests_take_slots_in_turn()
+    ensures fetch { (keys : Keys) (levels notes asked line : ℕ) (stop : Stop) (old new : OramState)
+        (slots : List Slot) (pace : Pace) (numbers : Numbers) → FitKeys keys old.port → Resting notes levels old.port
+        → old.stop ≡ None → HasTaken old.port slots pace → OramStep keys levels old (Fetch asked line) (Err stop) new
+        → (stops : StopsInTurn keys levels old.port.clock.config numbers asked slots pace stop new.port)
+        × ShowsWalkTo old.front line Keep stops.accesses stops.next }
+    ensures store { (keys : Keys) (levels notes asked line : ℕ) (value : Line) (stop : Stop) (old new : OramState)
+        (slots : List Slot) (pace : Pace) (numbers : Numbers) → FitKeys keys old.port → Resting notes levels old.port
+        → old.stop ≡ None → HasTaken old.port slots pace
+        → OramStep keys levels old (Store asked line value) (Err stop) new
+        → (stops : StopsInTurn keys levels old.port.clock.config numbers asked slots pace stop new.port)
+        × ShowsWalkTo old.front line (Replace value) stops.accesses stops.next }
+{}
