@@ -32,7 +32,7 @@ pub record PlaysAs (keys : Keys) (levels : ℕ) (config : Config) (slots : List 
   pub stands : StandsFor keys levels 0 o.front ghost o.port
   pub calm : IsCalm ghost
   pub counted : IsCounted o.port.clock o.port.tap.log
-  pub data : (line : ℕ) → line < keys.shape.lines → ghost.data_lines line ≡ data_line now.data_lines line
+  pub stored : (line : ℕ) → line < keys.shape.lines → ghost.data_lines line ≡ data_line now.data_lines line
   pub lines : ℕ → Line
   pub outside : IsMemoryOf keys ghost lines
   pub shows : Shows o.front lines now.chip
