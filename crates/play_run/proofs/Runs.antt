@@ -1,6 +1,5 @@
 -- A run over a cache and an encrypted memory stands in a whole play from image line to image line and from instruction
--- to
--- instruction.
+-- to instruction.
 use Rattle.std.proofs.Common.{◌≡◌, ◌<◌, ◌≤◌, ◌*◌, ◌⊎◌, inl, inr, ℕ, suc, ◌+◌, min, List, [], ◌∷◌, ◌++◌, Option, Some}
 use Rattle.std.proofs.Common.{None, length}
 use Rattle.std.proofs.Common.{replicate, refl, sym, ap, ◌∙◌, subst, append_assoc, append-nil}

@@ -35,8 +35,7 @@ ghost use Rattle.rv32_core.specs.declared.outcome.Done.{Done};
 
 /// A plan of requests for lines that an encrypted memory answers takes the slots of the play of that plan, answers what
 /// the play does, and stands where it stands; and one that is stopped leaves of all these slots what the stop says.
-/// Else
-/// its log shows a forgery.
+/// Else its log shows a forgery.
 pub fn plans_take_slots<A, B>()
     ensures ends { (keys : Keys) (levels : ℕ) (config : Config) → AreKeys keys → RequestPlays keys levels config
         → (plan : Plan LineRequest (List ℕ) B A) (slots : List Slot) (now : Standing) (s t : TimedState) (outcome : A)
@@ -56,10 +55,8 @@ pub fn plans_take_slots<A, B>()
 
 /// A run that begins over an encrypted memory that stands where the play begins stands in the Play of its image and
 /// machine, from image line to image line: each is written whole into the cache, takes the slots of the play's line,
-/// and
-/// costs a cycle. Behind the last the run stands before its first instruction. A line that is stopped shows the Play
-/// cut
-/// by the stop, or its end where no time is left.
+/// and costs a cycle. Behind the last the run stands before its first instruction. A line that is stopped shows the
+/// Play cut by the stop, or its end where no time is left.
 pub fn image_lines_take_slots()
     ensures start { (keys : Keys) (levels : ℕ) (config : Config) (memory marked : List ℕ) (machine : Machine)
         (o : OramState) → 0 < config.sets → 0 < config.ways → length memory ≡ 64 * keys.shape.lines
@@ -92,8 +89,7 @@ pub fn image_lines_take_slots()
 /// instruction, and the core comes to its machine and ending: the run stands before the next one at the end of the
 /// cost,
 /// or ends with the exit or the trap. A request that is stopped shows the play cut by the stop, or its end where no
-/// time
-/// is left. Where no time or no instruction is left the run ends so.
+/// time is left. Where no time or no instruction is left the run ends so.
 pub fn instructions_stand_in_the_play()
     ensures ends { (keys : Keys) (levels : ℕ) (config : Config) → AreKeys keys → RequestPlays keys levels config
         → (machine : Machine) → IsCore machine.core → machine.core.size ≡ 64 * keys.shape.lines → (whole : Play)

@@ -9,7 +9,9 @@
 #![tactic(auto)]
 
 mod laws;
+mod rows;
 
 pub use laws::{
     ends_show_the_play, image_lines_take_slots, instructions_stand_in_the_play, plans_take_slots,
 };
+pub use rows::reports_have_rows;
