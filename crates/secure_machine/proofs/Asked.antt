@@ -6,7 +6,7 @@ use Rattle.epoch_learner.proofs.StandLaws.{stands_apart}
 use Rattle.oram_contents.specs.Entries.{Keys}
 use Rattle.oram_frontend.specs.Oram.{OramState, OramStep, CanServe, Fetch, Store}
 use Rattle.oram_frontend.specs.Slots.{FitKeys}
-use Rattle.secure_machine.specs.Timed.{TimedState, CanAsk}
+use Rattle.play_run.specs.Timed.{TimedState, CanAsk}
 use Rattle.secure_machine.proofs.OramGoes.{oram_goes, fetch_takes}
 
 abbrev ServesOf : ℕ → OramState → Type 0

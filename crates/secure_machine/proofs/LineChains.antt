@@ -19,7 +19,7 @@ use Rattle.secure_machine.specs.Finish.{HaltsBy, IsOwnEnding}
 use Rattle.secure_machine.specs.Goes.{Goes, Breaks}
 use Rattle.secure_machine.specs.Runs.{Onwards, BreaksOff, HaltsOver, Ready, port}
 use Rattle.secure_machine.specs.Same.{IsSameLines, timed_of, keys_in, oram_over}
-use Rattle.secure_machine.specs.Timed.{TimedState, TimedStep, CanAsk, answers_serve}
+use Rattle.play_run.specs.Timed.{TimedState, TimedStep, CanAsk, answers_serve}
 use Rattle.secure_machine.specs.declared.lines.TimedLines.{TimedLines}
 use Rattle.secure_machine.specs.declared.machine.Cause.{Cause}
 use Rattle.secure_machine.specs.declared.machine.Cause.TheVariants.{Ends as EndsBy, Stops as StopsBy}

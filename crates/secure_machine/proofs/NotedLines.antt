@@ -41,7 +41,7 @@ use Rattle.rate_enforcer.specs.Breaks.{ReadStops, DummyStops, PassesStop, AskedS
 use Rattle.rate_enforcer.specs.Counts.{is_answered}
 use Rattle.rate_enforcer.specs.PortStep.{PortState, PortStep, PortRequest, Open, Take, Note, Put, Close, Abort, Join}
 use Rattle.rate_enforcer.specs.PortStep.{Idle, Said, OpenBreaks}
-use Rattle.secure_machine.specs.Timed.{TimedState, TimedStep, KeepsNoted}
+use Rattle.play_run.specs.Timed.{TimedState, TimedStep, KeepsNoted}
 use Rattle.secure_machine.proofs.SlotGoes.{answer_breaks}
 
 abbrev answered : LogLists → ℕ

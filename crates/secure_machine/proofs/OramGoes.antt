@@ -15,7 +15,7 @@ use Rattle.oram_walk.specs.Request.{Steps, Answer}
 use Rattle.oram_walk.specs.declared.slots.Purpose.TheVariants.{Keep, Replace}
 use Rattle.rate_enforcer.specs.PortStep.{PortState, Idle}
 use Rattle.secure_machine.specs.Goes.{Goes, Breaks}
-use Rattle.secure_machine.specs.Timed.{Serving}
+use Rattle.play_run.specs.Timed.{Serving}
 use Rattle.secure_machine.proofs.PortGoes.{step_goes, plan_goes, idle_breaks}
 use Rattle.secure_machine.proofs.WalkGoes.{Any, Behind, Fits, fits_bind, request_fits, Walked, walked_none, walk_ends}
 use Rattle.secure_machine.proofs.WalkGoes.{walk_stops, behind_took}

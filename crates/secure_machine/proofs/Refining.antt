@@ -29,7 +29,7 @@ use Rattle.rv32_core.specs.Machine.{Machine, IsCore}
 use Rattle.rv32_core.specs.StepPlan.{step_plan}
 use Rattle.rv32_core.specs.declared.outcome.Done.{Done as Finished}
 use Rattle.secure_machine.specs.Refines.{IsForged, StandFor, Knows, IsUnblamed}
-use Rattle.secure_machine.specs.Timed.{Serving}
+use Rattle.play_run.specs.Timed.{Serving}
 use Rattle.secure_machine.specs.Runs.{Ready}
 use Rattle.secure_machine.specs.Same.{IsSameLines, timed_of, keys_in, oram_over}
 use Rattle.oram_frontend.specs.declared.oram.Oram.{Oram}

@@ -41,7 +41,7 @@ use Rattle.rate_enforcer.specs.declared.port.Port.{Port}
 use Rattle.secure_machine.specs.Goes.{AsksMoves}
 use Rattle.secure_machine.specs.LastMove.{EndsWithMove}
 use Rattle.secure_machine.specs.Run.{IsInBudget}
-use Rattle.secure_machine.specs.Timed.{Serving}
+use Rattle.play_run.specs.Timed.{Serving}
 use Rattle.secure_machine.proofs.LastMoves.{ends_with_move}
 
 -- a fact on an Err that holds anyway

@@ -8,7 +8,7 @@ use Rattle.epoch_learner.specs.Stands.{KeepsPace}
 use Rattle.oram_frontend.specs.Oram.{OramState}
 use Rattle.rate_enforcer.specs.PortStep.{PortState, KeepsCount}
 use Rattle.secure_machine.specs.Goes.{Goes, Breaks, Unaltered, Asks}
-use Rattle.secure_machine.specs.Timed.{Serving}
+use Rattle.play_run.specs.Timed.{Serving}
 use Rattle.secure_machine.specs.declared.machine.Cause.{Cause}
 use Rattle.secure_machine.specs.declared.machine.Cause.TheVariants.{Ends, Stops}
 use Rattle.secure_machine.specs.declared.machine.Halted.{Halted}

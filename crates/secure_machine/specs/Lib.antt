@@ -1,4 +1,3 @@
-pub mod Timed
 pub mod Goes
 pub mod Same
 pub mod Finish

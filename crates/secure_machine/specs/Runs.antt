@@ -7,7 +7,7 @@ use Rattle.rate_enforcer.specs.PortStep.{PortState}
 use Rattle.secure_machine.specs.Finish.{Halts}
 use Rattle.secure_machine.specs.Goes.{Goes, Breaks}
 use Rattle.secure_machine.specs.Same.{IsSameLines, timed_of}
-use Rattle.secure_machine.specs.Timed.{CanAsk, KeepsNoted}
+use Rattle.play_run.specs.Timed.{CanAsk, KeepsNoted}
 use Rattle.secure_machine.specs.declared.lines.TimedLines.{TimedLines}
 use Rattle.secure_machine.specs.declared.machine.Halted.{Halted}
 

@@ -8,7 +8,7 @@ use Rattle.oram_frontend.specs.Oram.{OramState, oram_of}
 use Rattle.oram_frontend.specs.declared.oram.Oram.{Oram}
 use Rattle.rate_enforcer.specs.Served.{keys_of}
 use Rattle.unified_tree.specs.Tree.{IsSameTree}
-use Rattle.secure_machine.specs.Timed.{TimedState}
+use Rattle.play_run.specs.Timed.{TimedState}
 use Rattle.secure_machine.specs.declared.lines.TimedLines.{TimedLines}
 
 -- an encrypted memory over this memory and this tap

@@ -7,7 +7,7 @@ ghost use Rattle.oram_contents.specs.Entries.{Keys};
 ghost use Rattle.oram_frontend.specs.Oram.{OramState, OramRequest, OramStep, Told, Fetch, Wait};
 ghost use Rattle.oram_frontend.specs.Slots.{FitKeys};
 ghost use Rattle.secure_machine.specs.Goes.{Goes, Breaks};
-ghost use Rattle.secure_machine.specs.Timed.{Serving};
+ghost use Rattle.play_run.specs.Timed.{Serving};
 
 /// What any request of an encrypted memory leaves in its port, whatever the memory replied: an answered one leaves all
 /// counted and tied, and a stopped one too, with its cause, and the log keeps the pace up to the end that the stop

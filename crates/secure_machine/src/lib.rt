@@ -50,7 +50,7 @@ ghost use Rattle.secure_machine.specs.Finish.{IsRightEnding};
 ghost use Rattle.secure_machine.specs.Run.{Reported, Wanting, IsFlatReport, IsUnprepared, IsTiedOr, IsTiedButLast, chip_keys, start_of, IsInBudget};
 ghost use Rattle.secure_machine.specs.LastMove.{EndsWithMove};
 ghost use Rattle.secure_machine.specs.Same.{oram_over};
-ghost use Rattle.secure_machine.specs.Timed.{Serving};
+ghost use Rattle.play_run.specs.Timed.{Serving};
 
 use crate::image::are_counted;
 use crate::machine::{Course, drive};

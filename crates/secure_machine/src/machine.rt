@@ -25,7 +25,7 @@ ghost use Rattle.secure_machine.specs.Finish.{Halts, Settled, Short};
 ghost use Rattle.secure_machine.specs.Goes.{Breaks};
 ghost use Rattle.secure_machine.specs.Runs.{Onwards, BreaksOff, HaltsOver, Ready};
 ghost use Rattle.secure_machine.specs.Same.{IsSameLines, keys_in, oram_over, timed_of};
-ghost use Rattle.secure_machine.specs.Timed.{Serving, KeepsNoted};
+ghost use Rattle.play_run.specs.Timed.{Serving, KeepsNoted};
 ghost use Rattle.bus_watch.specs.Same.{IsSameBus};
 
 use crate::image::line_of;

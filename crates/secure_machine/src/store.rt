@@ -4,7 +4,7 @@ ghost use Rattle.std.specs.Prelude.{◌≡◌, ◌≤◌, ◌+◌, ◌-◌, ◌^
 ghost use Rattle.data_cache.specs.Lines.{IsLine};
 ghost use Rattle.oram_frontend.specs.Oram.{OramStep, CanServe, Wait};
 ghost use Rattle.secure_machine.specs.Same.{IsSameLines, timed_of, keys_in};
-ghost use Rattle.secure_machine.specs.Timed.{CanAsk, Serving};
+ghost use Rattle.play_run.specs.Timed.{CanAsk, Serving};
 
 use crate::lines::TimedLines;
 use asc_base::{Line, Stop};
@@ -72,7 +72,7 @@ impl<'o, 'b, M: UntrustedMemory, W: Watch, L: LeafFn> LineStore for TimedLines<'
     ghost use Rattle.std.specs.Prelude.{None};
     ghost use Rattle.std.proofs.Common.{subst, sym, ap};
     ghost use Rattle.secure_machine.specs.Same.{IsSameLines, timed_of, keys_in};
-    ghost use Rattle.secure_machine.specs.Timed.{CanAsk, TimedStep, answers_lines, answers_serve};
+    ghost use Rattle.play_run.specs.Timed.{CanAsk, TimedStep, answers_lines, answers_serve};
 
     type Stop = Stop;
 

@@ -1,0 +1,5 @@
+pub mod Timed
+pub mod Given
+pub mod Follows
+pub mod Shows
+pub mod Stands
