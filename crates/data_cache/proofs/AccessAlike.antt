@@ -1,5 +1,6 @@
 -- A cache and its lists ask alike for an access.
-use Rattle.std.proofs.Common.{◌≡◌, ℕ, ◌+◌, ◌*◌, ◌%◌, ◌<◌, ◌≤◌, ◌==◌, false, if◌then◌else◌, List, [], length, refl, sym, subst, ◌∙◌, arith}
+use Rattle.std.proofs.Common.{◌≡◌, ℕ, ◌+◌, ◌*◌, ◌%◌, ◌<◌, ◌≤◌, ◌==◌, false, if◌then◌else◌, List, [], length, refl, sym}
+use Rattle.std.proofs.Common.{subst, ◌∙◌, arith}
 use Rattle.std.proofs.lemmas.Bool.Decides.{nat_tests}
 use Rattle.asc_base.specs.declared.block.Line.{Line}
 use Rattle.request_plan.specs.Plan.{Plan, Done, Ask, bind, Outcomes, Alike}
@@ -7,7 +8,8 @@ use Rattle.request_plan.proofs.Alike.{SameBeside, Alike-bind}
 use Rattle.rv32_core.specs.Access.{Access, Load, Store, IsAccess, slice_of}
 use Rattle.data_cache.specs.Lines.{LineRequest, IsLineAnswer}
 use Rattle.data_cache.specs.CacheLists.{Sets, Lines, read_lines, write_lines, write_whole_line}
-use Rattle.data_cache.specs.Contents.{Contents, held_in, with_set, obtain, replace, first_bytes, written, read_plan, write_plan, write_line_plan}
+use Rattle.data_cache.specs.Contents.{Contents, held_in, with_set, obtain, replace, first_bytes, written, read_plan}
+use Rattle.data_cache.specs.Contents.{write_plan, write_line_plan}
 use Rattle.data_cache.specs.Mirror.{Mirrors}
 use Rattle.data_cache.specs.Cached.{line_at, place_at, cache_access, lists_access, HasBytes, StandsAs, StandsLeft}
 use Rattle.data_cache.proofs.MirrorLaws.{read_alike, write_alike, whole_alike}

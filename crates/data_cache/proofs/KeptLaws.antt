@@ -1,5 +1,8 @@
 -- A set of a cache and its lists go on alike.
-use Rattle.std.proofs.Common.{zero, suc, ◌≡◌, ℕ, ◌+◌, ◌-◌, ◌*◌, ◌%◌, ◌<◌, ◌≤◌, Bool, true, false, cond, not, ◌==◌, ◌||◌, ◌&&◌, if◌then◌else◌, List, [], ◌∷◌, Option, Some, None, length, take, slice_get, slice_set, refl, sym, ap, subst, ◌∙◌, arith, inl, inr, eqb-true, eq-eqb, length-take, length-set}
+use Rattle.std.proofs.Common.{zero, suc, ◌≡◌, ℕ, ◌+◌, ◌-◌, ◌*◌, ◌%◌, ◌<◌, ◌≤◌, Bool, true, false, cond, not, ◌==◌, ◌||◌}
+use Rattle.std.proofs.Common.{◌&&◌, if◌then◌else◌, List, [], ◌∷◌, Option, Some, None, length, take, slice_get}
+use Rattle.std.proofs.Common.{slice_set, refl, sym, ap, subst, ◌∙◌, arith, inl, inr, eqb-true, eq-eqb, length-take}
+use Rattle.std.proofs.Common.{length-set}
 use Rattle.std.proofs.lemmas.List.{map-set, take-map, take-set, length-map}
 use Rattle.std.proofs.Math.Seq.{map-set_same}
 use Rattle.std.proofs.lemmas.Bool.Decides.{eqb_tells}
@@ -10,7 +13,8 @@ use Rattle.request_plan.specs.Plan.{Plan, Done, Ask, bind, Alike}
 use Rattle.rv32_core.specs.Access.{spliced, length-spliced}
 use Rattle.rv32_core.specs.LineList.{LineKind, WholeWrite}
 use Rattle.data_cache.specs.Lines.{LineRequest, Fetch, Store, IsLineAnswer}
-use Rattle.data_cache.specs.CacheLists.{Kept, changes, needs, keeps, keeps_dirty, others, set_after, victim, line_in, stored, set_settled, ask_all, use_set}
+use Rattle.data_cache.specs.CacheLists.{Kept, changes, needs, keeps, keeps_dirty, others, set_after, victim, line_in}
+use Rattle.data_cache.specs.CacheLists.{stored, set_settled, ask_all, use_set}
 use Rattle.data_cache.specs.Contents.{find_line, without, settled, obtained, obtain, replaced, replace}
 use Rattle.data_cache.specs.Mirror.{marks, pairs, NotIn, Fit}
 use Rattle.data_cache.specs.declared.set.Held.{Held}

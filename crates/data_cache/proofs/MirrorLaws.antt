@@ -1,5 +1,7 @@
 -- A cache and its lists over a list of bytes ask alike, and stand for the same bytes after each call.
-use Rattle.std.proofs.Common.{◌≡◌, ◌⊎◌, ℕ, ◌+◌, ◌*◌, ◌%◌, ◌<◌, ◌≤◌, List, [], ◌∷◌, ◌++◌, length, take, drop, map, get_or, set, refl, sym, ap, subst, ◌∙◌, arith, inl, inr, length-set, get_or-set_same, get_or-set_other}
+use Rattle.std.proofs.Common.{◌≡◌, ◌⊎◌, ℕ, ◌+◌, ◌*◌, ◌%◌, ◌<◌, ◌≤◌, List, [], ◌∷◌, ◌++◌, length, take, drop, map}
+use Rattle.std.proofs.Common.{get_or, set, refl, sym, ap, subst, ◌∙◌, arith, inl, inr, length-set, get_or-set_same}
+use Rattle.std.proofs.Common.{get_or-set_other}
 use Rattle.std.proofs.lemmas.List.{map-set, length-map, get_or-map}
 use Rattle.std.proofs.lemmas.Bool.Decides.{eqb_tells}
 use Rattle.asc_base.specs.declared.block.Line.{Line}
@@ -8,11 +10,14 @@ use Rattle.request_plan.proofs.Alike.{Alike-bind}
 use Rattle.rv32_core.specs.Access.{spliced, length-spliced}
 use Rattle.rv32_core.specs.LineList.{Read, Write, WholeWrite}
 use Rattle.data_cache.specs.Lines.{IsLineAnswer}
-use Rattle.data_cache.specs.CacheLists.{Kept, Sets, Lines, set_of, with_kept, line_in, use_set, read_lines, write_lines, write_whole_line}
-use Rattle.data_cache.specs.Contents.{Contents, held_in, with_set, obtain, replace, first_bytes, written, read_plan, write_plan, write_line_plan}
+use Rattle.data_cache.specs.CacheLists.{Kept, Sets, Lines, set_of, with_kept, line_in, use_set, read_lines, write_lines}
+use Rattle.data_cache.specs.CacheLists.{write_whole_line}
+use Rattle.data_cache.specs.Contents.{Contents, held_in, with_set, obtain, replace, first_bytes, written, read_plan}
+use Rattle.data_cache.specs.Contents.{write_plan, write_line_plan}
 use Rattle.data_cache.specs.Mirror.{marks, pairs, NotIn, Fit, Mirrors}
 use Rattle.data_cache.specs.declared.set.Held.{Held}
-use Rattle.data_cache.proofs.KeptLaws.{Same, First, SOut, OOut, WOut, used_by, or_false, or_true, Fit-other, Fit-elsewhere, obtain_alike, replace_alike}
+use Rattle.data_cache.proofs.KeptLaws.{Same, First, SOut, OOut, WOut, used_by, or_false, or_true, Fit-other}
+use Rattle.data_cache.proofs.KeptLaws.{Fit-elsewhere, obtain_alike, replace_alike}
 use Rattle.data_cache.proofs.Parts.{part_of_line, line-spliced, other_line, other-patched}
 
 is-or : (a b : ℕ) → (a ≡ b) ⊎ (a ≡ b → ⊥)

@@ -1,6 +1,9 @@
 -- lines as parts of a list of bytes
-use Rattle.std.proofs.Common.{suc, ◌≡◌, ℕ, ◌+◌, ◌-◌, ◌*◌, ◌<◌, ◌≤◌, List, [], ◌∷◌, ◌++◌, length, take, drop, refl, sym, ap, ◌∙◌, arith, length-append, length-drop, length-take, append_assoc, append-nil, inl, inr, ◌⊎◌}
-use Rattle.std.proofs.lemmas.List.{take-take, take-append-le, drop-drop, drop_at, drop-append-le, drop-take, length-take-le, drop_all, take-append-drop}
+use Rattle.std.proofs.Common.{suc, ◌≡◌, ℕ, ◌+◌, ◌-◌, ◌*◌, ◌<◌, ◌≤◌, List, [], ◌∷◌, ◌++◌, length, take, drop, refl, sym}
+use Rattle.std.proofs.Common.{ap, ◌∙◌, arith, length-append, length-drop, length-take, append_assoc, append-nil, inl}
+use Rattle.std.proofs.Common.{inr, ◌⊎◌}
+use Rattle.std.proofs.lemmas.List.{take-take, take-append-le, drop-drop, drop_at, drop-append-le, drop-take}
+use Rattle.std.proofs.lemmas.List.{length-take-le, drop_all, take-append-drop}
 use Rattle.std.proofs.lemmas.Grind.{common_steps}
 use Rattle.rv32_core.specs.Access.{spliced}
 use Rattle.data_cache.specs.CacheLists.{line_in}

@@ -1,4 +1,5 @@
-use Rattle.std.proofs.Common.{zero, suc, ◌≡◌, ℕ, ◌+◌, ◌<◌, ◌%◌, List, [], ◌∷◌, ◌++◌, length, take, drop, map, get_or, set, refl, sym, ap, subst, ◌∙◌, Result}
+use Rattle.std.proofs.Common.{zero, suc, ◌≡◌, ℕ, ◌+◌, ◌<◌, ◌%◌, List, [], ◌∷◌, ◌++◌, length, take, drop, map, get_or}
+use Rattle.std.proofs.Common.{set, refl, sym, ap, subst, ◌∙◌, Result}
 use Rattle.std.specs.List.{All}
 use Rattle.std.proofs.lemmas.List.Elements.{All-set, All-append, All-take, All-drop}
 use Rattle.std.proofs.lemmas.List.{length-map, map-set, get_or-map}
@@ -8,7 +9,8 @@ use Rattle.data_cache.specs.Lines.{LineRequest}
 use Rattle.request_plan.specs.Plan.{Plan, Done, bind, Ends, Stops}
 use Rattle.request_plan.proofs.Chains.{Ends-bind, Stops-bind}
 use Rattle.data_cache.specs.declared.set.Held.{Held}
-use Rattle.data_cache.specs.Contents.{moved, obtain, replace, first_bytes, written, Contents, held_in, with_set, read_plan, write_plan, write_line_plan, HoldsBelow}
+use Rattle.data_cache.specs.Contents.{moved, obtain, replace, first_bytes, written, Contents, held_in, with_set}
+use Rattle.data_cache.specs.Contents.{read_plan, write_plan, write_line_plan, HoldsBelow}
 
 pub held_in_is : {V : Type 0} (f : V → List Held) (ways n : ℕ) (vs : List V) (k : ℕ) (d : V) → k ≡ n % length vs
     → k < length vs → held_in (record { ways = ways; sets = map f vs }) n ≡ f (get_or vs k d)

@@ -1,5 +1,8 @@
 -- Over a store whose lines are told, a cache and its store stand for one list of bytes.
-use Rattle.std.proofs.Common.{◌≡◌, ◌⊎◌, ℕ, zero, suc, ◌+◌, ◌-◌, ◌*◌, ◌%◌, ◌<◌, ◌≤◌, Bool, true, false, cond, not, ◌==◌, ◌||◌, ◌&&◌, if◌then◌else◌, List, [], ◌∷◌, Option, Some, None, Result, Ok, length, take, map, replicate, get_or, set, slice_get, refl, sym, ap, subst, ◌∙◌, arith, inl, inr, eqb-true, eq-eqb, length-set, get_or-set_same, get_or-set_other}
+use Rattle.std.proofs.Common.{◌≡◌, ◌⊎◌, ℕ, zero, suc, ◌+◌, ◌-◌, ◌*◌, ◌%◌, ◌<◌, ◌≤◌, Bool, true, false, cond, not, ◌==◌}
+use Rattle.std.proofs.Common.{◌||◌, ◌&&◌, if◌then◌else◌, List, [], ◌∷◌, Option, Some, None, Result, Ok, length, take}
+use Rattle.std.proofs.Common.{map, replicate, get_or, set, slice_get, refl, sym, ap, subst, ◌∙◌, arith, inl, inr}
+use Rattle.std.proofs.Common.{eqb-true, eq-eqb, length-set, get_or-set_same, get_or-set_other}
 use Rattle.std.proofs.lemmas.List.{length-map}
 use Rattle.std.proofs.lemmas.Bool.Decides.{eqb_tells}
 use Rattle.std.proofs.lemmas.Option.{get_or_from_slice_get}
@@ -14,7 +17,9 @@ use Rattle.request_plan.proofs.Alike.{Alike-ends}
 use Rattle.rv32_core.specs.Access.{slice_of, spliced}
 use Rattle.rv32_core.specs.LineList.{LineKind, Read, Write, WholeWrite, LineUse}
 use Rattle.data_cache.specs.Lines.{LineRequest, Fetch, Store, IsLineAnswer, TellsFetch, TellsStore, serve_lines}
-use Rattle.data_cache.specs.CacheLists.{Kept, Sets, Lines, changes, needs, keeps, keeps_dirty, others, set_of, with_kept, set_after, victim, line_in, stored, fetched, set_settled, ask_all, use_set, after_use, read_lines, write_lines, write_whole_line}
+use Rattle.data_cache.specs.CacheLists.{Kept, Sets, Lines, changes, needs, keeps, keeps_dirty, others, set_of}
+use Rattle.data_cache.specs.CacheLists.{with_kept, set_after, victim, line_in, stored, fetched, set_settled, ask_all}
+use Rattle.data_cache.specs.CacheLists.{use_set, after_use, read_lines, write_lines, write_whole_line}
 use Rattle.data_cache.specs.Contents.{Contents, find_line, held_in, read_plan, write_plan, write_line_plan}
 use Rattle.data_cache.specs.Mirror.{marks, Mirrors}
 use Rattle.data_cache.specs.Standing.{lists_of, StandFor}

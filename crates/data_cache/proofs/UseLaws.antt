@@ -1,12 +1,15 @@
 -- The requests that a use makes, an empty cache, and rows in numbers.
-use Rattle.std.proofs.Common.{◌≡◌, ℕ, zero, suc, ◌+◌, ◌*◌, ◌<◌, ◌≤◌, List, [], ◌∷◌, ◌++◌, length, map, replicate, refl, sym, ap, subst, arith}
+use Rattle.std.proofs.Common.{◌≡◌, ℕ, zero, suc, ◌+◌, ◌*◌, ◌<◌, ◌≤◌, List, [], ◌∷◌, ◌++◌, length, map, replicate, refl}
+use Rattle.std.proofs.Common.{sym, ap, subst, arith}
 use Rattle.std.specs.Prelude.{slice_index_or}
 use Rattle.request_plan.specs.Plan.{Plan, Done, Ask, bind}
 use Rattle.rv32_core.specs.Access as access
 use Rattle.rv32_core.specs.Access.{Access, Load, slice_of, spliced}
 use Rattle.rv32_core.specs.LineList.{LineKind, Read, Write, WholeWrite, LineUse}
 use Rattle.data_cache.specs.Lines.{LineRequest, Fetch, Store}
-use Rattle.data_cache.specs.CacheLists.{Kept, Sets, Lines, no_lines, set_of, with_kept, victim, stored, fetched, set_settled, set_after, requests_of, requests_along, ask_all, use_set, after_use, write_lines, Requests}
+use Rattle.data_cache.specs.CacheLists.{Kept, Sets, Lines, no_lines, set_of, with_kept, victim, stored, fetched}
+use Rattle.data_cache.specs.CacheLists.{set_settled, set_after, requests_of, requests_along, ask_all, use_set}
+use Rattle.data_cache.specs.CacheLists.{after_use, write_lines, Requests}
 use Rattle.data_cache.specs.Cached.{place_at, lists_access, use_at}
 use Rattle.data_cache.specs.Mirror.{marks, pairs, Fit, Mirrors}
 use Rattle.data_cache.specs.declared.set.Held.{Held}

@@ -1,5 +1,6 @@
 -- What a cache holds, with the bytes of each line, and what its calls ask of a store.
-use Rattle.std.specs.Prelude.{◌≡◌, ℕ, ◌<◌, ◌+◌, ◌-◌, ◌%◌, true, false, cond, ◌==◌, List, [], ◌∷◌, ◌++◌, Option, Some, None, All, length, take, drop, slice_get, slice_set, slice_index_or}
+use Rattle.std.specs.Prelude.{◌≡◌, ℕ, ◌<◌, ◌+◌, ◌-◌, ◌%◌, true, false, cond, ◌==◌, List, [], ◌∷◌, ◌++◌, Option, Some}
+use Rattle.std.specs.Prelude.{None, All, length, take, drop, slice_get, slice_set, slice_index_or}
 use Rattle.asc_base.specs.declared.block.Line.{Line}
 use Rattle.request_plan.specs.Plan.{Plan, Done, Ask, bind}
 use Rattle.rv32_core.specs.Access.{slice_of, spliced}

@@ -1,6 +1,7 @@
 -- What is asked of a store of lines, what is told of it, and a store that is one list of lines.
 use Rattle.std.proofs.Common.{refl, ap, sym, ◌∙◌, length-set}
-use Rattle.std.specs.Prelude.{◌≡◌, ℕ, ◌<◌, List, [], Option, Some, Result, Ok, Err, All, length, slice_index_or, slice_get, slice_set}
+use Rattle.std.specs.Prelude.{◌≡◌, ℕ, ◌<◌, List, [], Option, Some, Result, Ok, Err, All, length, slice_index_or}
+use Rattle.std.specs.Prelude.{slice_get, slice_set}
 
 -- A fetch of a line, which is answered by its bytes; a store of a line's bytes, which is answered by none.
 pub data LineRequest : Type 0 where

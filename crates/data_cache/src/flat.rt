@@ -2,7 +2,8 @@
 
 ghost use Rattle.std.specs.Prelude.{◌≡◌, ℕ, ◌<◌, ◌≤◌, ◌+◌, ◌*◌, List, All, IfOk, length, map};
 ghost use Rattle.asc_base.specs.declared.block.Line.{Line};
-ghost use Rattle.data_cache.specs.Lines.{FlatStep, FlatStep-length, FlatStep-answers, FlatStep-told, FlatStep-fetch, FlatStep-store};
+ghost use Rattle.data_cache.specs.Lines.{FlatStep, FlatStep-length, FlatStep-answers, FlatStep-told, FlatStep-fetch};
+ghost use Rattle.data_cache.specs.Lines.{FlatStep-store};
 ghost use Rattle.rv32_core.specs.Access.{slice_of};
 ghost use Rattle.data_cache.specs.Contents.{CacheBelow};
 ghost use Rattle.data_cache.specs.Standing.{StandFor};

@@ -1,9 +1,11 @@
 //! One set of a cache: its lines, the most recent first.
 
-ghost use Rattle.std.specs.Prelude.{◌≡◌, ◌<◌, ◌≤◌, ◌+◌, ◌-◌, ◌%◌, ◌∷◌, Some, None, MatchOption, IfOk, IfErr, OnOk, length, vec_len, vec_capacity, take};
+ghost use Rattle.std.specs.Prelude.{◌≡◌, ◌<◌, ◌≤◌, ◌+◌, ◌-◌, ◌%◌, ◌∷◌, Some, None, MatchOption, IfOk, IfErr, OnOk};
+ghost use Rattle.std.specs.Prelude.{length, vec_len, vec_capacity, take};
 ghost use Rattle.request_plan.specs.Plan.{Ends, Stops};
 ghost use Rattle.rv32_core.specs.Access.{slice_of};
-ghost use Rattle.data_cache.specs.Contents.{find_line, StandsAt, moved, settle, obtain, replace, first_bytes, written, HoldsBelow};
+ghost use Rattle.data_cache.specs.Contents.{find_line, StandsAt, moved, settle, obtain, replace, first_bytes, written};
+ghost use Rattle.data_cache.specs.Contents.{HoldsBelow};
 
 use crate::store::LineStore;
 use asc_base::Line;

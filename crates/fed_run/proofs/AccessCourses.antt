@@ -1,5 +1,6 @@
 -- What the cache's lists ask for accesses, run on a list of lines, is the same accesses on a list of bytes that is fed.
-use Rattle.std.proofs.Common.{◌≡◌, ℕ, ◌+◌, ◌-◌, ◌*◌, Bool, true, false, ◌&&◌, not, if◌then◌else◌, List, [], ◌∷◌, Option, Some, None, refl, sym, ap, subst, ◌∙◌, arith}
+use Rattle.std.proofs.Common.{◌≡◌, ℕ, ◌+◌, ◌-◌, ◌*◌, Bool, true, false, ◌&&◌, not, if◌then◌else◌, List, [], ◌∷◌, Option}
+use Rattle.std.proofs.Common.{Some, None, refl, sym, ap, subst, ◌∙◌, arith}
 use Rattle.std.specs.Option.{option_map, option_and_then}
 use Rattle.request_plan.specs.Plan.{Plan, Done, Ask, bind, through}
 use Rattle.request_plan.specs.Course.{Course, Finished, Starved, Astray, after_course, course}
@@ -8,7 +9,9 @@ use Rattle.rv32_core.specs.Access.{Access, Load, Store, access_bytes, slice_of, 
 use Rattle.rv32_core.specs.LineList.{Read, Write, LineUse}
 use Rattle.data_cache.specs.Lines.{LineRequest, Fetch}
 use Rattle.data_cache.specs.Lines as lines
-use Rattle.data_cache.specs.CacheLists.{Kept, Sets, Lines, needs, keeps, set_of, with_kept, set_after, sets_after, victim, line_in, stored, fetched, set_settled, ask_all, use_set, after_use, write_lines}
+use Rattle.data_cache.specs.CacheLists.{Kept, Sets, Lines, needs, keeps, set_of, with_kept, set_after, sets_after}
+use Rattle.data_cache.specs.CacheLists.{victim, line_in, stored, fetched, set_settled, ask_all, use_set, after_use}
+use Rattle.data_cache.specs.CacheLists.{write_lines}
 use Rattle.data_cache.specs.Cached.{line_at, place_at, lists_access, use_at}
 use Rattle.fed_run.specs.Fed.{Feed, asks, fed_line, fed_use}
 use Rattle.fed_run.specs.Answered.{line_source}

@@ -1,5 +1,6 @@
 -- The instructions that a run finished, by themselves; and what more lines add.
-use Rattle.std.proofs.Common.{◌≡◌, ℕ, zero, suc, ◌+◌, ◌-◌, ◌≤◌, Bool, true, false, if◌then◌else◌, List, [], ◌++◌, Option, Some, None, refl, sym, ap, subst, arith, ◌∙◌, append_assoc, append-nil}
+use Rattle.std.proofs.Common.{◌≡◌, ℕ, zero, suc, ◌+◌, ◌-◌, ◌≤◌, Bool, true, false, if◌then◌else◌, List, [], ◌++◌}
+use Rattle.std.proofs.Common.{Option, Some, None, refl, sym, ap, subst, arith, ◌∙◌, append_assoc, append-nil}
 use Rattle.std.specs.Option.{option_and_then}
 use Rattle.std.specs.Int.{from_le_bytes, w32}
 use Rattle.rv32_core.specs.FlatMachine.{bytes_at, effected, trap_at}
@@ -7,12 +8,15 @@ use Rattle.rv32_core.specs.FlatRun.{Exited, Trapped, Budget}
 use Rattle.rv32_core.specs.Machine.{Machine, is_inside, effect_of_word, cost_of_word}
 use Rattle.rv32_core.specs.LineList.{fetch_line, word_lines}
 use Rattle.rv32_core.specs.declared.effect.Effect.{Effect}
-use Rattle.rv32_core.specs.declared.effect.Effect.TheVariants.{Passes, Sets, Jumps, Loads, Stores, Answers, Breaks, Reads, Writes, Exits, Traps}
+use Rattle.rv32_core.specs.declared.effect.Effect.TheVariants.{Passes, Sets, Jumps, Loads, Stores, Answers, Breaks}
+use Rattle.rv32_core.specs.declared.effect.Effect.TheVariants.{Reads, Writes, Exits, Traps}
 use Rattle.rv32_core.specs.declared.outcome.Ended.{Ended}
 use Rattle.rv32_core.specs.declared.outcome.Ended.TheVariants.{No, Exit, Trap}
 use Rattle.rv32_core.specs.declared.outcome.TrapKind.{TrapKind}
 use Rattle.rv32_core.specs.declared.outcome.TrapKind.TheVariants.{FetchFault}
-use Rattle.fed_run.specs.Fed.{Feed, fed_use, fed_uses, FedStep, fed_after, fed_word, fed_step, FedEnding, Ends, Starves, FedRun, one_before, fed_on, fed_from, fed_run, fed_on_from, fed_gone_on, with_more, run_with_more, IsDone}
+use Rattle.fed_run.specs.Fed.{Feed, fed_use, fed_uses, FedStep, fed_after, fed_word, fed_step, FedEnding, Ends, Starves}
+use Rattle.fed_run.specs.Fed.{FedRun, one_before, fed_on, fed_from, fed_run, fed_on_from, fed_gone_on, with_more}
+use Rattle.fed_run.specs.Fed.{run_with_more, IsDone}
 use Rattle.fed_run.proofs.HonestLaws.{fed_run-zero, fed_run-suc}
 use Rattle.fed_run.proofs.GoOn.{map-found, then-found, run-parts, run-more}
 

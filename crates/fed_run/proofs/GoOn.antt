@@ -1,5 +1,6 @@
 -- Runs that are fed go on, and with more lines they go on further.
-use Rattle.std.proofs.Common.{◌≡◌, ℕ, zero, suc, ◌+◌, Bool, true, false, if◌then◌else◌, List, [], ◌∷◌, ◌++◌, Option, Some, None, refl, sym, ap, arith, ◌∙◌}
+use Rattle.std.proofs.Common.{◌≡◌, ℕ, zero, suc, ◌+◌, Bool, true, false, if◌then◌else◌, List, [], ◌∷◌, ◌++◌, Option}
+use Rattle.std.proofs.Common.{Some, None, refl, sym, ap, arith, ◌∙◌}
 use Rattle.std.specs.Option.{option_map, option_and_then}
 use Rattle.std.specs.Int.{from_le_bytes, w32}
 use Rattle.rv32_core.specs.FlatMachine.{bytes_at, effected, trap_at}
@@ -10,7 +11,9 @@ use Rattle.rv32_core.specs.declared.outcome.Ended.{Ended}
 use Rattle.rv32_core.specs.declared.outcome.Ended.TheVariants.{No, Exit, Trap}
 use Rattle.rv32_core.specs.declared.outcome.TrapKind.TheVariants.{FetchFault}
 use Rattle.data_cache.specs.CacheLists.{sets_after}
-use Rattle.fed_run.specs.Fed.{Feed, asks, fed_line, fed_use, fed_uses, FedStep, fed_after, fed_word, fed_step, FedEnding, Ends, Starves, FedRun, one_before, fed_on, fed_from, fed_run, fed_before, fed_on_from, fed_gone_on, with_more, run_with_more}
+use Rattle.fed_run.specs.Fed.{Feed, asks, fed_line, fed_use, fed_uses, FedStep, fed_after, fed_word, fed_step}
+use Rattle.fed_run.specs.Fed.{FedEnding, Ends, Starves, FedRun, one_before, fed_on, fed_from, fed_run, fed_before}
+use Rattle.fed_run.specs.Fed.{fed_on_from, fed_gone_on, with_more, run_with_more}
 use Rattle.fed_run.proofs.HonestLaws.{fed_run-zero, fed_run-suc}
 
 -- ---- a run in parts

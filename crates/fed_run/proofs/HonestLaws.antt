@@ -1,5 +1,6 @@
 -- Fed with the lines that the flat list has is the flat run.
-use Rattle.std.proofs.Common.{◌≡◌, ℕ, zero, suc, ◌+◌, ◌*◌, ◌/◌, ◌<◌, ◌≤◌, Bool, true, false, if◌then◌else◌, List, [], ◌∷◌, ◌++◌, Some, length, refl, sym, ap, subst, ◌∙◌, arith, append_assoc}
+use Rattle.std.proofs.Common.{◌≡◌, ℕ, zero, suc, ◌+◌, ◌*◌, ◌/◌, ◌<◌, ◌≤◌, Bool, true, false, if◌then◌else◌, List, []}
+use Rattle.std.proofs.Common.{◌∷◌, ◌++◌, Some, length, refl, sym, ap, subst, ◌∙◌, arith, append_assoc}
 use Rattle.std.specs.List.{All}
 use Rattle.std.specs.Option.{option_map, option_and_then}
 use Rattle.std.specs.Int.{from_le_bytes, w32}
@@ -17,7 +18,8 @@ use Rattle.rv32_core.proofs.FlatRunLaws.{flat_run-zero, flat_run-suc}
 use Rattle.rv32_core.proofs.OutputLaws.{step-length}
 use Rattle.data_cache.specs.CacheLists.{Sets, sets_after, line_in}
 use Rattle.data_cache.proofs.Parts.{patched_own}
-use Rattle.fed_run.specs.Fed.{Feed, asks, fed_line, fed_use, fed_uses, fed_after, fed_word, fed_step, Ends, FedRun, fed_on, fed_from, fed_run, answers_of, sets_along, answers_on, flat_answers}
+use Rattle.fed_run.specs.Fed.{Feed, asks, fed_line, fed_use, fed_uses, fed_after, fed_word, fed_step, Ends, FedRun}
+use Rattle.fed_run.specs.Fed.{fed_on, fed_from, fed_run, answers_of, sets_along, answers_on, flat_answers}
 
 -- a list of bytes, its lists, and the lines left
 abbrev pub fed_by : List ℕ → Sets → List (List ℕ) → Feed

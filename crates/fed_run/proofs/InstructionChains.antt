@@ -1,6 +1,7 @@
 -- An instruction of a core over a cache, by a chain of a store's steps, is that of the machine that is fed with the
 -- lines that the store answered.
-use Rattle.std.proofs.Common.{◌≡◌, ℕ, ◌*◌, ◌%◌, ◌<◌, ◌≤◌, List, ◌++◌, Option, Some, None, Result, Ok, length, refl, sym, ap, subst, arith, ◌∙◌}
+use Rattle.std.proofs.Common.{◌≡◌, ℕ, ◌*◌, ◌%◌, ◌<◌, ◌≤◌, List, ◌++◌, Option, Some, None, Result, Ok, length, refl, sym}
+use Rattle.std.proofs.Common.{ap, subst, arith, ◌∙◌}
 use Rattle.std.proofs.lemmas.List.{length-map}
 use Rattle.std.specs.Option.{option_map}
 use Rattle.request_plan.specs.Plan.{Plan, Ends, Stops, through, Asks, Alike}

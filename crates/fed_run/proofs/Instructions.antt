@@ -1,21 +1,26 @@
 -- An instruction's plan over a list of bytes that is fed: its lines are used, and then it has its effect.
-use Rattle.std.proofs.Common.{◌≡◌, ℕ, ◌+◌, ◌*◌, ◌%◌, ◌<◌, ◌≤◌, Bool, true, false, if◌then◌else◌, List, [], ◌∷◌, Option, Some, None, length, refl, sym, ap, subst, ◌∙◌, arith}
+use Rattle.std.proofs.Common.{◌≡◌, ℕ, ◌+◌, ◌*◌, ◌%◌, ◌<◌, ◌≤◌, Bool, true, false, if◌then◌else◌, List, [], ◌∷◌, Option}
+use Rattle.std.proofs.Common.{Some, None, length, refl, sym, ap, subst, ◌∙◌, arith}
 use Rattle.std.specs.Option.{option_map, option_and_then}
 use Rattle.std.specs.Int.{from_le_bytes, w32}
 use Rattle.asc_base.specs.Memory.{IsMemory}
 use Rattle.request_plan.specs.Plan.{Plan, Done as Outcome, Ask, bind}
 use Rattle.rv32_table.specs.Meaning.{load_width, store_width}
 use Rattle.rv32_core.specs.Access.{Access, Load, Store, access_bytes, slice_of}
-use Rattle.rv32_core.specs.Machine.{CoreState, Machine, IsEffect, is_inside, at_pc, next_pc, effect_of_word, cost_of_word}
-use Rattle.rv32_core.specs.FlatMachine.{bytes_at, stored_bytes, after_load, after_read, after_write, going_on, effected, trap_at}
+use Rattle.rv32_core.specs.Machine.{CoreState, Machine, IsEffect, is_inside, at_pc, next_pc, effect_of_word}
+use Rattle.rv32_core.specs.Machine.{cost_of_word}
+use Rattle.rv32_core.specs.FlatMachine.{bytes_at, stored_bytes, after_load, after_read, after_write, going_on, effected}
+use Rattle.rv32_core.specs.FlatMachine.{trap_at}
 use Rattle.rv32_core.specs.Transfer.{pieces, stores_plan, loads_plan}
 use Rattle.rv32_core.specs.StepPlan.{effect_plan, word_plan, step_plan}
 use Rattle.rv32_core.specs.LineList.{Read, Write, line_of, lines_of, used, data_lines, fetch_line}
 use Rattle.rv32_core.specs.declared.effect.Effect.{Effect}
-use Rattle.rv32_core.specs.declared.effect.Effect.TheVariants.{Passes, Sets, Jumps, Loads, Stores, Answers, Breaks, Reads, Writes, Exits, Traps}
+use Rattle.rv32_core.specs.declared.effect.Effect.TheVariants.{Passes, Sets, Jumps, Loads, Stores, Answers, Breaks}
+use Rattle.rv32_core.specs.declared.effect.Effect.TheVariants.{Reads, Writes, Exits, Traps}
 use Rattle.rv32_core.specs.declared.outcome.Done.{Done}
 use Rattle.rv32_core.specs.declared.outcome.TrapKind.TheVariants.{FetchFault}
-use Rattle.rv32_core.proofs.EffectLaws.{is_buffer-above, is_buffer-below, load-in_line, store-in_line, effect_of_word-fine}
+use Rattle.rv32_core.proofs.EffectLaws.{is_buffer-above, is_buffer-below, load-in_line, store-in_line}
+use Rattle.rv32_core.proofs.EffectLaws.{effect_of_word-fine}
 use Rattle.rv32_core.proofs.LineLaws.{lines_of-one}
 use Rattle.rv32_core.proofs.Served.{length-slice_of}
 use Rattle.rv32_core.proofs.StepLines.{is_inside-place, load_width-some, store_width-some}

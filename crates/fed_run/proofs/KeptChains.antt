@@ -18,7 +18,8 @@ use Rattle.fed_run.specs.Answered.{line_source, AreLines, feed_of}
 use Rattle.fed_run.specs.Whole.{cache_image, cache_run}
 use Rattle.fed_run.proofs.InstructionChains.{instruction-ends, instruction-stops}
 use Rattle.fed_run.proofs.RunChains.{IsRun, IsStarvedRun, run-told, run-told-stop}
-use Rattle.fed_run.proofs.WholeChains.{below-all, empty_cache, empty_lists, after_image, whole-ends, whole-stops, image-ends, image-stops}
+use Rattle.fed_run.proofs.WholeChains.{below-all, empty_cache, empty_lists, after_image, whole-ends, whole-stops}
+use Rattle.fed_run.proofs.WholeChains.{image-ends, image-stops}
 
 module _ {S E : Type 0} (step : S → LineRequest → Result (List ℕ) E → S → Type 0)
     (answers : (s t : S) (q : LineRequest) (bytes : List ℕ) → step s q (Ok bytes) t → IsLineAnswer q bytes)

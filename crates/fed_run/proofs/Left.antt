@@ -9,7 +9,8 @@ use Rattle.rv32_core.specs.Machine.{Machine, is_inside, effect_of_word, cost_of_
 use Rattle.rv32_core.specs.StepPlan.{effect_plan, word_plan, step_plan}
 use Rattle.rv32_core.specs.Transfer.{pieces, stores_plan, loads_plan}
 use Rattle.rv32_core.specs.declared.effect.Effect.{Effect}
-use Rattle.rv32_core.specs.declared.effect.Effect.TheVariants.{Passes, Sets, Jumps, Loads, Stores, Answers, Breaks, Reads, Writes, Exits, Traps}
+use Rattle.rv32_core.specs.declared.effect.Effect.TheVariants.{Passes, Sets, Jumps, Loads, Stores, Answers, Breaks}
+use Rattle.rv32_core.specs.declared.effect.Effect.TheVariants.{Reads, Writes, Exits, Traps}
 use Rattle.rv32_core.specs.declared.outcome.TrapKind.TheVariants.{FetchFault}
 use Rattle.data_cache.specs.Lines.{LineRequest}
 use Rattle.data_cache.specs.Contents.{Contents}

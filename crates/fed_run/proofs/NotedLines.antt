@@ -1,5 +1,6 @@
 -- A chain of a store's steps that notes the lines it answers: its plan is run on exactly these, and they are lines.
-use Rattle.std.proofs.Common.{◌≡◌, ℕ, List, [], ◌∷◌, ◌++◌, Result, Ok, length, sym, ap, subst, inl, inr, ◌∙◌, append_assoc, append-nil}
+use Rattle.std.proofs.Common.{◌≡◌, ℕ, List, [], ◌∷◌, ◌++◌, Result, Ok, length, sym, ap, subst, inl, inr, ◌∙◌}
+use Rattle.std.proofs.Common.{append_assoc, append-nil}
 use Rattle.request_plan.specs.Plan.{Plan, Done, Ask, Ends, Stops}
 use Rattle.request_plan.specs.Course.{Course, Finished, Starved, Astray, after_source, after_course, course}
 use Rattle.request_plan.specs.Laws.{NotesAnswers, StopsUnnoted}

@@ -6,7 +6,8 @@ use Rattle.rv32_core.specs.LineList.{lines_from}
 use Rattle.rv32_table.specs.Table.{decoded, table}
 use Rattle.rv32_table.specs.Meaning.{register_meaning, load_meaning}
 use Rattle.rv32_core.specs.Access.{slice_of}
-use Rattle.fed_run.specs.Fed.{Ends, Starves, fed_run, program_line, over_line, over_image_line, reading_line, writing_line, eight_bytes}
+use Rattle.fed_run.specs.Fed.{Ends, Starves, fed_run, program_line, over_line, over_image_line, reading_line}
+use Rattle.fed_run.specs.Fed.{writing_line, eight_bytes}
 
 -- It is fed with line 1 and then with line 0, and exits.
 pub fed-exits : let run = fed_run 1 9 (machine_at_start 0 0 128 0 [] output_limit)

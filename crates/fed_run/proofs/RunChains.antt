@@ -1,6 +1,7 @@
 -- A run of a core over a cache, by a chain of a store's steps, is that of the machine that is fed with the lines that
 -- the store answered.
-use Rattle.std.proofs.Common.{◌≡◌, ◌⊎◌, ℕ, zero, suc, ◌+◌, ◌*◌, List, [], ◌++◌, Some, None, Result, Ok, refl, sym, ap, subst, inl, inr, arith, ◌∙◌, append_assoc, append-nil}
+use Rattle.std.proofs.Common.{◌≡◌, ◌⊎◌, ℕ, zero, suc, ◌+◌, ◌*◌, List, [], ◌++◌, Some, None, Result, Ok, refl, sym, ap}
+use Rattle.std.proofs.Common.{subst, inl, inr, arith, ◌∙◌, append_assoc, append-nil}
 use Rattle.request_plan.specs.Plan.{Plan, Done as Outcome, Ask, bind, through, Ends, Stops, Outcomes}
 use Rattle.request_plan.specs.Laws.{NotesAnswers, StopsUnnoted}
 use Rattle.request_plan.proofs.Chains.{Ends-bind, Stops-bind, Stops-bind-next, Ends-unbind, Stops-unbind}

@@ -1,5 +1,6 @@
 -- A step asks for some bytes each time.
-use Rattle.std.proofs.Common.{◌≡◌, ℕ, zero, suc, ◌+◌, ◌-◌, ◌<◌, ◌≤◌, Bool, true, false, if◌then◌else◌, List, ◌++◌, length, take, drop, sym, subst, arith, length-drop}
+use Rattle.std.proofs.Common.{◌≡◌, ℕ, zero, suc, ◌+◌, ◌-◌, ◌<◌, ◌≤◌, Bool, true, false, if◌then◌else◌, List, ◌++◌}
+use Rattle.std.proofs.Common.{length, take, drop, sym, subst, arith, length-drop}
 use Rattle.std.proofs.lemmas.List.{length-take-le}
 use Rattle.std.specs.Int.{from_le_bytes, w32}
 use Rattle.request_plan.specs.Plan.{Plan, Done as Outcome, Ask, Asks}
@@ -10,7 +11,8 @@ use Rattle.rv32_core.specs.FlatMachine.{going_on, after_read, after_write}
 use Rattle.rv32_core.specs.Transfer.{pieces_within, pieces, stores_plan, loads_plan}
 use Rattle.rv32_core.specs.StepPlan.{effect_plan, word_plan, step_plan}
 use Rattle.rv32_core.specs.declared.effect.Effect.{Effect}
-use Rattle.rv32_core.specs.declared.effect.Effect.TheVariants.{Passes, Sets, Jumps, Loads, Stores, Answers, Breaks, Reads, Writes, Exits, Traps}
+use Rattle.rv32_core.specs.declared.effect.Effect.TheVariants.{Passes, Sets, Jumps, Loads, Stores, Answers, Breaks}
+use Rattle.rv32_core.specs.declared.effect.Effect.TheVariants.{Reads, Writes, Exits, Traps}
 use Rattle.rv32_core.specs.declared.outcome.TrapKind.TheVariants.{FetchFault}
 use Rattle.rv32_core.proofs.EffectLaws.{effect_of_word-fine}
 use Rattle.rv32_core.proofs.PlanLaws.{length-stored_bytes}

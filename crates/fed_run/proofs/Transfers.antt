@@ -1,5 +1,7 @@
 -- A host call's bytes, in pieces: its lines are used first, and then its bytes move at once.
-use Rattle.std.proofs.Common.{◌≡◌, ℕ, zero, suc, ◌+◌, ◌-◌, ◌*◌, ◌%◌, ◌<◌, ◌≤◌, List, [], ◌∷◌, ◌++◌, Option, Some, None, length, take, drop, refl, sym, ap, subst, ◌∙◌, arith, append_assoc, append-nil, length-drop}
+use Rattle.std.proofs.Common.{◌≡◌, ℕ, zero, suc, ◌+◌, ◌-◌, ◌*◌, ◌%◌, ◌<◌, ◌≤◌, List, [], ◌∷◌, ◌++◌, Option, Some, None}
+use Rattle.std.proofs.Common.{length, take, drop, refl, sym, ap, subst, ◌∙◌, arith, append_assoc, append-nil}
+use Rattle.std.proofs.Common.{length-drop}
 use Rattle.std.proofs.lemmas.List.{length-take-le, take-append-drop}
 use Rattle.std.specs.Option.{option_map, option_and_then}
 use Rattle.request_plan.specs.Plan.{Plan}
@@ -7,7 +9,8 @@ use Rattle.rv32_core.specs.Access.{Access, slice_of, spliced}
 use Rattle.rv32_core.specs.Machine.{CoreState}
 use Rattle.rv32_core.specs.Transfer.{pieces_within, pieces, stores_plan, loads_plan}
 use Rattle.rv32_core.specs.LineList.{LineKind, Read, Write, LineUse, line_of, lines_of, used}
-use Rattle.rv32_core.proofs.TransferLaws.{first_length, pieces_within-none, pieces_within-more, spliced-spliced, spliced-none, slice_of-append}
+use Rattle.rv32_core.proofs.TransferLaws.{first_length, pieces_within-none, pieces_within-more, spliced-spliced}
+use Rattle.rv32_core.proofs.TransferLaws.{spliced-none, slice_of-append}
 use Rattle.rv32_core.proofs.LineLaws.{lines_of-more}
 use Rattle.data_cache.specs.Cached.{line_at, place_at}
 use Rattle.fed_run.specs.Fed.{Feed, fed_uses}

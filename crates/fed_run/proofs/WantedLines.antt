@@ -1,5 +1,8 @@
 -- Where an instruction over the cache's lists is stopped, a fetch of it was still to come.
-use Rattle.std.proofs.Common.{◌≡◌, ◌⊎◌, ℕ, zero, suc, ◌+◌, ◌-◌, ◌*◌, ◌%◌, ◌<◌, ◌≤◌, Bool, true, false, cond, not, ◌==◌, ◌||◌, ◌&&◌, if◌then◌else◌, List, [], ◌∷◌, Option, Some, None, length, get_or, set, refl, sym, ap, subst, ◌∙◌, arith, inl, inr, length-set, length-take, get_or-set_same, get_or-set_other}
+use Rattle.std.proofs.Common.{◌≡◌, ◌⊎◌, ℕ, zero, suc, ◌+◌, ◌-◌, ◌*◌, ◌%◌, ◌<◌, ◌≤◌, Bool, true, false, cond, not, ◌==◌}
+use Rattle.std.proofs.Common.{◌||◌, ◌&&◌, if◌then◌else◌, List, [], ◌∷◌, Option, Some, None, length, get_or, set, refl}
+use Rattle.std.proofs.Common.{sym, ap, subst, ◌∙◌, arith, inl, inr, length-set, length-take, get_or-set_same}
+use Rattle.std.proofs.Common.{get_or-set_other}
 use Rattle.std.specs.Prelude.{slice_get}
 use Rattle.std.proofs.lemmas.Bool.Decides.{eqb_tells}
 use Rattle.request_plan.specs.Plan.{Plan, Done, Ask, bind, through, Outcomes}
@@ -10,7 +13,8 @@ use Rattle.rv32_core.specs.Access.{Access, Load, Store, slice_of, spliced}
 use Rattle.rv32_core.specs.LineList.{LineUse, Read, Write}
 use Rattle.data_cache.specs.Lines.{LineRequest, Fetch}
 use Rattle.data_cache.specs.Lines as lines
-use Rattle.data_cache.specs.CacheLists.{Kept, Sets, Lines, needs, keeps, others, set_of, with_kept, set_after, victim, line_in, stored, fetched, set_settled, ask_all, use_set, after_use, write_lines}
+use Rattle.data_cache.specs.CacheLists.{Kept, Sets, Lines, needs, keeps, others, set_of, with_kept, set_after, victim}
+use Rattle.data_cache.specs.CacheLists.{line_in, stored, fetched, set_settled, ask_all, use_set, after_use, write_lines}
 use Rattle.data_cache.specs.Cached.{line_at, place_at, lists_access}
 use Rattle.fed_run.specs.Answered.{line_source}
 use Rattle.fed_run.proofs.NotedLines.{Wants, IsStarved, starved-after}

@@ -1,7 +1,9 @@
 -- A whole run, from an empty cache on: its image lines fetch nothing, and its instructions are those of the machine
 -- that
 -- is fed.
-use Rattle.std.proofs.Common.{◌≡◌, ◌⊎◌, ℕ, zero, suc, ◌+◌, ◌-◌, ◌*◌, ◌%◌, ◌<◌, Bool, true, false, if◌then◌else◌, List, [], ◌∷◌, ◌++◌, All, Option, Some, None, Result, Ok, length, drop, replicate, refl, sym, ap, subst, inl, inr, arith, ◌∙◌, append-nil, length-drop}
+use Rattle.std.proofs.Common.{◌≡◌, ◌⊎◌, ℕ, zero, suc, ◌+◌, ◌-◌, ◌*◌, ◌%◌, ◌<◌, Bool, true, false, if◌then◌else◌, List}
+use Rattle.std.proofs.Common.{[], ◌∷◌, ◌++◌, All, Option, Some, None, Result, Ok, length, drop, replicate, refl, sym}
+use Rattle.std.proofs.Common.{ap, subst, inl, inr, arith, ◌∙◌, append-nil, length-drop}
 use Rattle.std.proofs.lemmas.List.{length-take-le}
 use Rattle.request_plan.specs.Plan.{Plan, Done as Outcome, Ask, through, Ends, Stops, Asks, Outcomes, Alike}
 use Rattle.request_plan.specs.Course.{Course, Finished, Starved, Astray, after_course, course, UsesAll}
@@ -21,7 +23,8 @@ use Rattle.rv32_core.specs.declared.outcome.Ended.TheVariants.{No, Exit, Trap}
 use Rattle.rv32_core.proofs.RunLaws.{run_plan-none, run_plan-next, Asks-run_plan}
 use Rattle.data_cache.specs.Lines.{LineRequest, IsLineAnswer, Fetch}
 use Rattle.data_cache.specs.Lines as lines
-use Rattle.data_cache.specs.CacheLists.{Kept, Sets, Lines, no_lines, line_in, set_of, with_kept, set_after, sets_after, victim, stored, ask_all, use_set, after_use, write_whole_line}
+use Rattle.data_cache.specs.CacheLists.{Kept, Sets, Lines, no_lines, line_in, set_of, with_kept, set_after, sets_after}
+use Rattle.data_cache.specs.CacheLists.{victim, stored, ask_all, use_set, after_use, write_whole_line}
 use Rattle.data_cache.specs.Contents.{Contents, write_line_plan}
 use Rattle.data_cache.specs.Cached.{cache_access, lists_access, HasBytes, StandsAs, StandsLeft}
 use Rattle.data_cache.proofs.AccessAlike.{access-alike, whole-stands-as}

@@ -3,7 +3,8 @@
 ghost use Rattle.std.specs.Prelude.{◌≡◌, ℕ, suc, ◌+◌, ◌≤◌, List, ◌++◌};
 ghost use Rattle.rv32_core.specs.FlatRun.{FlatEnding, Budget};
 ghost use Rattle.rv32_core.specs.Machine.{Machine};
-ghost use Rattle.fed_run.specs.Fed.{Feed, Ends, fed_step, fed_from, fed_run, fed_gone_on, IsDone, with_more, run_with_more};
+ghost use Rattle.fed_run.specs.Fed.{Feed, Ends, fed_step, fed_from, fed_run, fed_gone_on, IsDone, with_more};
+ghost use Rattle.fed_run.specs.Fed.{run_with_more};
 
 /// A run that is fed is its first instruction and the run from there, and n instructions and then k more are n + k:
 /// where all n finished it goes on from there, and one that ended or starved stays as it is. Never more than n finish;

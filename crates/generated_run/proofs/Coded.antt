@@ -1,5 +1,6 @@
 -- The instructions of the program stand in its words, and each is decoded from its own.
-use Rattle.std.proofs.Common.{◌≡◌, ◌∙◌, ℕ, zero, suc, ◌^◌, ◌<◌, List, [], ◌∷◌, ◌++◌, length, map, ap, sym, refl, arith, Bool, true}
+use Rattle.std.proofs.Common.{◌≡◌, ◌∙◌, ℕ, zero, suc, ◌^◌, ◌<◌, List, [], ◌∷◌, ◌++◌, length, map, ap, sym, refl, arith}
+use Rattle.std.proofs.Common.{Bool, true}
 use Rattle.std.specs.Prelude.{nat_lt, slice_index, slice_index_or, Some, None}
 use Rattle.std.specs.List.{list_all}
 use Rattle.std.proofs.lemmas.List.{get_or_append_left, get_or-map}

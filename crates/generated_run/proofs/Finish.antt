@@ -1,5 +1,6 @@
 -- The instructions behind the loop: the hash is written, and the program exits.
-use Rattle.std.proofs.Common.{◌≡◌, ◌∙◌, ℕ, suc, ◌<◌, List, [], ◌∷◌, ◌++◌, length, ap, sym, refl, subst, arith, length-append, lit<}
+use Rattle.std.proofs.Common.{◌≡◌, ◌∙◌, ℕ, suc, ◌<◌, List, [], ◌∷◌, ◌++◌, length, ap, sym, refl, subst, arith}
+use Rattle.std.proofs.Common.{length-append, lit<}
 use Rattle.std.specs.Prelude.{if◌then◌else◌, pos}
 use Rattle.std.specs.Int.{to_le_bytes, w32}
 use Rattle.rv32_table.specs.Meaning.{register_meaning}

@@ -1,5 +1,6 @@
 -- The memory that the loader gives a file of words: zeros, the words from the program's start on, and zeros.
-use Rattle.std.proofs.Common.{◌≡◌, ◌∙◌, ℕ, zero, suc, ◌+◌, ◌-◌, ◌*◌, ◌^◌, ◌<◌, ◌≤◌, List, [], ◌∷◌, ◌++◌, length, map, replicate, ap, refl, arith, length-append, Bool, true, false}
+use Rattle.std.proofs.Common.{◌≡◌, ◌∙◌, ℕ, zero, suc, ◌+◌, ◌-◌, ◌*◌, ◌^◌, ◌<◌, ◌≤◌, List, [], ◌∷◌, ◌++◌, length, map}
+use Rattle.std.proofs.Common.{replicate, ap, refl, arith, length-append, Bool, true, false}
 use Rattle.std.specs.Prelude.{nat_le, nat_lt, ◌&&◌, cond, Some, None, slice_index}
 use Rattle.std.specs.List.{find, range_with_len}
 use Rattle.std.specs.Int.{to_le_bytes, w32}

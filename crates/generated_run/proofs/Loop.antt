@@ -1,5 +1,6 @@
 -- The loop: each turn keeps its invariant, and all turns take all words.
-use Rattle.std.proofs.Common.{◌≡◌, ◌∙◌, ℕ, suc, ◌+◌, ◌*◌, ◌%◌, ◌^◌, ◌<◌, List, [], ◌∷◌, ◌++◌, length, ap, sym, refl, subst, arith, append_assoc, length-append, Bool, true}
+use Rattle.std.proofs.Common.{◌≡◌, ◌∙◌, ℕ, suc, ◌+◌, ◌*◌, ◌%◌, ◌^◌, ◌<◌, List, [], ◌∷◌, ◌++◌, length, ap, sym, refl}
+use Rattle.std.proofs.Common.{subst, arith, append_assoc, length-append, Bool, true}
 use Rattle.std.specs.Prelude.{nat_lt, ◌&&◌}
 use Rattle.std.specs.List.{All, list_all, fold}
 use Rattle.std.proofs.lemmas.Bool.{ltb-true, lt-ltb}
@@ -10,7 +11,8 @@ use Rattle.rv32_core.specs.Machine.{Machine}
 use Rattle.rv32_asm.proofs.TestLaws.{and_first, and_second, and_both}
 use Rattle.generated_run.specs.Hash.{hash_after}
 use Rattle.generated_run.specs.Leads.{Leads}
-use Rattle.generated_run.specs.States.{code, laid, Surroundings, HasRoom, regs, machine_before, address_of_word, turn_at, IsTurning}
+use Rattle.generated_run.specs.States.{code, laid, Surroundings, HasRoom, regs, machine_before, address_of_word}
+use Rattle.generated_run.specs.States.{turn_at, IsTurning}
 use Rattle.generated_run.proofs.LeadLaws.{leads_none, ◌▸◌}
 use Rattle.generated_run.proofs.Coded.{length_code}
 use Rattle.generated_run.proofs.Turn.{bytes, room_after, leads_to_branch, goes_on, turns}

@@ -1,5 +1,6 @@
 -- One instruction of a program whose words stand in the memory.
-use Rattle.std.proofs.Common.{◌≡◌, ◌∙◌, ℕ, ◌+◌, ◌-◌, ◌*◌, ◌%◌, ◌^◌, ◌<◌, List, length, ap, refl, arith, Bool, true, false}
+use Rattle.std.proofs.Common.{◌≡◌, ◌∙◌, ℕ, ◌+◌, ◌-◌, ◌*◌, ◌%◌, ◌^◌, ◌<◌, List, length, ap, refl, arith, Bool, true}
+use Rattle.std.proofs.Common.{false}
 use Rattle.std.specs.Prelude.{◌==◌, nat_le, ◌&&◌, if◌then◌else◌, ℤ, slice_index, slice_set, Option, Some}
 use Rattle.std.specs.Int.{from_le_bytes, to_le_bytes, w32}
 use Rattle.std.proofs.lemmas.Bool.{le-leb, eq-eqb}
@@ -11,7 +12,8 @@ use Rattle.rv32_table.specs.declared.instruction.Instr.TheVariants.{Load, Store}
 use Rattle.rv32_table.specs.declared.instruction.LoadOp.TheVariants.{Lw}
 use Rattle.rv32_table.specs.declared.instruction.StoreOp.TheVariants.{Sw}
 use Rattle.rv32_core.specs.Access.{slice_of, spliced}
-use Rattle.rv32_core.specs.Machine.{Machine, register, at_pc, next_pc, effect_of_decoded, effect_of, cost_of_decoded, load_from, store_at}
+use Rattle.rv32_core.specs.Machine.{Machine, register, at_pc, next_pc, effect_of_decoded, effect_of, cost_of_decoded}
+use Rattle.rv32_core.specs.Machine.{load_from, store_at}
 use Rattle.rv32_core.specs.FlatMachine.{FlatStep, set_to, stepped, effected, flat_step}
 use Rattle.rv32_core.specs.declared.effect.Effect.{Effect}
 use Rattle.rv32_core.specs.declared.effect.Effect.TheVariants.{Sets, Loads, Stores}

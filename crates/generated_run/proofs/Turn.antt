@@ -1,5 +1,6 @@
 -- The instructions of the program, up to the loop and one turn of it.
-use Rattle.std.proofs.Common.{◌≡◌, ◌∙◌, ℕ, suc, ◌+◌, ◌-◌, ◌*◌, ◌%◌, ◌^◌, ◌<◌, List, [], ◌∷◌, ◌++◌, length, ap, sym, refl, subst, arith, length-append, lit<}
+use Rattle.std.proofs.Common.{◌≡◌, ◌∙◌, ℕ, suc, ◌+◌, ◌-◌, ◌*◌, ◌%◌, ◌^◌, ◌<◌, List, [], ◌∷◌, ◌++◌, length, ap, sym}
+use Rattle.std.proofs.Common.{refl, subst, arith, length-append, lit<}
 use Rattle.std.specs.Prelude.{◌==◌, not, if◌then◌else◌, false, pos, slice_index, slice_set}
 use Rattle.std.proofs.lemmas.List.{get_or-append-add, set-append_right}
 use Rattle.std.proofs.Math.Seq.{get_or-append_seam, set-append_seam}
@@ -12,7 +13,8 @@ use Rattle.rv32_core.specs.declared.effect.Effect.TheVariants.{Passes, Sets, Jum
 use Rattle.rv32_asm.specs.Generator.{start, program}
 use Rattle.generated_run.specs.Hash.{hash_after}
 use Rattle.generated_run.specs.Leads.{Leads}
-use Rattle.generated_run.specs.States.{code, laid, Surroundings, HasRoom, Registers, regs, machine_before, address_of_word}
+use Rattle.generated_run.specs.States.{code, laid, Surroundings, HasRoom, Registers, regs, machine_before}
+use Rattle.generated_run.specs.States.{address_of_word}
 use Rattle.generated_run.proofs.LeadLaws.{◌▸◌}
 use Rattle.generated_run.proofs.Steps.{leads_to, leads_sets, leads_load, leads_store}
 use Rattle.generated_run.proofs.Coded.{instr_at, coded, length_code}

@@ -1,5 +1,6 @@
 -- The whole run: to the loop, all turns, and to the exit.
-use Rattle.std.proofs.Common.{◌≡◌, ◌∙◌, ℕ, suc, ◌+◌, ◌-◌, ◌*◌, ◌^◌, ◌<◌, ◌≤◌, List, [], ◌∷◌, ◌++◌, length, ap, sym, refl, subst, arith, length-append, true}
+use Rattle.std.proofs.Common.{◌≡◌, ◌∙◌, ℕ, suc, ◌+◌, ◌-◌, ◌*◌, ◌^◌, ◌<◌, ◌≤◌, List, [], ◌∷◌, ◌++◌, length, ap, sym}
+use Rattle.std.proofs.Common.{refl, subst, arith, length-append, true}
 use Rattle.std.specs.List.{list_all, fold}
 use Rattle.std.specs.Int.{to_le_bytes, w32}
 use Rattle.std.proofs.lemmas.List.{append-nil}
@@ -8,7 +9,8 @@ use Rattle.rv32_core.specs.FlatRun.{FlatRun, Exited, finished_before, flat_run}
 use Rattle.generated_run.specs.Hash.{hash_after}
 use Rattle.generated_run.specs.Leads.{Leads}
 use Rattle.generated_run.specs.Written.{IsWritten}
-use Rattle.generated_run.specs.States.{code, laid, Surroundings, HasRoom, regs, machine_before, address_of_word, turn_at, IsTurning}
+use Rattle.generated_run.specs.States.{code, laid, Surroundings, HasRoom, regs, machine_before, address_of_word}
+use Rattle.generated_run.specs.States.{turn_at, IsTurning}
 use Rattle.generated_run.proofs.LeadLaws.{◌▸◌}
 use Rattle.generated_run.proofs.Coded.{length_code}
 use Rattle.generated_run.proofs.Turn.{leads_to_loop}

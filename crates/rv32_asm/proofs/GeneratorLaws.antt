@@ -1,6 +1,7 @@
 -- The generator's text assembles: its lines, the passes over the program's lines, which are computed, and those over
 -- the lines of numbers, by induction.
-use Rattle.std.proofs.Common.{◌≡◌, ◌∙◌, ℕ, zero, suc, ◌+◌, ◌*◌, ◌%◌, ◌^◌, ◌<◌, ◌≤◌, List, [], ◌∷◌, ◌++◌, length, map, ap, sym, refl, arith, append_assoc, length-append, Bool, true, false}
+use Rattle.std.proofs.Common.{◌≡◌, ◌∙◌, ℕ, zero, suc, ◌+◌, ◌*◌, ◌%◌, ◌^◌, ◌<◌, ◌≤◌, List, [], ◌∷◌, ◌++◌, length, map}
+use Rattle.std.proofs.Common.{ap, sym, refl, arith, append_assoc, length-append, Bool, true, false}
 use Rattle.std.specs.Prelude.{◌==◌, nat_lt, nat_le, ◌&&◌, pos, Some, None, Ok, slice_index, codes}
 use Rattle.std.specs.List.{list_all}
 use Rattle.std.specs.Int.{to_le_bytes, w32}
@@ -15,11 +16,13 @@ use Rattle.rv32_asm.specs.Scanning.{numbered, named}
 use Rattle.rv32_asm.specs.Lines.{Parts, lines_of, with_first, is_text_byte, parts_of, without_comment}
 use Rattle.rv32_asm.specs.Values.{multiples}
 use Rattle.rv32_asm.specs.Operands.{Number, Bytes4}
-use Rattle.rv32_asm.specs.Passes.{◌>>>◌, in_line, Labels, statement_of, grown, measured, first_pass, bytes_of_found, valued, second_pass, program_of}
+use Rattle.rv32_asm.specs.Passes.{◌>>>◌, in_line, Labels, statement_of, grown, measured, first_pass, bytes_of_found}
+use Rattle.rv32_asm.specs.Passes.{valued, second_pass, program_of}
 use Rattle.rv32_asm.specs.PassViews.{measure_of}
 use Rattle.rv32_asm.specs.Disassembly.{number_text}
 use Rattle.rv32_asm.specs.File.{words, file_of, assembled}
-use Rattle.rv32_asm.specs.Generator.{data_word, data_words, program_lines, number_line, ended, text_of_lines, program_data, generated_text, start, program, generated_words, generated_file}
+use Rattle.rv32_asm.specs.Generator.{data_word, data_words, program_lines, number_line, ended, text_of_lines}
+use Rattle.rv32_asm.specs.Generator.{program_data, generated_text, start, program, generated_words, generated_file}
 use Rattle.rv32_asm.proofs.TestLaws.{and_first, and_second, and_both, all_both, if_true, if_false}
 use Rattle.rv32_asm.proofs.QuietLaws.{is_quiet, of_text, parts_behind}
 use Rattle.rv32_asm.proofs.PassLaws.{measured_size}

@@ -1,5 +1,6 @@
 -- The first line of a text, and the lines behind it.
-use Rattle.std.proofs.Common.{◌≡◌, ℕ, suc, ◌+◌, ◌-◌, ◌<◌, List, [], ◌∷◌, ◌∙◌, ap, sym, refl, take, drop, length, arith, Bool, true, false}
+use Rattle.std.proofs.Common.{◌≡◌, ℕ, suc, ◌+◌, ◌-◌, ◌<◌, List, [], ◌∷◌, ◌∙◌, ap, sym, refl, take, drop, length, arith}
+use Rattle.std.proofs.Common.{Bool, true, false}
 use Rattle.std.specs.Prelude.{◌==◌, ◌&&◌, not, cond, if◌then◌else◌, slice_index}
 use Rattle.std.proofs.lemmas.Grind.{common_steps}
 use Rattle.rv32_asm.specs.Lines.{lines_of, with_first}

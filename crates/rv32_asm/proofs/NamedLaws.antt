@@ -1,5 +1,6 @@
 -- Each statement's word is found, and the statement of a line that begins with it is the form's with the line's rest.
-use Rattle.std.proofs.Common.{◌≡◌, ◌∙◌, ℕ, ◌+◌, List, ◌++◌, length, take, drop, ap, refl, arith, length-append, true, false}
+use Rattle.std.proofs.Common.{◌≡◌, ◌∙◌, ℕ, ◌+◌, List, ◌++◌, length, take, drop, ap, refl, arith, length-append, true}
+use Rattle.std.proofs.Common.{false}
 use Rattle.std.specs.Prelude.{◌==◌, not, Some, None, Ok, option_map, ok_or}
 use Rattle.std.specs.List.{list_all}
 use Rattle.std.proofs.Math.Seq.{take-append_seam, drop-append_seam}

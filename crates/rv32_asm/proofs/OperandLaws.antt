@@ -5,9 +5,12 @@ use Rattle.std.specs.List.{prefix_len}
 use Rattle.std.specs.Fmt.{signed_decimal}
 use Rattle.std.proofs.lemmas.List.{append-nil}
 use Rattle.rv32_asm.specs.Scanning.{is_blank, is_name, register_of, number_of, after_blanks}
-use Rattle.rv32_asm.specs.Operands.{Number, ◌>>=◌, behind, is_end, target_of, lone, register_at, number_at, register_and_comma, access, register_number, register_target, register_access, registers_number, registers_target, two_registers, three_registers}
+use Rattle.rv32_asm.specs.Operands.{Number, ◌>>=◌, behind, is_end, target_of, lone, register_at, number_at}
+use Rattle.rv32_asm.specs.Operands.{register_and_comma, access, register_number, register_target, register_access}
+use Rattle.rv32_asm.specs.Operands.{registers_number, registers_target, two_registers, three_registers}
 use Rattle.rv32_asm.proofs.TestLaws.{if_false}
-use Rattle.rv32_asm.proofs.PartLaws.{IsPart, IsShort, behind_space, behind_none, read_at, read_last, register_text, register_is, register_part, number_is, number_part, number_no_name}
+use Rattle.rv32_asm.proofs.PartLaws.{IsPart, IsShort, behind_space, behind_none, read_at, read_last, register_text}
+use Rattle.rv32_asm.proofs.PartLaws.{register_is, register_part, number_is, number_part, number_no_name}
 
 -- behind a blank, with what follows
 spaced : (part rest : List ℕ) → IsPart part → after_blanks (32 ∷ (part ++ rest)) ≡ part ++ rest

@@ -1,12 +1,15 @@
 -- Registers and numbers read from where they are written.
-use Rattle.std.proofs.Common.{◌≡◌, ◌∙◌, ℕ, suc, ◌+◌, ◌^◌, ◌<◌, ◌≤◌, List, [], ◌∷◌, ◌++◌, length, take, drop, ap, sym, refl, arith, rules, Bool, true, false}
-use Rattle.std.specs.Prelude.{◌==◌, ◌&&◌, ◌||◌, cond, not, if◌then◌else◌, ℤ, pos, negsuc, neg_ℤ, bytes_eq, nat_le, codes, Option, Some, None, option_map}
+use Rattle.std.proofs.Common.{◌≡◌, ◌∙◌, ℕ, suc, ◌+◌, ◌^◌, ◌<◌, ◌≤◌, List, [], ◌∷◌, ◌++◌, length, take, drop, ap, sym}
+use Rattle.std.proofs.Common.{refl, arith, rules, Bool, true, false}
+use Rattle.std.specs.Prelude.{◌==◌, ◌&&◌, ◌||◌, cond, not, if◌then◌else◌, ℤ, pos, negsuc, neg_ℤ, bytes_eq, nat_le}
+use Rattle.std.specs.Prelude.{codes, Option, Some, None, option_map}
 use Rattle.std.specs.List.{list_all, prefix_len}
 use Rattle.std.specs.Fmt.{decimal, digits, signed_decimal}
 use Rattle.std.proofs.Math.Seq.{take-append_seam, drop-append_seam}
 use Rattle.std.proofs.lemmas.Bool.{leb-true}
 use Rattle.std.proofs.lemmas.Fmt.{decimal_nonempty}
-use Rattle.rv32_asm.specs.Scanning.{is_blank, is_part, is_name, begins_name, numbered, named, register_of, number_of, natural, after_blanks, part_length}
+use Rattle.rv32_asm.specs.Scanning.{is_blank, is_part, is_name, begins_name, numbered, named, register_of, number_of}
+use Rattle.rv32_asm.specs.Scanning.{natural, after_blanks, part_length}
 use Rattle.rv32_asm.specs.Operands.{is_end, part_of, behind_part, lone}
 use Rattle.rv32_asm.proofs.TestLaws.{and_first, and_second, holds_below, below, all_weaker, prefix_all, if_false}
 use Rattle.rv32_asm.proofs.DecimalLaws.{is_digit, decimal_is, decimal_of}

@@ -4,7 +4,8 @@ use Rattle.std.specs.Prelude.{if◌then◌else◌, Option, Result, Ok, Err}
 use Rattle.std.specs.List.{list_all}
 use Rattle.rv32_asm.specs.Lines.{Parts, parts_of, without_comment, is_text_byte}
 use Rattle.rv32_asm.specs.Operands.{Statement}
-use Rattle.rv32_asm.specs.Passes.{◌>>>◌, in_line, Labels, Measure, statement_of, size_of, labelled, grown, measured, first_pass}
+use Rattle.rv32_asm.specs.Passes.{◌>>>◌, in_line, Labels, Measure, statement_of, size_of, labelled, grown, measured}
+use Rattle.rv32_asm.specs.Passes.{first_pass}
 use Rattle.rv32_asm.specs.PassViews.{measure_of}
 use Rattle.rv32_asm.specs.declared.fault.AsmKind.{AsmKind}
 use Rattle.rv32_asm.specs.declared.fault.AsmKind.TheVariants as kind

@@ -1,16 +1,19 @@
 -- A text without line ends, comments, quoted texts and labels is one line that is its own statement.
-use Rattle.std.proofs.Common.{◌≡◌, ◌∙◌, ℕ, suc, ◌+◌, ◌≤◌, List, [], ◌∷◌, ◌++◌, length, take, ap, sym, refl, arith, Bool, true, false}
+use Rattle.std.proofs.Common.{◌≡◌, ◌∙◌, ℕ, suc, ◌+◌, ◌≤◌, List, [], ◌∷◌, ◌++◌, length, take, ap, sym, refl, arith, Bool}
+use Rattle.std.proofs.Common.{true, false}
 use Rattle.std.specs.Prelude.{◌==◌, nat_lt, nat_le, ◌&&◌, not, Some, None, Ok}
 use Rattle.std.specs.List.{list_all}
 use Rattle.std.proofs.Math.Seq.{take-length}
 use Rattle.std.proofs.lemmas.List.{append-nil}
 use Rattle.std.proofs.lemmas.Bool.{le-leb, le-ltb, eqb-true}
 use Rattle.rv32_asm.specs.Scanning.{after_blanks}
-use Rattle.rv32_asm.specs.Lines.{Parts, lines_of, is_text_byte, quote_after, place_outside, without_comment, parts_at, parts_of}
+use Rattle.rv32_asm.specs.Lines.{Parts, lines_of, is_text_byte, quote_after, place_outside, without_comment, parts_at}
+use Rattle.rv32_asm.specs.Lines.{parts_of}
 use Rattle.rv32_asm.specs.LineViews.{line_end}
 use Rattle.rv32_asm.specs.declared.lines.Quote.TheVariants.{Outside}
 use Rattle.rv32_asm.specs.Operands.{Statement}
-use Rattle.rv32_asm.specs.Passes.{◌>>>◌, in_line, statement_of, size, bytes_of, bytes_of_found, grown, first_pass, valued, second_pass, program_of}
+use Rattle.rv32_asm.specs.Passes.{◌>>>◌, in_line, statement_of, size, bytes_of, bytes_of_found, grown, first_pass}
+use Rattle.rv32_asm.specs.Passes.{valued, second_pass, program_of}
 use Rattle.rv32_asm.specs.PassViews.{measure_of}
 use Rattle.rv32_asm.proofs.LineLaws.{last_of_lines}
 use Rattle.rv32_asm.proofs.PassLaws.{measured_size, first_more}

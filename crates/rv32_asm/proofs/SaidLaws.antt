@@ -1,6 +1,8 @@
 -- The statement of each instruction, and of each number, assembles to its word.
-use Rattle.std.proofs.Common.{◌≡◌, ◌∙◌, ℕ, suc, ◌+◌, ◌*◌, ◌/◌, ◌%◌, ◌^◌, ◌<◌, ◌≤◌, List, [], ◌∷◌, ◌++◌, ap, sym, subst, refl, arith, append_assoc, Bool, true, false}
-use Rattle.std.specs.Prelude.{◌==◌, ◌&&◌, if◌then◌else◌, ℤ, pos, negsuc, neg_ℤ, int_le, int_rem, codes, Some, None, option_map, Ok, Err, MatchBool}
+use Rattle.std.proofs.Common.{◌≡◌, ◌∙◌, ℕ, suc, ◌+◌, ◌*◌, ◌/◌, ◌%◌, ◌^◌, ◌<◌, ◌≤◌, List, [], ◌∷◌, ◌++◌, ap, sym, subst}
+use Rattle.std.proofs.Common.{refl, arith, append_assoc, Bool, true, false}
+use Rattle.std.specs.Prelude.{◌==◌, ◌&&◌, if◌then◌else◌, ℤ, pos, negsuc, neg_ℤ, int_le, int_rem, codes, Some, None}
+use Rattle.std.specs.Prelude.{option_map, Ok, Err, MatchBool}
 use Rattle.std.specs.Ordering.{int_eq}
 use Rattle.std.specs.List.{list_all}
 use Rattle.std.specs.Int.{to_le_bytes, w32}
@@ -23,11 +25,14 @@ use Rattle.rv32_asm.specs.Forms.{form_word}
 use Rattle.rv32_asm.specs.Operands.{Number, Statement, Plain, Numbered, Relative, Bytes4, statement_with}
 use Rattle.rv32_asm.specs.Values.{is_from_to, is_immediate, is_even, takes_number, with_number, numbered}
 use Rattle.rv32_asm.specs.Passes.{◌>>>◌, Labels, instruction_bytes, size, bytes_of, statement_of, program_of}
-use Rattle.rv32_asm.specs.Disassembly.{number_text, upper_text, access_text, number_operand_text, registers_text, instruction_text}
+use Rattle.rv32_asm.specs.Disassembly.{number_text, upper_text, access_text, number_operand_text, registers_text}
+use Rattle.rv32_asm.specs.Disassembly.{instruction_text}
 use Rattle.rv32_asm.proofs.TestLaws.{and_both, all_weaker, all_both, if_true}
 use Rattle.rv32_asm.proofs.DecimalLaws.{is_digit, decimal_is}
 use Rattle.rv32_asm.proofs.PartLaws.{IsShort, digit_passes, register_text, behind_none}
-use Rattle.rv32_asm.proofs.OperandLaws.{comma_text, access_operands, lone_target, register_number_read, register_target_read, register_access_read, registers_number_read, registers_target_read, three_registers_read}
+use Rattle.rv32_asm.proofs.OperandLaws.{comma_text, access_operands, lone_target, register_number_read}
+use Rattle.rv32_asm.proofs.OperandLaws.{register_target_read, register_access_read, registers_number_read}
+use Rattle.rv32_asm.proofs.OperandLaws.{registers_target_read, three_registers_read}
 use Rattle.rv32_asm.proofs.QuietLaws.{is_quiet, program_alone}
 use Rattle.rv32_asm.proofs.NamedLaws.{is_named, statement_named}
 

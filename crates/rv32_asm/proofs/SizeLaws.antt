@@ -1,5 +1,6 @@
 -- A line has as many bytes in the second pass as the first one counted.
-use Rattle.std.proofs.Common.{◌≡◌, ◌∙◌, ℕ, ◌+◌, ◌≤◌, List, [], ◌∷◌, ◌++◌, ap, sym, refl, subst, length, Bool, true, false, arith}
+use Rattle.std.proofs.Common.{◌≡◌, ◌∙◌, ℕ, ◌+◌, ◌≤◌, List, [], ◌∷◌, ◌++◌, ap, sym, refl, subst, length, Bool, true}
+use Rattle.std.proofs.Common.{false, arith}
 use Rattle.std.specs.Borrow.{Bor}
 use Rattle.std.specs.Prelude.{◌<◌, IfSome, if◌then◌else◌, Option, Some, None, Result, Ok, Err, ℤ}
 use Rattle.std.specs.List.{list_all}
@@ -11,7 +12,9 @@ use Rattle.rv32_table.specs.declared.instruction.Instr.{Instr}
 use Rattle.rv32_asm.specs.Lines.{parts_of, without_comment, is_text_byte}
 use Rattle.rv32_asm.specs.Operands.{Statement, Plain, Numbered, Relative, Puts, Bytes4, Bytes1, Text, Zeros, Multiple}
 use Rattle.rv32_asm.specs.Values.{numbered, is_multiple, upper_of, lower_of}
-use Rattle.rv32_asm.specs.Passes.{◌>>>◌, in_line, Labels, Measure, statement_of, size, size_of, is_zero_count, labelled, grown, measured, first_pass, offset_to, value_of, word_of, instruction_bytes, bytes_of, bytes_of_found, valued, second_pass}
+use Rattle.rv32_asm.specs.Passes.{◌>>>◌, in_line, Labels, Measure, statement_of, size, size_of, is_zero_count, labelled}
+use Rattle.rv32_asm.specs.Passes.{grown, measured, first_pass, offset_to, value_of, word_of, instruction_bytes}
+use Rattle.rv32_asm.specs.Passes.{bytes_of, bytes_of_found, valued, second_pass}
 use Rattle.rv32_asm.specs.PassViews.{measure_of, behind_bytes, left_of, fault_in, Gives, GivesProgram}
 use Rattle.rv32_asm.specs.declared.problem.Problem.{Problem}
 use Rattle.rv32_asm.specs.declared.problem.Problem.TheVariants as problem

@@ -3,10 +3,14 @@ use Rattle.std.specs.Prelude.{ℕ, List, [], ◌∷◌, Option, codes, find, byt
 use Rattle.rv32_table.specs.declared.instruction.BranchOp.TheVariants.{Beq, Bne, Blt, Bge, Bltu, Bgeu}
 use Rattle.rv32_table.specs.declared.instruction.LoadOp.TheVariants.{Lb, Lh, Lw, Lbu, Lhu}
 use Rattle.rv32_table.specs.declared.instruction.StoreOp.TheVariants.{Sb, Sh, Sw}
-use Rattle.rv32_table.specs.declared.instruction.ImmOp.TheVariants.{Addi, Slti, Sltiu, Xori, Ori, Andi, Slli, Srli, Srai}
-use Rattle.rv32_table.specs.declared.instruction.RegOp.TheVariants.{Add, Sub, Sll, Slt, Sltu, Xor, Srl, Sra, Or, And, Mul, Mulh, Mulhsu, Mulhu, Div, Divu, Rem, Remu}
+use Rattle.rv32_table.specs.declared.instruction.ImmOp.TheVariants.{Addi, Slti, Sltiu, Xori, Ori, Andi, Slli, Srli}
+use Rattle.rv32_table.specs.declared.instruction.ImmOp.TheVariants.{Srai}
+use Rattle.rv32_table.specs.declared.instruction.RegOp.TheVariants.{Add, Sub, Sll, Slt, Sltu, Xor, Srl, Sra, Or, And}
+use Rattle.rv32_table.specs.declared.instruction.RegOp.TheVariants.{Mul, Mulh, Mulhsu, Mulhu, Div, Divu, Rem, Remu}
 use Rattle.rv32_asm.specs.declared.form.Form.{Form}
-use Rattle.rv32_asm.specs.declared.form.Form.TheVariants.{Lui, Auipc, Jal, Jump, Jalr, Branch, Load, Store, OpImm, Op, Ecall, Ebreak, Fence, FenceI, Nop, Ret, Li, La, Word, Byte, Ascii, Zero, Balign}
+use Rattle.rv32_asm.specs.declared.form.Form.TheVariants.{Lui, Auipc, Jal, Jump, Jalr, Branch, Load, Store, OpImm, Op}
+use Rattle.rv32_asm.specs.declared.form.Form.TheVariants.{Ecall, Ebreak, Fence, FenceI, Nop, Ret, Li, La, Word, Byte}
+use Rattle.rv32_asm.specs.declared.form.Form.TheVariants.{Ascii, Zero, Balign}
 use Rattle.rv32_asm.specs.Words.{branch_word, load_word, store_word, immediate_word, register_word}
 
 -- every statement

@@ -1,7 +1,8 @@
 -- What the code's statements and operands are.
 use Rattle.std.specs.Prelude.{ℕ, List, Option, option_map}
 use Rattle.std.specs.Borrow.{Bor}
-use Rattle.rv32_asm.specs.Operands.{Target, Number, Label, Statement, Plain, Numbered, Relative, Puts, Bytes4, Bytes1, Text, Zeros, Multiple}
+use Rattle.rv32_asm.specs.Operands.{Target, Number, Label, Statement, Plain, Numbered, Relative, Puts, Bytes4, Bytes1}
+use Rattle.rv32_asm.specs.Operands.{Text, Zeros, Multiple}
 use Rattle.rv32_asm.specs.declared.operands.Operand as code_target
 use Rattle.rv32_asm.specs.declared.operands.Operand.TheVariants as target
 use Rattle.rv32_asm.specs.declared.operands.Line as code_statement

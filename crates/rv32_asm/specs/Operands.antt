@@ -1,11 +1,14 @@
 -- The operands of a statement, read from the front of what stands behind its word.
-use Rattle.std.specs.Prelude.{ℕ, suc, ◌+◌, ◌==◌, ℤ, pos, Bool, true, false, ◌||◌, if◌then◌else◌, List, [], ◌∷◌, length, take, drop, slice_index, Option, Some, None, option_map, option_and_then}
+use Rattle.std.specs.Prelude.{ℕ, suc, ◌+◌, ◌==◌, ℤ, pos, Bool, true, false, ◌||◌, if◌then◌else◌, List, [], ◌∷◌, length}
+use Rattle.std.specs.Prelude.{take, drop, slice_index, Option, Some, None, option_map, option_and_then}
 use Rattle.rv32_table.specs.declared.instruction.ImmOp.TheVariants.{Addi}
 use Rattle.rv32_table.specs.declared.instruction.Instr.{Instr}
 use Rattle.rv32_table.specs.declared.instruction.Instr.TheVariants as instr
 use Rattle.rv32_asm.specs.Scanning.{is_name, after_blanks, part_length, register_of, number_of}
 use Rattle.rv32_asm.specs.declared.form.Form.{Form}
-use Rattle.rv32_asm.specs.declared.form.Form.TheVariants.{Lui, Auipc, Jal, Jump, Jalr, Branch, Load, Store, OpImm, Op, Ecall, Ebreak, Fence, FenceI, Nop, Ret, Li, La, Word, Byte, Ascii, Zero, Balign}
+use Rattle.rv32_asm.specs.declared.form.Form.TheVariants.{Lui, Auipc, Jal, Jump, Jalr, Branch, Load, Store, OpImm, Op}
+use Rattle.rv32_asm.specs.declared.form.Form.TheVariants.{Ecall, Ebreak, Fence, FenceI, Nop, Ret, Li, La, Word, Byte}
+use Rattle.rv32_asm.specs.declared.form.Form.TheVariants.{Ascii, Zero, Balign}
 
 -- a number, or the name of a label
 pub data Target : Type 0 where

@@ -1,7 +1,9 @@
 -- The relation from a text to a file's program bytes or its first fault: a first pass for places, labels and sizes, and
 -- a
 -- second one for values.
-use Rattle.std.specs.Prelude.{ℕ, ◌+◌, ◌-◌, ◌%◌, ◌==◌, nat_le, ℤ, pos, neg_ℤ, ◌-ℤ◌, unsigned_abs, Bool, ◌&&◌, not, if◌then◌else◌, List, [], ◌∷◌, ◌++◌, length, take, drop, replicate, Option, Some, None, option_map, ok_or, Result, Ok, Err, bytes_eq, false}
+use Rattle.std.specs.Prelude.{ℕ, ◌+◌, ◌-◌, ◌%◌, ◌==◌, nat_le, ℤ, pos, neg_ℤ, ◌-ℤ◌, unsigned_abs, Bool, ◌&&◌, not}
+use Rattle.std.specs.Prelude.{if◌then◌else◌, List, [], ◌∷◌, ◌++◌, length, take, drop, replicate, Option, Some, None}
+use Rattle.std.specs.Prelude.{option_map, ok_or, Result, Ok, Err, bytes_eq, false}
 use Rattle.std.specs.Option.{is_some}
 use Rattle.std.specs.List.{list_all}
 use Rattle.std.specs.Int.{to_le_bytes, w32}
@@ -11,7 +13,8 @@ use Rattle.rv32_table.specs.declared.instruction.Instr.{Instr}
 use Rattle.rv32_asm.specs.Scanning.{is_name}
 use Rattle.rv32_asm.specs.Lines.{lines_of, is_text_byte, without_comment, parts_of, word_length}
 use Rattle.rv32_asm.specs.Forms.{form_of}
-use Rattle.rv32_asm.specs.Operands.{Target, Number, Label, Statement, Plain, Numbered, Relative, Puts, Bytes4, Bytes1, Text, Zeros, Multiple, unescaped, statement_with}
+use Rattle.rv32_asm.specs.Operands.{Target, Number, Label, Statement, Plain, Numbered, Relative, Puts, Bytes4, Bytes1}
+use Rattle.rv32_asm.specs.Operands.{Text, Zeros, Multiple, unescaped, statement_with}
 use Rattle.rv32_asm.specs.Values.{is_from_to, is_multiple, numbered, upper_of, lower_of}
 use Rattle.rv32_asm.specs.declared.form.Form.{Form}
 use Rattle.rv32_asm.specs.declared.fault.AsmKind.{AsmKind}

@@ -2,7 +2,8 @@
 use Rattle.std.specs.Prelude.{◌<◌}
 use Rattle.rv32_table.specs.Fits.{Fits}
 use Rattle.rv32_table.specs.declared.instruction.Instr.{Instr}
-use Rattle.rv32_table.specs.declared.instruction.Instr.TheVariants.{Lui, Auipc, Jal, Jalr, Branch, Load, Store, OpImm, Op, Fence, FenceI, Ecall, Ebreak}
+use Rattle.rv32_table.specs.declared.instruction.Instr.TheVariants.{Lui, Auipc, Jal, Jalr, Branch, Load, Store, OpImm}
+use Rattle.rv32_table.specs.declared.instruction.Instr.TheVariants.{Op, Fence, FenceI, Ecall, Ebreak}
 use Rattle.rv32_asm.specs.declared.operands.Line as line
 use Rattle.rv32_asm.specs.declared.operands.Line.TheVariants as lines
 

@@ -1,5 +1,6 @@
 -- The numbers of statements: their ranges, and the instructions that have them.
-use Rattle.std.specs.Prelude.{ℕ, ◌*◌, ◌%◌, ◌^◌, nat_lt, ℤ, pos, neg_ℤ, ◌-ℤ◌, int_le, int_rem, unsigned_abs, Bool, false, ◌&&◌, if◌then◌else◌, List, [], ◌∷◌, Option, Some, None}
+use Rattle.std.specs.Prelude.{ℕ, ◌*◌, ◌%◌, ◌^◌, nat_lt, ℤ, pos, neg_ℤ, ◌-ℤ◌, int_le, int_rem, unsigned_abs, Bool, false}
+use Rattle.std.specs.Prelude.{◌&&◌, if◌then◌else◌, List, [], ◌∷◌, Option, Some, None}
 use Rattle.std.specs.List.{list_any}
 use Rattle.std.specs.Ordering.{int_eq}
 use Rattle.rv32_table.specs.Fits.{is_shift}
@@ -7,7 +8,8 @@ use Rattle.rv32_table.specs.Meaning.{low_word}
 use Rattle.rv32_table.specs.declared.instruction.ImmOp.{ImmOp}
 use Rattle.rv32_table.specs.declared.instruction.ImmOp.TheVariants.{Addi}
 use Rattle.rv32_table.specs.declared.instruction.Instr.{Instr}
-use Rattle.rv32_table.specs.declared.instruction.Instr.TheVariants.{Lui, Auipc, Jal, Jalr, Branch, Load, Store, OpImm, Op, Fence, FenceI, Ecall, Ebreak}
+use Rattle.rv32_table.specs.declared.instruction.Instr.TheVariants.{Lui, Auipc, Jal, Jalr, Branch, Load, Store, OpImm}
+use Rattle.rv32_table.specs.declared.instruction.Instr.TheVariants.{Op, Fence, FenceI, Ecall, Ebreak}
 
 -- a number from one to another
 abbrev pub is_from_to : ℤ → ℤ → ℤ → Bool

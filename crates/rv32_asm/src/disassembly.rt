@@ -3,7 +3,8 @@
 ghost use Rattle.std.specs.Prelude.{◌≡◌, ◌++◌, ◌^◌, ◌<◌, Some, OnOk, OnErr};
 ghost use Rattle.std.specs.Fmt.{DisplaysOnOk};
 ghost use Rattle.rv32_table.specs.Fits.{Fits};
-ghost use Rattle.rv32_asm.specs.Disassembly.{text_of, instruction_text, upper_text, access_text, number_operand_text, registers_text, fence_text, fence_i_text};
+ghost use Rattle.rv32_asm.specs.Disassembly.{text_of, instruction_text, upper_text, access_text, number_operand_text};
+ghost use Rattle.rv32_asm.specs.Disassembly.{registers_text, fence_text, fence_i_text};
 
 use crate::words::{branch_word, immediate_word, load_word, register_word, store_word};
 use asc_base::NoMemory;

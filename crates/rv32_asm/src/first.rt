@@ -1,12 +1,14 @@
 //! The first pass: labels, their places, and how many bytes there are.
 
-ghost use Rattle.std.specs.Prelude.{◌≡◌, ◌≤◌, ◌<◌, ◌+◌, ◌^◌, ℕ, Ok, IfOk, IfSome, length, unsigned_abs, if◌then◌else◌, []};
+ghost use Rattle.std.specs.Prelude.{◌≡◌, ◌≤◌, ◌<◌, ◌+◌, ◌^◌, ℕ, Ok, IfOk, IfSome, length, unsigned_abs, if◌then◌else◌};
+ghost use Rattle.std.specs.Prelude.{[]};
 ghost use Rattle.rv32_asm.specs.Lines.{lines_of};
 ghost use Rattle.rv32_asm.specs.Registers.{IsReady};
 ghost use Rattle.rv32_asm.specs.Values.{is_multiple};
 ghost use Rattle.rv32_asm.specs.LineViews.{lines_from};
 ghost use Rattle.rv32_asm.specs.OperandViews.{statement_view, text_view};
-ghost use Rattle.rv32_asm.specs.Passes.{Labels as Listing, statement_of, is_zero_count, padding, size, size_of, labelled, grown, measured, first_pass};
+ghost use Rattle.rv32_asm.specs.Passes.{Labels as Listing, statement_of, is_zero_count, padding, size, size_of};
+ghost use Rattle.rv32_asm.specs.Passes.{labelled, grown, measured, first_pass};
 ghost use Rattle.rv32_asm.specs.PassViews.{labels_of, measure_of, found_view, Gives, GivesProgram};
 
 use crate::fault::{AsmFault, AsmKind};

@@ -2,7 +2,8 @@
 
 ghost use Rattle.std.specs.Prelude.{◌≡◌, ◌≤◌, ◌<◌, ◌∷◌, [], length, IfSome};
 ghost use Rattle.std.specs.List.{list_all};
-ghost use Rattle.rv32_asm.specs.Lines.{lines_of, is_text_byte, quote_after, place_outside, without_comment, parts_of, word_length};
+ghost use Rattle.rv32_asm.specs.Lines.{lines_of, is_text_byte, quote_after, place_outside, without_comment, parts_of};
+ghost use Rattle.rv32_asm.specs.Lines.{word_length};
 ghost use Rattle.rv32_asm.specs.LineViews.{line_end, without_return, lines_from, parts_view};
 
 use crate::scanning::{after_blanks, is_blank};

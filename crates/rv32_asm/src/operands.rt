@@ -2,10 +2,15 @@
 
 ghost use Rattle.std.specs.Prelude.{◌≡◌, ◌<◌, Some, IfSome, option_map};
 ghost use Rattle.rv32_asm.specs.Scanning.{register_of, number_of};
-ghost use Rattle.rv32_asm.specs.Operands.{behind, is_end, part_of, behind_part, target_of, label_of, register_at, number_at, register_and_comma, lone, access, register_number, register_target, register_label, register_access, registers_number, registers_target, two_registers, three_registers, quoted, whole, statement_with};
+ghost use Rattle.rv32_asm.specs.Operands.{behind, is_end, part_of, behind_part, target_of, label_of, register_at};
+ghost use Rattle.rv32_asm.specs.Operands.{number_at, register_and_comma, lone, access, register_number};
+ghost use Rattle.rv32_asm.specs.Operands.{register_target, register_label, register_access, registers_number};
+ghost use Rattle.rv32_asm.specs.Operands.{registers_target, two_registers, three_registers, quoted, whole};
+ghost use Rattle.rv32_asm.specs.Operands.{statement_with};
 ghost use Rattle.rv32_table.specs.Fits.{Fits};
 ghost use Rattle.rv32_asm.specs.Registers.{IsReady};
-ghost use Rattle.rv32_asm.specs.OperandViews.{target_view, statement_view, read_view, text_view, lone_view, with_target_view, with_targets_view};
+ghost use Rattle.rv32_asm.specs.OperandViews.{target_view, statement_view, read_view, text_view, lone_view};
+ghost use Rattle.rv32_asm.specs.OperandViews.{with_target_view, with_targets_view};
 
 use crate::form::Form;
 use crate::quoted::quoted_length;

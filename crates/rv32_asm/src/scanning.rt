@@ -2,7 +2,9 @@
 
 ghost use Rattle.std.specs.Prelude.{◌≡◌, ◌<◌, ◌≤◌, ◌^◌, length, IfSome, pos, neg_ℤ, ◌<ℤ◌, ◌≤ℤ◌, position, bytes_eq};
 ghost use Rattle.std.specs.List.{list_all};
-ghost use Rattle.rv32_asm.specs.Scanning.{is_blank, is_between, begins_name, goes_on_name, is_name, is_part, blank_length, after_blanks, part_length, register_of, digits_after, digits_of, natural, number_of};
+ghost use Rattle.rv32_asm.specs.Scanning.{is_blank, is_between, begins_name, goes_on_name, is_name, is_part};
+ghost use Rattle.rv32_asm.specs.Scanning.{blank_length, after_blanks, part_length, register_of, digits_after};
+ghost use Rattle.rv32_asm.specs.Scanning.{digits_of, natural, number_of};
 
 /// A space or a tab.
 pub(crate) fn is_blank(byte: u8) -> bool

@@ -8,7 +8,8 @@ ghost use Rattle.rv32_asm.specs.Lines.{lines_of};
 ghost use Rattle.rv32_asm.specs.Operands.{Relative, Puts, Bytes4, Bytes1, Zeros, Multiple};
 ghost use Rattle.rv32_asm.specs.OperandViews.{target_view, statement_view};
 ghost use Rattle.rv32_asm.specs.Registers.{HasRegisters, IsReady};
-ghost use Rattle.rv32_asm.specs.Passes.{value_of, offset_to, instruction_bytes, word_of, bytes_of, valued, first_pass, second_pass};
+ghost use Rattle.rv32_asm.specs.Passes.{value_of, offset_to, instruction_bytes, word_of, bytes_of, valued, first_pass};
+ghost use Rattle.rv32_asm.specs.Passes.{second_pass};
 ghost use Rattle.rv32_asm.specs.PassViews.{labels_of, measure_of, behind_bytes, Gives, GivesProgram};
 
 use crate::fault::{AsmFault, AsmKind};

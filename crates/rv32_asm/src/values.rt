@@ -5,7 +5,8 @@ ghost use Rattle.std.specs.Ordering.{int_eq};
 ghost use Rattle.std.specs.List.{list_any};
 ghost use Rattle.rv32_table.specs.Fits.{Fits};
 ghost use Rattle.rv32_asm.specs.Registers.{HasRegisters};
-ghost use Rattle.rv32_asm.specs.Values.{is_multiple, is_immediate, is_even, is_operand, takes_number, with_number, numbered, low_part, upper_of, lower_of};
+ghost use Rattle.rv32_asm.specs.Values.{is_multiple, is_immediate, is_even, is_operand, takes_number, with_number};
+ghost use Rattle.rv32_asm.specs.Values.{numbered, low_part, upper_of, lower_of};
 
 use rv32_table::{ImmOp, Instr};
 

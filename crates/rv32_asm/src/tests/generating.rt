@@ -1,5 +1,5 @@
-//! Programs that are made from a number: the words that LLVM's assembler gives for the instructions, and data words that
-//! were computed apart from this program (`tools/generated_words.py`).
+//! Programs that are made from a number: the words that LLVM's assembler gives for the instructions, and data words
+//! that were computed apart from this program (`tools/generated_words.py`).
 
 use super::*;
 

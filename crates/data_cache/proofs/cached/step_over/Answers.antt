@@ -1,6 +1,7 @@
 use Rattle.std.proofs.lemmas.Result.{IfOk-weaker, IfErr-weaker}
 use Rattle.rv32_core.specs.StepPlan.{machine_of, step_plan}
-use Rattle.data_cache.proofs.CachedLaws.{chain-ends, chain-stops, cache_name-ends, cache_name-stops, store_name-ends, store_name-stops, on-both}
+use Rattle.data_cache.proofs.CachedLaws.{chain-ends, chain-stops, cache_name-ends, cache_name-stops, store_name-ends}
+use Rattle.data_cache.proofs.CachedLaws.{store_name-stops, on-both}
 use Rattle.data_cache.proofs.cached.step_over.Goals as goal
 
 pub returns-clause-ok : goal.returns-clause-ok

@@ -15,7 +15,8 @@ assemble-requires-clause-short c =
     subst P (sym (c.as_bytes.ensures.value ∙ text)) (text_short c.args.seed c.args.words c.requires.most)
 
 -- what has a program has no fault
-no_fault : (meant : Result (List ℕ) AsmFault) (file : List ℕ) (fault : AsmFault) → meant ≡ Ok file → meant ≡ Err fault → ⊥
+no_fault : (meant : Result (List ℕ) AsmFault) (file : List ℕ) (fault : AsmFault)
+    → meant ≡ Ok file → meant ≡ Err fault → ⊥
 no_fault meant file fault one other = absurd (cc)
 
 pub unreachable-requires : goal.unreachable-requires

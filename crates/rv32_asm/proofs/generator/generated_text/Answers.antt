@@ -1,5 +1,6 @@
 use Rattle.std.proofs.Common.{◌≡◌, ◌∙◌, ◌/◌, ◌^◌, ◌++◌, ◌∷◌, List, ℕ, ◌+◌, suc, ap, map, string_bytes, arith, rules}
-use Rattle.rv32_asm.specs.Generator.{number_after, number_at, data_word, data_words, program_lines, number_line, ended, text_of_lines}
+use Rattle.rv32_asm.specs.Generator.{number_after, number_at, data_word, data_words, program_lines, number_line, ended}
+use Rattle.rv32_asm.specs.Generator.{text_of_lines}
 use Rattle.rv32_asm.proofs.GeneratorLaws.{text_start, text_more}
 use Rattle.rv32_asm.proofs.generator.generated_text.Goals as goal
 
