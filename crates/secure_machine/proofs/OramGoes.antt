@@ -1,7 +1,9 @@
 -- What requests of an encrypted memory leave.
-use Rattle.std.proofs.Common.{◌<◌, ℕ, [], None, Ok, Err, sym, subst, inl, inr, arith, false, ◌≤◌}
+use Rattle.std.proofs.Common.{◌<◌, ◌+◌, ℕ, [], None, Ok, Err, sym, subst, inl, inr, arith, false, ◌≤◌}
 use Rattle.request_plan.proofs.Chains.{Ends-unbind}
+use Rattle.asc_base.specs.TreeShape.{olat_of}
 use Rattle.asc_base.specs.declared.block.Line.{Line}
+use Rattle.asc_base.specs.declared.settings.Config.{Config}
 use Rattle.asc_base.specs.declared.stop.Stop.{Stop}
 use Rattle.asc_base.specs.declared.stop.Stop.TheVariants.{TimeUp}
 use Rattle.epoch_learner.specs.Stands.{KeepsPace}
@@ -88,6 +90,15 @@ module _ (keys : Keys) (levels : ℕ) (old new : OramState) (fits : FitKeys keys
     -- a wait ends no earlier than was asked
     pub wait_after : (time : ℕ) (told : Told) → OramStep keys levels old (Wait time) (Ok told) new → time ≤ told.end
     wait_after time told (serves, is, front, one) = omega (arith, one.1.end_is)
+
+    -- a wait that isn't asked for beyond the time of the settings ends less than a slot's cycles after it
+    pub wait_soon : (time : ℕ) (told : Told) → OramStep keys levels old (Wait time) (Ok told) new
+        → time ≤ old.port.clock.config.time
+        → told.end < old.port.clock.config.time + olat_of old.port.clock.config.shape.levels
+    wait_soon time told (serves, is, front, one) early =
+        let last = subst (λ (config : Config). new.port.clock.last < config.time + olat_of config.shape.levels)
+        one.1.same.config (one.1.rests 0 serving.serves.rests).in_time in
+        omega (arith, one.1.end_is, last, early)
 
     -- the log keeps the pace up to the end of a wait
     pub wait_pace : (time : ℕ) (told : Told) → OramStep keys levels old (Wait time) (Ok told) new

@@ -1,7 +1,8 @@
 -- What a port's calls leave, however many there were.
-use Rattle.std.proofs.Common.{◌≡◌, ◌+◌, ◌≤◌, ◌∙◌, ℕ, List, [], Ok, length, refl, sym, ap, subst, inl, inr, arith}
+use Rattle.std.proofs.Common.{◌≡◌, ◌+◌, ◌<◌, ◌≤◌, ◌∙◌, ℕ, List, [], Ok, length, refl, sym, ap, subst, inl, inr, arith}
 use Rattle.request_plan.specs.Plan.{Plan, Done, Ask, Ends}
 use Rattle.std.proofs.lemmas.List.{length-append}
+use Rattle.asc_base.specs.TreeShape.{olat_of}
 use Rattle.asc_base.specs.declared.block.Point.{Point}
 use Rattle.asc_base.specs.declared.settings.Config.{Config}
 use Rattle.asc_base.specs.declared.stop.Stop.{Stop}
@@ -77,6 +78,8 @@ breaks_then {stop} {a} {b} {c} one two = record {
   later = omega (arith, one.later, two.later);
   cause = λ is. rose_since a.memory.faults b.memory.faults c.memory.faults one.later (two.cause is);
   pace = subst (λ (config : Config). PaceAt config stop c) one.config two.pace;
+  in_time = subst (λ (config : Config). c.clock.last < config.time + olat_of config.shape.levels) one.config
+      two.in_time;
   unaltered = λ tells. two.unaltered (one.tells tells) ∙ one.unaltered tells;
   asked = omega (arith, one.asked, two.asked);
 }
@@ -200,6 +203,7 @@ module _ (leaf_of : Point → ℕ) (levels : ℕ) where
     later = h.used.made.later;
     cause = stop_cause stop h.end h.is_end h.used;
     pace = open_pace asked point stop old new h;
+    in_time = h.stopped.in_time;
     unaltered = h.used.made.honest.unaltered;
     asked = made_asked h.used.made;
   }
@@ -221,6 +225,7 @@ module _ (leaf_of : Point → ℕ) (levels : ℕ) where
     later = h.used.made.later;
     cause = stop_cause stop h.end h.is_end h.used;
     pace = close_pace stop old new h;
+    in_time = h.stopped.in_time;
     unaltered = h.used.made.honest.unaltered;
     asked = made_asked h.used.made;
   }
@@ -245,6 +250,7 @@ module _ (leaf_of : Point → ℕ) (levels : ℕ) where
     later = h.used.made.later;
     cause = stop_cause stop h.end h.is_end h.used;
     pace = idle_pace time stop old new h;
+    in_time = h.stopped.in_time;
     unaltered = h.used.made.honest.unaltered;
     asked = made_asked h.used.made;
   }

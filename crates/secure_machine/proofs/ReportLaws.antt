@@ -1,9 +1,10 @@
 -- What is reported of a settled run.
-use Rattle.std.proofs.Common.{◌≡◌, ◌<◌, ◌*◌, ◌/◌, ◌∙◌, ℕ, List, length, replicate, refl, sym, ap, subst, arith}
+use Rattle.std.proofs.Common.{◌≡◌, ◌<◌, ◌+◌, ◌*◌, ◌/◌, ◌∙◌, ℕ, List, length, replicate, refl, sym, ap, subst, arith}
 use Rattle.std.proofs.Math.Pow.{pow_mono}
 use Rattle.std.specs.List.{count_by}
 use Rattle.asc_base.specs.Settings.{IsConfig}
 use Rattle.asc_base.specs.Shape.{shape_of, layered}
+use Rattle.asc_base.specs.TreeShape.{olat_of}
 use Rattle.asc_base.specs.declared.settings.Config.{Config}
 use Rattle.asc_base.specs.declared.shape.Shape.{Shape}
 use Rattle.bus_watch.specs.Log.{TapState}
@@ -22,9 +23,9 @@ use Rattle.rate_enforcer.specs.Counts.{IsCounted, is_answered}
 use Rattle.bus_schedule.specs.Scheduled.{log_code}
 use Rattle.bus_schedule.specs.Timetable.{public_of}
 use Rattle.rate_enforcer.specs.PortStep.{PortState}
-use Rattle.secure_machine.specs.Finish.{Settled, IsRightEnding}
+use Rattle.secure_machine.specs.Finish.{Settled, Short, IsRightEnding}
 use Rattle.secure_machine.specs.FlatEnds.{FlatEnds, IsFlat}
-use Rattle.secure_machine.specs.Run.{Reported, IsFlatReport, IsUnprepared, start_of}
+use Rattle.secure_machine.specs.Run.{Reported, Wanting, DrawsLeaves, IsFlatReport, IsUnprepared, start_of}
 use Rattle.secure_machine.proofs.ImageZeros.{loaded_image}
 use Rattle.secure_machine.specs.declared.report.Ending.{Ending}
 use Rattle.secure_machine.specs.declared.report.Ending.TheVariants.{Device}
@@ -57,6 +58,9 @@ reported_of config report instructions cycles last ending old new same counted s
     record {
       pace = subst (λ (c : Config). KeepsPace c report.last new.tap.log) same
           (subst (λ n. KeepsPace old.clock.config n new.tap.log) (sym up) s.pace);
+      in_time = subst (λ (c : Config). report.last < c.time + olat_of c.shape.levels) same
+          (subst (λ n. n < old.clock.config.time + olat_of old.clock.config.shape.levels) (sym up) s.in_time);
+      leaves = subst (λ (c : Config). DrawsLeaves c new.tap.log) (s.config ∙ same) counts.leaves;
       real = real ∙ counts.real;
       dummies = dummies ∙ counts.dummies;
       choices = choices ∙ sym counts.code.choices;
@@ -76,6 +80,19 @@ reported_of config report instructions cycles last ending old new same counted s
           report.ending) (sym up) (subst (IsRightEnding config.budget old.clock.config.time instructions cycles last)
           (sym ends) s.right))));
     }
+
+-- what is left where memory was wanted
+pub wanting_of : (config : Config) (old new : PortState) → old.clock.config ≡ config
+    → IsCounted old.clock old.tap.log → Short old new → Wanting config old.memory new.memory old.tap new.tap
+wanting_of config old new same counted s = record {
+  end = s.end;
+  pace = subst (λ (c : Config). KeepsPace c s.end new.tap.log) same s.pace;
+  leaves = subst (λ (c : Config). DrawsLeaves c new.tap.log) (s.config ∙ same) (s.counts counted).leaves;
+  tied = s.tied;
+  later = s.later;
+  unaltered = s.unaltered;
+  asked = s.asked;
+}
 
 -- A report of what a run over an encrypted memory finished is the flat run's.
 pub report_flat : (config : Config) (image : Image) (input : List ℕ) (report : Report) (instructions : ℕ)

@@ -1,5 +1,6 @@
 -- How a run is settled.
-use Rattle.std.proofs.Common.{◌≡◌, ◌∙◌, ℕ, List, max, refl, subst, inl, inr, arith, ◌≤◌}
+use Rattle.std.proofs.Common.{◌≡◌, ◌∙◌, ◌+◌, ◌<◌, ◌≤◌, ℕ, List, max, refl, subst, inl, inr, arith}
+use Rattle.asc_base.specs.TreeShape.{olat_of}
 use Rattle.asc_base.specs.declared.settings.Config.{Config}
 use Rattle.asc_base.specs.declared.stop.Evidence.{Evidence}
 use Rattle.asc_base.specs.declared.stop.Stop.TheVariants as stop
@@ -34,16 +35,18 @@ own_none budget time instructions cycles until ending h is =
 
 -- after the slots that were still to be done
 pub idle_settles : (budget instructions cycles until last : ℕ) (ending : Ending) (old mid new : PortState)
-    → Goes old mid → Goes mid new → KeepsPace mid.clock.config last new.tap.log → until ≤ last
+    → Goes old mid → Goes mid new → KeepsPace mid.clock.config last new.tap.log
+    → last < mid.clock.config.time + olat_of mid.clock.config.shape.levels → until ≤ last
     → IsOwnEnding budget old.clock.config.time instructions cycles until ending
     → Settled budget instructions cycles ending last old new
-idle_settles budget instructions cycles until last ending old mid new one two pace after own = record {
+idle_settles budget instructions cycles until last ending old mid new one two pace soon after own = record {
   config = two.config ∙ one.config;
   counts = λ counted. two.counts (one.counts counted);
   tied = λ start buckets tied. two.tied start buckets (one.tied start buckets tied);
   later = omega (arith, one.later, two.later);
   cause = λ is. absurd (own_none budget old.clock.config.time instructions cycles until ending own is);
   pace = subst (λ (config : Config). KeepsPace config last new.tap.log) one.config pace;
+  in_time = subst (λ (config : Config). last < config.time + olat_of config.shape.levels) one.config soon;
   right = own_right budget old.clock.config.time instructions cycles until last ending own after;
   unaltered = λ tells. two.unaltered (one.tells tells) ∙ one.unaltered tells;
   asked = omega (arith, one.asked, two.asked);
@@ -65,6 +68,7 @@ module _ (budget instructions cycles : ℕ) (old new : PortState) where
     later = h.later;
     cause = λ is. cc;
     pace = h.pace;
+    in_time = h.in_time;
     right = tt;
     unaltered = h.unaltered;
     asked = h.asked;
@@ -80,6 +84,7 @@ module _ (budget instructions cycles : ℕ) (old new : PortState) where
     later = h.later;
     cause = λ is. cc;
     pace = h.pace;
+    in_time = h.in_time;
     right = tt;
     unaltered = h.unaltered;
     asked = h.asked;
@@ -96,6 +101,7 @@ module _ (budget instructions cycles : ℕ) (old new : PortState) where
     later = h.later;
     cause = λ is. cc;
     pace = h.pace.2 last (omega (arith, is)) (omega (arith, is, h.pace.0, h.pace.1));
+    in_time = omega (arith, is, h.in_time);
     right = (h.pace.0, omega (arith, is));
     unaltered = h.unaltered;
     asked = h.asked;
@@ -111,6 +117,7 @@ module _ (budget instructions cycles : ℕ) (old new : PortState) where
     later = h.later;
     cause = λ is. h.cause refl;
     pace = h.pace;
+    in_time = h.in_time;
     right = tt;
     unaltered = h.unaltered;
     asked = h.asked;
@@ -126,6 +133,7 @@ module _ (budget instructions cycles : ℕ) (old new : PortState) where
   pub short_of : Breaks stop.NoMemory old new → Short old new
   short_of h = record {
     config = h.config;
+    counts = h.counts;
     tied = λ start buckets tied.
         let after = h.tied start buckets tied in ran_out after.0 after.1 start buckets after.2;
     later = h.later;

@@ -1,8 +1,9 @@
 -- What one request of a walk leaves, by the port's calls that it is made of.
-use Rattle.std.proofs.Common.{◌≡◌, ◌+◌, ℕ, Option, None, Some, Result, Err, refl, sym, ap, subst, inl, inr}
+use Rattle.std.proofs.Common.{◌≡◌, ◌+◌, ◌<◌, ℕ, Option, None, Some, Result, Err, refl, sym, ap, subst, inl, inr}
 use Rattle.std.proofs.Common.{arith, is_some, length, nat_lt, Bool, true, false, if◌then◌else◌}
 use Rattle.request_plan.specs.Plan.{Ends, Stops, Refuses}
 use Rattle.request_plan.proofs.Chains.{Ends-unbind, Stops-unbind}
+use Rattle.asc_base.specs.TreeShape.{olat_of}
 use Rattle.asc_base.specs.declared.block.Address.{Address}
 use Rattle.asc_base.specs.declared.block.Entry.{Entry}
 use Rattle.asc_base.specs.declared.block.Line.{Line}
@@ -30,6 +31,7 @@ use Rattle.oram_walk.specs.declared.slots.Purpose.TheVariants.{Refill, Keep, Rep
 use Rattle.rate_enforcer.specs.PortStep.{PortState, PortStep, PortRequest, Open, Take, Note, Said, Resting, InSlot}
 use Rattle.rate_enforcer.specs.PortStep.{Aborted, JoinStopped}
 use Rattle.rate_enforcer.proofs.Counted.{counted_still}
+use Rattle.rate_enforcer.proofs.Steps.{of_slot}
 use Rattle.rate_enforcer.specs.Stops.{IsEndOf}
 use Rattle.rate_enforcer.specs.declared.clock.Clock.{Clock}
 use Rattle.secure_machine.specs.Goes.{Breaks, PaceAt}
@@ -41,7 +43,8 @@ module _ {stop : Stop} {old new : PortState} (memory : new.memory ≡ old.memory
     (config : new.clock.config ≡ old.clock.config) (learner : new.clock.learner ≡ old.clock.learner)
     (dummies : new.clock.dummies ≡ old.clock.dummies) (real : new.clock.real ≡ old.clock.real)
     (is : IsEndOf stop Whole) (device : stop ≡ Device → ⊥)
-    (pace : PaceAt old.clock.config stop new) where
+    (pace : PaceAt old.clock.config stop new)
+    (in_time : new.clock.last < old.clock.config.time + olat_of old.clock.config.shape.levels) where
   pub quiet_breaks : Breaks stop old new
   quiet_breaks = record {
     config = config;
@@ -57,6 +60,7 @@ module _ {stop : Stop} {old new : PortState} (memory : new.memory ≡ old.memory
         omega (arith, same);
     cause = λ bad. absurd (device bad);
     pace = pace;
+    in_time = in_time;
     unaltered = λ tells. ap (λ (t : TapState). t.log.altered) tap;
     asked = still_asked old new memory tap;
   }
@@ -124,9 +128,11 @@ module _ (keys : Keys) (levels : ℕ) where
       → Aborted keys.leaf_of levels (Integrity evidence) end old new → Breaks (Integrity evidence) old new
   abort_breaks notes leaf evidence end old new going slot h =
       let last : new.clock.last ≡ end = ap (λ (c : Clock). c.last) h.clock in
+      let is_open = (of_slot (record { start = h.path.start; leaf = h.path.leaf }) slot.slot h.on slot.opens).is_open in
       quiet_breaks h.memory h.tap (ap (λ (c : Clock). c.config) h.clock) (ap (λ (c : Clock). c.learner) h.clock)
       (ap (λ (c : Clock). c.dummies) h.clock) (ap (λ (c : Clock). c.real) h.clock) refl (λ bad. cc)
       (subst (λ n. KeepsPace old.clock.config n new.tap.log) (sym last) (h.pace notes leaf slot))
+      (omega (arith, last, h.end_is, is_open.starts, is_open.early))
 
   judged_breaks : (access : Access) (found : Option Entry) (verdict : Option Evidence) (notes leaf : ℕ) (stop : Stop)
       (old new : PortState) → old.clock.stop ≡ None → InSlot notes levels leaf old
@@ -197,6 +203,7 @@ module _ (keys : Keys) (levels : ℕ) where
       pace in
       quiet_breaks h.memory h.tap (ap (λ (c : Clock). c.config) h.clock) (ap (λ (c : Clock). c.learner) h.clock)
       (ap (λ (c : Clock). c.dummies) h.clock) (ap (λ (c : Clock). c.real) h.clock) ends device paced
+      (omega (arith, last, rests.in_time))
 
   pub append_breaks : (message : Message) (stop : Stop) (old new : PortState) → Resting 1 levels old
       → SlotStep keys levels old (Append message) (Err stop) new → Breaks stop old new
@@ -225,6 +232,7 @@ module _ (keys : Keys) (levels : ℕ) where
     later = omega arith;
     cause = λ bad. cc;
     pace = resting_pace s rests;
+    in_time = rests.in_time;
     unaltered = λ tells. refl;
     asked = refl;
   }

@@ -1,6 +1,8 @@
 -- Before the first slot.
 use Rattle.std.proofs.Common.{◌≡◌, ◌≤◌, ◌<◌, ◌+◌, ◌*◌, ◌^◌, ◌∙◌, ℕ, List, [], Option, None, Some, IsSome, option_map, Result, Ok, Err, IfOk, OnErr, length, refl, sym}
 use Rattle.std.proofs.Common.{ap, subst, arith}
+use Rattle.std.specs.Prelude.{All}
+use Rattle.std.proofs.lemmas.List.Elements.{All-nil}
 use Rattle.std.proofs.lemmas.Nat.{mul-le}
 use Rattle.asc_base.proofs.ShapeFacts.{shape_layered}
 use Rattle.asc_base.specs.Settings.{IsConfig, IsPowerTo}
@@ -14,7 +16,7 @@ use Rattle.bus_schedule.proofs.ScheduledLaws.{scheduled-config, scheduled-below,
 use Rattle.bus_schedule.specs.Scheduled.{log_code}
 use Rattle.bus_schedule.specs.Timetable.{public_of, Public, count_of}
 use Rattle.bus_watch.proofs.PreparedLaws.{prepared_ties, prepared_ready}
-use Rattle.bus_schedule.specs.Shown.{indices_of, code_of}
+use Rattle.bus_schedule.specs.Shown.{indices_of, leaves_of, code_of}
 use Rattle.bus_watch.proofs.TiedLaws.{tied_start}
 use Rattle.bus_watch.specs.declared.bus.BusStop.{BusStop}
 use Rattle.bus_watch.specs.declared.bus.BusStop.TheVariants.{Device, NoMemory}
@@ -40,7 +42,7 @@ use Rattle.rate_enforcer.specs.State.{Rests}
 use Rattle.rate_enforcer.specs.declared.port.Port.{Port}
 use Rattle.secure_machine.specs.Goes.{AsksMoves}
 use Rattle.secure_machine.specs.LastMove.{EndsWithMove}
-use Rattle.secure_machine.specs.Run.{IsInBudget}
+use Rattle.secure_machine.specs.Run.{IsInBudget, DrawsLeaves}
 use Rattle.play_run.specs.Timed.{Serving}
 use Rattle.secure_machine.proofs.LastMoves.{ends_with_move}
 
@@ -65,6 +67,12 @@ pub start_pace : (config : Config) (log : LogLists) → IsConfig config → log.
     → KeepsPace config 0 log
 start_pace config log is events moves =
     stands_pace 0 (stands_first config log is events moves) (omega arith) (omega arith)
+
+-- an empty log draws no leaf
+pub start_leaves : (config : Config) (log : LogLists) → log.events ≡ [] → DrawsLeaves config log
+start_leaves config log events =
+    subst (All (λ leaf. leaf < 2 ^ config.shape.levels)) (sym (ap leaves_of events))
+    (All-nil (λ leaf. leaf < 2 ^ config.shape.levels))
 
 -- a log that keeps the pace tells no more bits than the budget
 pub pace_bits : (config : Config) (end : ℕ) (log : LogLists) → IsConfig config → KeepsPace config end log

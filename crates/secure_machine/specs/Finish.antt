@@ -1,5 +1,6 @@
 -- How a run comes to its end, and what it leaves then.
-use Rattle.std.specs.Prelude.{◌≡◌, ◌≤◌, ℕ, List, min}
+use Rattle.std.specs.Prelude.{◌≡◌, ◌+◌, ◌<◌, ◌≤◌, ℕ, List, min}
+use Rattle.asc_base.specs.TreeShape.{olat_of}
 use Rattle.asc_outside.specs.Memory.{MemoryState}
 use Rattle.asc_outside.specs.Rose.{Rose}
 use Rattle.bus_watch.specs.RunEnd.{RanOut}
@@ -50,8 +51,8 @@ HaltsBy budget levels instructions cycles (Stops s) old new = Breaks s old new.p
 abbrev pub Halts : (budget levels : ℕ) → Halted → PortState → OramState → Type 0
 Halts budget levels halted old new = HaltsBy budget levels halted.instructions halted.cycles halted.cause old new
 
--- What a run leaves that is reported: all is counted and tied, the log keeps the pace up to its end, its ending is
--- right, and a failure of the memory has its cause.
+-- What a run leaves that is reported: all is counted and tied, the log keeps the pace up to its end, which comes less
+-- than a slot's cycles after the time of the settings, its ending is right, and a failure of the memory has its cause.
 pub record Settled (budget instructions cycles : ℕ) (ending : Ending) (last : ℕ) (old new : PortState) : Type 0 where
   pub config : new.clock.config ≡ old.clock.config
   pub counts : KeepsCount old new
@@ -60,13 +61,16 @@ pub record Settled (budget instructions cycles : ℕ) (ending : Ending) (last : 
   pub later : old.memory.faults ≤ new.memory.faults
   pub cause : ending ≡ Device → Rose old.memory.faults new.memory.faults
   pub pace : KeepsPace old.clock.config last new.tap.log
+  pub in_time : last < old.clock.config.time + olat_of old.clock.config.shape.levels
   pub right : IsRightEnding budget old.clock.config.time instructions cycles last ending
   pub unaltered : Unaltered old new
   pub asked : Asks old new
 
--- What want of memory leaves: up to some time the log keeps the pace, and all is tied, but what the last move left.
+-- What want of memory leaves: up to some time the log keeps the pace, all is counted, and all is tied, but what the
+-- last move left.
 pub record Short (old new : PortState) : Type 0 where
   pub config : new.clock.config ≡ old.clock.config
+  pub counts : KeepsCount old new
   pub tied : (start : MemoryState) (buckets : List (List ℕ)) → Tied start buckets old.memory old.tap
       → TiedAt RanOut start buckets new.memory new.tap
   pub later : old.memory.faults ≤ new.memory.faults

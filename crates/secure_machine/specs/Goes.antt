@@ -1,5 +1,6 @@
 -- What requests leave of a port, however many there were: answered ones, and one that is stopped.
-use Rattle.std.specs.Prelude.{◌≡◌, ◌+◌, ◌≤◌, ℕ, List, length}
+use Rattle.std.specs.Prelude.{◌≡◌, ◌+◌, ◌<◌, ◌≤◌, ℕ, List, length}
+use Rattle.asc_base.specs.TreeShape.{olat_of}
 use Rattle.asc_base.specs.declared.settings.Config.{Config}
 use Rattle.asc_base.specs.declared.stop.Stop.{Stop}
 use Rattle.asc_base.specs.declared.stop.Stop.TheVariants.{Integrity, StashFull, TimeUp, Device, NoMemory}
@@ -55,7 +56,8 @@ PaceAt config NoMemory new = KeepsPace config new.clock.last new.tap.log
 abbrev pub TiedAfter : Stop → MemoryState → List (List ℕ) → PortState → Type 0
 TiedAfter stop start buckets new = (end : RunEnd) × IsEndOf stop end × TiedAt end start buckets new.memory new.tap
 
--- The same where the last of them is stopped.
+-- The same where the last of them is stopped. The end that it leaves comes less than a slot's cycles after the time of
+-- the settings.
 pub record Breaks (stop : Stop) (old new : PortState) : Type 0 where
   pub config : new.clock.config ≡ old.clock.config
   pub counts : KeepsCount old new
@@ -64,5 +66,6 @@ pub record Breaks (stop : Stop) (old new : PortState) : Type 0 where
   pub later : old.memory.faults ≤ new.memory.faults
   pub cause : stop ≡ Device → Rose old.memory.faults new.memory.faults
   pub pace : PaceAt old.clock.config stop new
+  pub in_time : new.clock.last < old.clock.config.time + olat_of old.clock.config.shape.levels
   pub unaltered : Unaltered old new
   pub asked : Asks old new

@@ -1,11 +1,12 @@
 -- What a run leaves of its memory and its tap.
-use Rattle.std.specs.Prelude.{◌≡◌, ◌<◌, ◌≤◌, ◌^◌, ◌⊎◌, ℕ, List, [], length}
+use Rattle.std.specs.Prelude.{◌≡◌, ◌+◌, ◌<◌, ◌≤◌, ◌^◌, ◌⊎◌, ℕ, List, [], length, All}
 use Rattle.std.specs.List.{count_by}
+use Rattle.asc_base.specs.TreeShape.{olat_of}
 use Rattle.asc_base.specs.declared.settings.Config.{Config}
 use Rattle.asc_outside.specs.Memory.{MemoryState, zero_buckets}
 use Rattle.asc_outside.specs.Rose.{Rose}
 use Rattle.bus_schedule.specs.Scheduled.{log_code}
-use Rattle.bus_schedule.specs.Shown.{indices_of}
+use Rattle.bus_schedule.specs.Shown.{indices_of, leaves_of}
 use Rattle.bus_schedule.specs.Timetable.{public_of, count_of}
 use Rattle.bus_watch.specs.Honest.{TellsMirror}
 use Rattle.bus_watch.specs.Log.{TapState, LogLists}
@@ -30,11 +31,18 @@ pub record IsInBudget (config : Config) (log : LogLists) : Type 0 where
   pub code : log_code (public_of config) log < count_of (public_of config) ^ length (indices_of log.events)
   pub few : count_of (public_of config) ^ length (indices_of log.events) ≤ 2 ^ config.leak
 
--- A report over a prepared bus: the log keeps the pace up to its end, has as many starts, choices and answered lines as
--- it says, and their code, and is tied to what the memory was asked; a failure has its cause, and the ending is right.
+-- The leaves that are drawn are those of the configuration's tree.
+abbrev pub DrawsLeaves : Config → LogLists → Type 0
+DrawsLeaves config log = All (λ leaf. leaf < 2 ^ config.shape.levels) (leaves_of log.events)
+
+-- A report over a prepared bus: the log keeps the pace up to its end, which comes less than a slot's cycles after the
+-- time of the settings, draws leaves of the tree, has as many starts, choices and answered lines as it says, and their
+-- code, and is tied to what the memory was asked; a failure has its cause, and the ending is right.
 pub record Reported (config : Config) (report : Report) (memory memory' : MemoryState) (tap tap' : TapState)
     : Type 0 where
   pub pace : KeepsPace config report.last tap'.log
+  pub in_time : report.last < config.time + olat_of config.shape.levels
+  pub leaves : DrawsLeaves config tap'.log
   pub real : report.real ≡ count_by is_real tap'.log.events
   pub dummies : report.dummies ≡ count_by is_dummy tap'.log.events
   pub choices : report.choices ≡ length (indices_of tap'.log.events)
@@ -49,10 +57,11 @@ pub record Reported (config : Config) (report : Report) (memory memory' : Memory
   pub unaltered : TellsMirror memory tap → tap'.log.altered ≡ tap.log.altered
   pub asked : AsksMoves memory memory' tap tap'
 
--- Want of memory over a prepared bus: up to some time the log keeps the pace.
+-- Want of memory over a prepared bus: up to some time the log keeps the pace, and it draws leaves of the tree.
 pub record Wanting (config : Config) (memory memory' : MemoryState) (tap tap' : TapState) : Type 0 where
   pub end : ℕ
   pub pace : KeepsPace config end tap'.log
+  pub leaves : DrawsLeaves config tap'.log
   pub tied : (start : MemoryState) (buckets : List (List ℕ)) → Tied start buckets memory tap
       → TiedAt RanOut start buckets memory' tap'
   pub later : memory.faults ≤ memory'.faults

@@ -47,7 +47,7 @@ ghost use Rattle.rate_enforcer.specs.PortStep.{Resting, port_of};
 ghost use Rattle.rate_enforcer.specs.Served.{keys_of};
 ghost use Rattle.rate_enforcer.specs.Counts.{IsCounted, is_dummy, is_real, is_answered};
 ghost use Rattle.secure_machine.specs.Finish.{IsRightEnding};
-ghost use Rattle.secure_machine.specs.Run.{Reported, Wanting, IsFlatReport, IsUnprepared, IsTiedOr, IsTiedButLast, chip_keys, start_of, IsInBudget};
+ghost use Rattle.secure_machine.specs.Run.{Reported, Wanting, IsFlatReport, IsUnprepared, IsTiedOr, IsTiedButLast, chip_keys, start_of, IsInBudget, DrawsLeaves};
 ghost use Rattle.secure_machine.specs.LastMove.{EndsWithMove};
 ghost use Rattle.secure_machine.specs.Same.{oram_over};
 ghost use Rattle.play_run.specs.Timed.{Serving};
@@ -211,7 +211,8 @@ fn run_prepared<M: UntrustedMemory, W: Watch, L: LeafFn>(
 ///
 /// `NoMemory` is want of memory. All memory for output, log and stash is taken before the first slot; after it only the
 /// held blocks, a reply that the tap keeps, the mirror and the memory's own write can want any. Where the memory fails
-/// before the first slot the ending is `Device`, and all numbers are 0.
+/// before the first slot the ending is `Device`, and all numbers are 0. The run's schedule ends less than a slot's cycles
+/// after the time of the settings.
 pub fn run<M: UntrustedMemory, W: Watch, L: LeafFn>(
     alloc: Global,
     config: &Config,
@@ -234,6 +235,8 @@ pub fn run<M: UntrustedMemory, W: Watch, L: LeafFn>(
     ensures pace { IfOk result (λ report. KeepsPace config.now report.last (W.state bus.new.tap.now).log) }
     ensures pace_err { OnErr result ((end : ℕ) × KeepsPace config.now end (W.state bus.new.tap.now).log) }
     ensures end_err { OnErr result (EndsWithMove config.now (W.state bus.new.tap.now).log) }
+    ensures last { IfOk result (λ report. report.last < config.now.time + olat_of config.now.shape.levels) }
+    ensures leaves { DrawsLeaves config.now (W.state bus.new.tap.now).log }
     ensures bits { log_code (public_of config.now) (W.state bus.new.tap.now).log < 2 ^ config.now.leak }
     ensures real { IfOk result (λ report. report.real ≡ count_by is_real (W.state bus.new.tap.now).log.events) }
     ensures dummies { IfOk result (λ report. report.dummies ≡ count_by is_dummy (W.state bus.new.tap.now).log.events) }

@@ -12,7 +12,7 @@ use Rattle.oram_frontend.specs.Slots.{FitKeys}
 use Rattle.secure_machine.specs.Finish.{HaltsBy, IsOwnEnding}
 use Rattle.secure_machine.specs.Same.{timed_of, keys_in}
 use Rattle.secure_machine.specs.declared.machine.Cause.{Cause}
-use Rattle.secure_machine.proofs.OramGoes.{oram_goes, oram_breaks, wait_after, wait_in_time, wait_pace}
+use Rattle.secure_machine.proofs.OramGoes.{oram_goes, oram_breaks, wait_after, wait_in_time, wait_pace, wait_soon}
 use Rattle.secure_machine.proofs.NotedLines.{wait_quiet, request_stop}
 use Rattle.secure_machine.proofs.PortGoes.{breaks_then}
 use Rattle.secure_machine.proofs.Settles.{idle_settles}
@@ -33,6 +33,7 @@ returns-in-Ok-clause-settled g c =
     c.in-Ends.ending first old.port new.port by.0
     (oram_goes keys levels old new fits by.1 (Wait c.in-Ends.until) _ c.in-Ok.ensures.step)
     (wait_pace keys levels old new fits by.1 c.in-Ends.until _ c.in-Ok.ensures.step)
+    (wait_soon keys levels old new fits by.1 c.in-Ends.until _ c.in-Ok.ensures.step by.2)
     (wait_after keys levels old new fits by.1 c.in-Ends.until _ c.in-Ok.ensures.step) by.3
 
 pub returns-in-Err-clause-settled : goal.returns-in-Err-clause-settled

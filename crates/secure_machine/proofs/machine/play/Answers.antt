@@ -1,12 +1,15 @@
-use Rattle.std.proofs.Common.{◌≡◌, ◌∙◌, ◌*◌, inl, inr, refl, sym, ap, subst, arith}
+use Rattle.std.proofs.Common.{◌≡◌, ◌≤◌, ◌∙◌, ◌*◌, inl, inr, min, refl, sym, ap, subst, arith}
+use Rattle.asc_base.specs.declared.settings.Config.{Config}
 use Rattle.encrypted_run.specs.Refined.{loaded}
 use Rattle.oram_contents.specs.Entries.{AreKeys}
 use Rattle.rv32_core.specs.StepPlan.{machine_of}
 use Rattle.secure_machine.specs.FlatEnds.{HaltsFlat}
 use Rattle.secure_machine.specs.Refines.{CauseUnblamed}
+use Rattle.secure_machine.specs.Runs.{HaltsOver}
 use Rattle.secure_machine.specs.declared.machine.Halted.{Halted}
+use Rattle.secure_machine.specs.declared.report.Ending.TheVariants.{Budget}
 use Rattle.secure_machine.proofs.FlatLaws.{reaches_none, reaches_more, halts_run}
-use Rattle.secure_machine.proofs.LineChains.{onwards_then, halts_later}
+use Rattle.secure_machine.proofs.LineChains.{onwards_then, halts_later, ends_after}
 use Rattle.secure_machine.proofs.Refining.{keys_same}
 use Rattle.secure_machine.proofs.machine.play.Goals as goal
 
@@ -98,6 +101,17 @@ loop-before-init g c =
             | inr stands ↦ inr (bytes, reaches_none machine bytes, stands)
           ];
     }
+
+pub returns-clause-halts : goal.returns-clause-halts
+returns-clause-halts g c =
+    let on = c.loop-before.invariant.onwards in
+    let clock = c.loop-before.lines.clock in
+    let config = ap (λ (config : Config). config.time) on.goes.config in
+    subst (λ (h : Halted). HaltsOver g.M.UntrustedMemory.state g.W.Watch.state g.L.LeafFn.levels c.args.budget h
+    c.args.lines.now c.loop-before.lines) (sym c.ended.ensures)
+    (ends_after g.M.UntrustedMemory.state g.W.Watch.state g.L.LeafFn.leaf_of g.L.LeafFn.levels c.args.budget
+    c.args.budget clock c.min.result Budget c.args.lines.now c.loop-before.lines on
+    (omega (arith, c.min.ensures, c.time.ensures)) (refl, c.min.ensures ∙ ap (min clock) (c.time.ensures ∙ config)))
 
 pub returns-clause-refines : goal.returns-clause-refines
 returns-clause-refines g c memory lawful core known =
