@@ -56,7 +56,7 @@ reaches_more n machine next last memory now later done reaches going step =
     (let e : n + (1 + 0) ≡ n + 1 = omega arith in e))
 
 -- an instruction that traps changes nothing
-effected_trap : (machine : Machine) (memory : List ℕ) (cost : ℕ) (effect : Effect) (kind : TrapKind) (pc : ℕ)
+pub effected_trap : (machine : Machine) (memory : List ℕ) (cost : ℕ) (effect : Effect) (kind : TrapKind) (pc : ℕ)
     → (effected machine memory cost effect).done.ended ≡ Traps-as kind pc
     → (effected machine memory cost effect).machine ≡ machine
 effected_trap machine memory cost Passes kind pc h = absurd cc

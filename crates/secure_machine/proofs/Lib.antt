@@ -12,3 +12,6 @@ pub mod LastMoves
 pub mod ReportLaws
 pub mod Refining
 pub mod FlatLaws
+pub mod FedLaws
+pub mod FedChains
+pub mod FedReports

@@ -1,6 +1,7 @@
--- How many lines a log notes as answered: an answered fetch adds one, and nothing else does.
+-- Which lines a log notes as answered, and how many: an answered fetch adds its line, and nothing else does.
 use Rattle.std.proofs.Common.{◌≡◌, ◌+◌, ◌++◌, ◌∙◌, ℕ, zero, suc, List, [], ◌∷◌, Option, None, Some, Ok, Err, refl, ap}
-use Rattle.std.proofs.Common.{sym, inl, inr, arith, is_some, Bool, true, false, cond}
+use Rattle.std.proofs.Common.{sym, inl, inr, arith, is_some, Bool, true, false, length, append-nil, length-append}
+use Rattle.std.proofs.lemmas.List.Concat.{flat_map-append}
 use Rattle.std.specs.List.{count_by}
 use Rattle.std.specs.Option.{option_map_or}
 use Rattle.request_plan.specs.Plan.{Plan, Done, Ask, Ends, Stops, Asks}
@@ -16,6 +17,7 @@ use Rattle.asc_base.specs.declared.stop.Stop.{Stop}
 use Rattle.asc_base.specs.declared.stop.Stop.TheVariants.{Integrity, StashFull, TimeUp, Device, NoMemory}
 use Rattle.bus_watch.specs.Log.{LogLists, TapState}
 use Rattle.bus_watch.specs.declared.log.Event.{Event}
+use Rattle.bus_watch.specs.declared.log.Event.TheVariants as kinds
 use Rattle.bus_watch.specs.declared.log.Event.TheVariants.{Answered, Chosen}
 use Rattle.data_cache.specs.Lines.{LineRequest, Fetch as LineFetch, Store as LineStore}
 use Rattle.oram_contents.specs.Contents.{Contents}
@@ -42,22 +44,47 @@ use Rattle.rate_enforcer.specs.Counts.{is_answered}
 use Rattle.rate_enforcer.specs.PortStep.{PortState, PortStep, PortRequest, Open, Take, Note, Put, Close, Abort, Join}
 use Rattle.rate_enforcer.specs.PortStep.{Idle, Said, OpenBreaks}
 use Rattle.play_run.specs.Timed.{TimedState, TimedStep, KeepsNoted}
+use Rattle.secure_machine.specs.Answered.{answered_of, answered_lines}
+use Rattle.secure_machine.specs.Timed.{TimedState, TimedStep, KeepsNoted}
 use Rattle.secure_machine.proofs.SlotGoes.{answer_breaks}
 
-abbrev answered : LogLists → ℕ
-answered log = count_by is_answered log.events
+abbrev answered : LogLists → List (List ℕ)
+answered log = answered_lines log.events
 
 -- more events, none of which answers a line
 events_more : (old new : LogLists) (more : List Event) → new.events ≡ old.events ++ more
-    → count_by is_answered more ≡ 0 → answered new ≡ answered old
+    → answered_lines more ≡ [] → answered new ≡ answered old
 events_more old new more events none =
-    omega (arith, ap (count_by is_answered) events, count_more is_answered old.events more, none)
+    ap answered_lines events
+    ∙ (flat_map-append answered_of old.events more
+    ∙ (ap (λ l. answered_lines old.events ++ l) none ∙ append-nil (answered_lines old.events)))
+
+-- as many as are counted
+count_one : (noted : Event) → count_by is_answered (noted ∷ []) ≡ length (answered_of noted)
+count_one (kinds.Access start asked) = refl
+count_one (kinds.Drawn point leaf) = refl
+count_one (kinds.Tagged message) = refl
+count_one (kinds.Accepted message tag) = refl
+count_one (Chosen index) = refl
+count_one (Answered line value) = refl
+
+pub count_lines : (events : List Event) → count_by is_answered events ≡ length (answered_lines events)
+count_lines [] = refl
+count_lines (first ∷ events) =
+    count_more is_answered (first ∷ []) events
+    ∙ (ap (λ n. n + count_by is_answered events) (count_one first)
+    ∙ (ap (λ n. length (answered_of first) + n) (count_lines events)
+    ∙ sym (length-append (answered_of first) (answered_lines events))))
+
+abbrev count_is : (old new : LogLists) → answered new ≡ answered old
+    → count_by is_answered new.events ≡ count_by is_answered old.events
+count_is old new same = count_lines new.events ∙ (ap length same ∙ sym (count_lines old.events))
 
 -- ---- slots
 end_quiet : (old new : LogLists) → IsEnd old new → answered new ≡ answered old
 end_quiet old new ends = elim ends.events [
-  | inl same ↦ ap (count_by is_answered) same
-  | inr more ↦ events_more old new (Chosen more.0 ∷ []) more.1 (omega arith)
+  | inl same ↦ ap answered_lines same
+  | inr more ↦ events_more old new (Chosen more.0 ∷ []) more.1 refl
 ]
 
 passes_quiet : (keys : Keys) (k : ℕ) (old new : LogLists) (now after : Contents) (n : ℕ)
@@ -65,28 +92,28 @@ passes_quiet : (keys : Keys) (k : ℕ) (old new : LogLists) (now after : Content
 passes_quiet keys zero old new now after n h = ap answered h.0
 passes_quiet keys (suc k) old new now after n (mid, between, start, before, seeds, one) =
     end_quiet one.mid new one.ends
-    ∙ events_more mid one.mid (drawn_events keys start one.pass.asked _) one.pass.events_are (omega arith)
+    ∙ events_more mid one.mid (drawn_events keys start one.pass.asked _) one.pass.events_are refl
     ∙ passes_quiet keys k old mid now between n before
 
 reads_quiet : (keys : Keys) (stop : Stop) (old new : LogLists) (now after : Contents) (start : ℕ) (asked : Option ℕ)
     (point : Point) → ReadStops keys stop old new now after start asked point → answered new ≡ answered old
 reads_quiet keys (Integrity evidence) old new now after start asked point h =
-    events_more old new (drawn_events keys start asked point) h.begins.adds.events_are (omega arith)
+    events_more old new (drawn_events keys start asked point) h.begins.adds.events_are refl
 reads_quiet keys (StashFull held) old new now after start asked point h = absurd h
 reads_quiet keys (TimeUp at) old new now after start asked point h = absurd h
 reads_quiet keys Device old new now after start asked point h =
-    events_more old new (drawn_events keys start asked point) h.begins.adds.events_are (omega arith)
+    events_more old new (drawn_events keys start asked point) h.begins.adds.events_are refl
 reads_quiet keys NoMemory old new now after start asked point (inl same) = ap answered same.0
 reads_quiet keys NoMemory old new now after start asked point (inr h) =
-    events_more old new (drawn_events keys start asked point) h.begins.adds.events_are (omega arith)
+    events_more old new (drawn_events keys start asked point) h.begins.adds.events_are refl
 
 dummy_quiet : (keys : Keys) (stash : ℕ) (stop : Stop) (old new : LogLists) (now after : Contents) (start n : ℕ)
     → DummyStops keys stash stop old new now after start n → answered new ≡ answered old
 dummy_quiet keys stash stop old new now after start n (inl reads) =
     reads_quiet keys stop old new now after start None _ reads
 dummy_quiet keys stash stop old new now after start n (inr h) =
-    ap (count_by is_answered) (stop_silent keys stash stop h.mid new h.between after start _ h.writes)
-    ∙ events_more old h.mid (drawn_events keys start h.read.asked _) h.read.adds.events_are (omega arith)
+    ap answered_lines (stop_silent keys stash stop h.mid new h.between after start _ h.writes)
+    ∙ events_more old h.mid (drawn_events keys start h.read.asked _) h.read.adds.events_are refl
 
 stop_quiet : (keys : Keys) (stash : ℕ) (stop : Stop) (old new : LogLists) (now after : Contents) (start n : ℕ)
     → PassesStop keys stash stop old new now after start n → answered new ≡ answered old
@@ -105,15 +132,15 @@ asked_quiet keys stop old new now after start n asked point h =
 abbrev Quiet : PortRequest → Type 0
 Quiet (Open asked point) = Unit {0}
 Quiet (Take address) = Unit {0}
-Quiet (Note event) = is_answered event ≡ false
+Quiet (Note event) = answered_of event ≡ []
 Quiet (Put entry) = Unit {0}
 Quiet Close = Unit {0}
 Quiet (Abort stop) = Unit {0}
 Quiet (Join entry) = Unit {0}
 Quiet (Idle time) = Unit {0}
 
-one_none : (event : Event) → is_answered event ≡ false → count_by is_answered (event ∷ []) ≡ 0
-one_none event quiet = ap (λ b. 0 + cond b 1 0) quiet
+one_none : (event : Event) → answered_of event ≡ [] → answered_lines (event ∷ []) ≡ []
+one_none event quiet = ap (λ (l : List (List ℕ)). l ++ []) quiet
 
 module _ (leaf_of : Point → ℕ) (levels : ℕ) where
   same_tap : (old new : PortState) → new.tap ≡ old.tap → answered new.tap.log ≡ answered old.tap.log
@@ -123,7 +150,7 @@ module _ (leaf_of : Point → ℕ) (levels : ℕ) where
       → PortStep leaf_of levels old request (Ok said) new → answered new.tap.log ≡ answered old.tap.log
   port_quiet old (Open asked point) said new quiet h =
       let served = h.1.served [] in
-      events_more served.mid new.tap.log _ served.noted (omega arith)
+      events_more served.mid new.tap.log _ served.noted refl
       ∙ passes_quiet _ _ old.tap.log served.mid _ served.between _ served.passed
   port_quiet old (Take address) said new quiet h = same_tap old new h.1.others.tap
   port_quiet old (Note event) said new quiet h =
@@ -154,7 +181,7 @@ module _ (leaf_of : Point → ℕ) (levels : ℕ) where
   port_stop old (Note event) stop new h = absurd h
   port_stop old (Put entry) stop new h = absurd h
   port_stop old Close stop new h =
-      ap (count_by is_answered) (stop_silent _ _ stop old.tap.log new.tap.log _ _ _ _ (h.breaks []))
+      ap answered_lines (stop_silent _ _ stop old.tap.log new.tap.log _ _ _ _ (h.breaks []))
   port_stop old (Abort by) stop new h = absurd h
   port_stop old (Join entry) stop new (inl had) = ap (λ (s : PortState). answered s.tap.log) had.1
   port_stop old (Join entry) stop new (inr h) = same_tap old new h.tap
@@ -321,21 +348,27 @@ module _ (keys : Keys) (levels : ℕ) where
 
   -- the line of a fetch is noted
   answer_noted : (line : ℕ) (value : Line) (seen : Seen) (s t : PortState)
-      → SlotStep keys levels s (Answer line value) (Ok seen) t → answered t.tap.log ≡ answered s.tap.log + 1
+      → SlotStep keys levels s (Answer line value) (Ok seen) t
+      → answered t.tap.log ≡ answered s.tap.log ++ value.0 ∷ []
   answer_noted line value seen s t (said, mid, noted, is) =
       ap (λ (x : PortState). answered x.tap.log) is.1
       ∙ ap (λ (x : LogLists). answered x) noted.1.log
-      ∙ count_more is_answered s.tap.log.events (Answered line value ∷ [])
+      ∙ flat_map-append answered_of s.tap.log.events (Answered line value ∷ [])
 
-  fetch_noted : (old new : OramState) (asked line : ℕ) (told : Told)
+  pub fetch_lines : (old new : OramState) (asked line : ℕ) (told : Told) (value : Line) → told.line ≡ Some value
       → OramStep keys levels old (Fetch asked line) (Ok told) new
-      → answered new.port.tap.log ≡ answered old.port.tap.log + 1
-  fetch_noted old new asked line told (serves, seen, is, ends) =
+      → answered_lines new.port.tap.log.events ≡ answered_lines old.port.tap.log.events ++ value.0 ∷ []
+  fetch_lines old new asked line told value told_is (serves, seen, is, ends) =
       let (a, mid, first, (x, last, note, done)) = Ends-unbind (Steps (SlotStep keys levels)) (λ state. state)
       (request_plan old.front asked (record { 0 = line }) Keep) _ old.port new.port _ ends in
+      let seen_is : seen ≡ a.1 = ap (λ (z : FrontState × Seen). z.1) done.0 in
+      let some : Some value ≡ Some seen.line = sym told_is ∙ ap (λ (t : Told). t.line) is in
+      let same : value ≡ seen.line = cc in
+      let value_is : value ≡ (a.1).line = same ∙ ap (λ (s : Seen). s.line) seen_is in
       ap (λ (p : PortState). answered p.tap.log) done.1
       ∙ answer_noted line (a.1).line x mid last note
-      ∙ ap (λ n. n + 1) (walk_quiet (request_plan old.front asked (record { 0 = line }) Keep) old.port mid a
+      ∙ ap (λ (v : Line). answered mid.tap.log ++ v.0 ∷ []) (sym value_is)
+      ∙ ap (λ l. l ++ value.0 ∷ []) (walk_quiet (request_plan old.front asked (record { 0 = line }) Keep) old.port mid a
       (request_asks old.front asked (record { 0 = line }) Keep) first)
 
   store_asks : (state : FrontState) (asked line : ℕ) (value : Line)
@@ -344,17 +377,21 @@ module _ (keys : Keys) (levels : ℕ) where
       Asks-bind Unanswering _ (request_plan state asked (record { 0 = line }) (Replace value)) _
       (request_asks state asked (record { 0 = line }) (Replace value)) (λ a. tt)
 
-  store_quiet : (old new : OramState) (asked line : ℕ) (value : Line) (told : Told)
+  pub store_lines : (old new : OramState) (asked line : ℕ) (value : Line) (told : Told)
       → OramStep keys levels old (Store asked line value) (Ok told) new
-      → answered new.port.tap.log ≡ answered old.port.tap.log
-  store_quiet old new asked line value told (serves, is, ends) =
+      → answered_lines new.port.tap.log.events ≡ answered_lines old.port.tap.log.events
+  store_lines old new asked line value told (serves, is, ends) =
       walk_quiet (store_plan old.front asked line value) old.port new.port _ (store_asks old.front asked line value)
       ends
 
+  pub wait_lines : (old new : OramState) (time : ℕ) (told : Told) → OramStep keys levels old (Wait time) (Ok told) new
+      → answered_lines new.port.tap.log.events ≡ answered_lines old.port.tap.log.events
+  wait_lines old new time told (serves, is, front, one) =
+      port_quiet keys.leaf_of levels old.port (Idle time) _ new.port tt one
+
   pub wait_quiet : (old new : OramState) (time : ℕ) (told : Told) → OramStep keys levels old (Wait time) (Ok told) new
       → count_by is_answered new.port.tap.log.events ≡ count_by is_answered old.port.tap.log.events
-  wait_quiet old new time told (serves, is, front, one) =
-      port_quiet keys.leaf_of levels old.port (Idle time) _ new.port tt one
+  wait_quiet old new time told step = count_is old.port.tap.log new.port.tap.log (wait_lines old new time told step)
 
   fetch_stop : (old new : OramState) (asked line : ℕ) (stop : Stop)
       → Stops (Steps (SlotStep keys levels)) (fetch_plan old.front asked line) old.port new.port stop new.front
@@ -369,25 +406,38 @@ module _ (keys : Keys) (levels : ℕ) where
         | inr (a, mid, whole, inr (x, last, note, rest)) ↦ absurd rest
       ]
 
+  pub stop_lines : (old new : OramState) (request : OramRequest) (stop : Stop)
+      → OramStep keys levels old request (Err stop) new
+      → answered_lines new.port.tap.log.events ≡ answered_lines old.port.tap.log.events
+  stop_lines old new (Fetch asked line) stop (inl had) = ap (λ (o : OramState). answered o.port.tap.log) had.1
+  stop_lines old new (Fetch asked line) stop (inr h) = fetch_stop old new asked line stop h.1
+  stop_lines old new (Store asked line value) stop (inl had) = ap (λ (o : OramState). answered o.port.tap.log) had.1
+  stop_lines old new (Store asked line value) stop (inr h) =
+      walk_stop (store_plan old.front asked line value) old.port new.port stop _
+      (store_asks old.front asked line value) h.1
+  stop_lines old new (Wait time) stop (inl had) = ap (λ (o : OramState). answered o.port.tap.log) had.1
+  stop_lines old new (Wait time) stop (inr h) = port_stop keys.leaf_of levels old.port (Idle time) stop new.port h.2
+
   pub request_stop : (old new : OramState) (request : OramRequest) (stop : Stop)
       → OramStep keys levels old request (Err stop) new
       → count_by is_answered new.port.tap.log.events ≡ count_by is_answered old.port.tap.log.events
-  request_stop old new (Fetch asked line) stop (inl had) = ap (λ (o : OramState). answered o.port.tap.log) had.1
-  request_stop old new (Fetch asked line) stop (inr h) = fetch_stop old new asked line stop h.1
-  request_stop old new (Store asked line value) stop (inl had) = ap (λ (o : OramState). answered o.port.tap.log) had.1
-  request_stop old new (Store asked line value) stop (inr h) =
-      walk_stop (store_plan old.front asked line value) old.port new.port stop _
-      (store_asks old.front asked line value) h.1
-  request_stop old new (Wait time) stop (inl had) = ap (λ (o : OramState). answered o.port.tap.log) had.1
-  request_stop old new (Wait time) stop (inr h) = port_stop keys.leaf_of levels old.port (Idle time) stop new.port h.2
+  request_stop old new request stop step =
+      count_is old.port.tap.log new.port.tap.log (stop_lines old new request stop step)
 
 -- ---- lines with a clock
 pub timed_noted : (keys : Keys) (levels count : ℕ) (old new : TimedState) (request : LineRequest) (bytes : List ℕ)
     → TimedStep keys levels count old request (Ok bytes) new → KeepsNoted old new
 timed_noted keys levels count old new (LineFetch line) bytes h known =
-    omega (arith, known, h.1, fetch_noted keys levels old.oram new.oram old.clock line _ h.0)
+    let old_log = old.oram.port.tap.log in
+    let new_log = new.oram.port.tap.log in
+    let more : length (answered_lines new_log.events) ≡ length (answered_lines old_log.events) + 1 =
+    ap length (fetch_lines keys levels old.oram new.oram old.clock line
+    (record { line = Some (record { 0 = bytes }); end = new.clock }) (record { 0 = bytes }) refl h.0)
+    ∙ length-append (answered_lines old_log.events) (bytes ∷ []) in
+    omega (arith, known, h.1, more, count_lines old_log.events, count_lines new_log.events)
 timed_noted keys levels count old new (LineStore line value) bytes h known =
-    h.1 ∙ known ∙ sym (store_quiet keys levels old.oram new.oram old.clock line (record { 0 = value }) _ h.0)
+    h.1 ∙ known ∙ sym (count_is old.oram.port.tap.log new.oram.port.tap.log
+    (store_lines keys levels old.oram new.oram old.clock line (record { 0 = value }) _ h.0))
 
 pub timed_stop : (keys : Keys) (levels count : ℕ) (old new : TimedState) (request : LineRequest) (stop : Stop)
     → TimedStep keys levels count old request (Err stop) new → KeepsNoted old new

@@ -6,3 +6,5 @@ pub mod Run
 pub mod Refines
 pub mod FlatEnds
 pub mod LastMove
+pub mod Answered
+pub mod Fed

@@ -46,6 +46,8 @@ ghost use Rattle.oram_lines.specs.Lines.{IsNew};
 ghost use Rattle.rate_enforcer.specs.PortStep.{Resting, port_of};
 ghost use Rattle.rate_enforcer.specs.Served.{keys_of};
 ghost use Rattle.rate_enforcer.specs.Counts.{IsCounted, is_dummy, is_real, is_answered};
+ghost use Rattle.secure_machine.specs.Answered.{answered_lines};
+ghost use Rattle.secure_machine.specs.Fed.{IsFed};
 ghost use Rattle.secure_machine.specs.Finish.{IsRightEnding};
 ghost use Rattle.secure_machine.specs.Run.{Reported, Wanting, IsFlatReport, IsUnprepared, IsTiedOr, IsTiedButLast, chip_keys, start_of, IsInBudget, DrawsLeaves};
 ghost use Rattle.secure_machine.specs.LastMove.{EndsWithMove};
@@ -185,6 +187,8 @@ fn run_prepared<M: UntrustedMemory, W: Watch, L: LeafFn>(
     ensures honest { AreKeys (keys_of oram.port.tree oram.tagger (L.leaf_of oram.port.leaves))
         → (W.state bus.new.tap.now).log.altered ≡ []
         → IfOk result (λ report. (evidence : Evidence) → report.ending ≡ Ending.Integrity evidence → ⊥) }
+    ensures fed { IfOk result (λ report.
+        IsFed config.now image.now files.input report (answered_lines (W.state bus.new.tap.now).log.events)) }
     ensures reported { IfOk result (λ report. Reported config.now report (M.state bus.old.memory.now)
         (M.state bus.new.memory.now) (W.state bus.old.tap.now) (W.state bus.new.tap.now)) }
     ensures wanting { OnErr result (Wanting config.now (M.state bus.old.memory.now)
@@ -268,6 +272,8 @@ pub fn run<M: UntrustedMemory, W: Watch, L: LeafFn>(
         → IfOk result (IsFlatReport config.now image.now input.now) }
     ensures honest { (W.state bus.new.tap.now).log.altered ≡ []
         → IfOk result (λ report. (evidence : Evidence) → report.ending ≡ Ending.Integrity evidence → ⊥) }
+    ensures fed { IfOk result (λ report.
+        IsFed config.now image.now input.now report (answered_lines (W.state bus.new.tap.now).log.events)) }
 {
     leaf.gives_leaves();
     let files = Files::new(alloc, input, OUTPUT_LIMIT)?;

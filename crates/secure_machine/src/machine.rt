@@ -1,17 +1,23 @@
 //! The run's parts: image lines, instructions, and the end.
 
-ghost use Rattle.std.specs.Prelude.{◌⊎◌, List};
-ghost use Rattle.data_cache.specs.CacheLists.{line_in};
+ghost use Rattle.std.specs.Prelude.{◌⊎◌, List, [], ◌++◌};
+ghost use Rattle.data_cache.specs.CacheLists.{Sets, Lines, line_in, sets_after};
+ghost use Rattle.data_cache.specs.Cached.{StandsAs};
 ghost use Rattle.encrypted_run.specs.Refined.{Computes, loaded};
+ghost use Rattle.fed_run.specs.Answered.{feed_of};
+ghost use Rattle.fed_run.specs.Fed.{Feed, sets_along};
 ghost use Rattle.oram_contents.specs.Entries.{AreKeys};
 ghost use Rattle.oram_contents.specs.Forgery.{Forgery};
 ghost use Rattle.rate_enforcer.specs.Served.{keys_of};
 ghost use Rattle.rv32_core.specs.Access.{spliced};
 ghost use Rattle.rv32_core.specs.FlatMachine.{flat_step};
+ghost use Rattle.rv32_core.specs.LineList.{WholeWrite, used};
 ghost use Rattle.rv32_core.specs.Machine.{Machine, IsCore};
 ghost use Rattle.rv32_core.specs.StepPlan.{machine_of};
 ghost use Rattle.rv32_core.specs.declared.outcome.Done.{Done as DoneValue};
 ghost use Rattle.rv32_core.specs.declared.outcome.Ended.TheVariants.{No};
+ghost use Rattle.secure_machine.specs.Answered.{answered_lines};
+ghost use Rattle.secure_machine.specs.Fed.{noted, over_image, IsFedStep, IsStarvedStep, HaltsFed, CauseFed, IsFedRun};
 ghost use Rattle.secure_machine.specs.FlatEnds.{HaltsFlat, HaltsRun, IsFlat, ending_by};
 ghost use Rattle.secure_machine.specs.Refines.{IsForged, StandFor, Knows, IsUnblamed, EndsUnblamed, CauseUnblamed};
 ghost use Rattle.std.specs.Prelude.{◌≡◌, ◌<◌, ◌*◌, ◌%◌, ℕ, Some, OnOk, IfOk, IfErr, MatchResult, vec_len};
@@ -126,6 +132,10 @@ fn load_line<M: UntrustedMemory, W: Watch, L: LeafFn>(
     ensures honest { (memory : List ℕ) → AreKeys (keys_in L.leaf_of lines.old)
         → Knows M.state W.state L.leaf_of L.levels cache.old memory lines.old
         → IfErr result (λ stop. IsUnblamed stop (timed_of M.state W.state lines.new).oram.port.tap.log) }
+    ensures fed { (ways : ℕ) (sets : Sets) → StandsAs lines.old.count ways cache.old (over_image image.now sets)
+        → (noted W.state lines.new ≡ noted W.state lines.old)
+        × OnOk result (StandsAs lines.new.count ways cache.new (over_image image.now
+        (sets_after ways sets (record { line = line; kind = WholeWrite })))) }
 {
     match cache.write_line(lines, line, &line_of(image, line)) {
         Ok(()) => {}
@@ -158,6 +168,13 @@ fn load<M: UntrustedMemory, W: Watch, L: LeafFn>(
     ensures honest { (memory : List ℕ) → AreKeys (keys_in L.leaf_of lines.old)
         → Knows M.state W.state L.leaf_of L.levels cache.old memory lines.old
         → IfErr result (λ halted. CauseUnblamed M.state W.state L.leaf_of L.levels halted.cause lines.new) }
+    ensures fed { (ways : ℕ) (sets : Sets) → StandsAs lines.old.count ways cache.old (over_image image.now sets)
+        → let started = over_image image.now (sets_along ways sets (used WholeWrite image.now.marked.items)) in
+        (noted W.state lines.new ≡ noted W.state lines.old)
+        × MatchResult result
+        (λ _. StandsAs lines.new.count ways cache.new started)
+        (λ halted. (machine : Machine)
+        → CauseFed ways halted.instructions machine (feed_of started []) halted.cause machine) }
 {
     for at in 0..image.marked.len() {
         let start = lines.clock;
@@ -203,6 +220,12 @@ fn step<M: UntrustedMemory, W: Watch, L: LeafFn>(
     ensures honest { (memory : List ℕ) → AreKeys (keys_in L.leaf_of lines.old)
         → Knows M.state W.state L.leaf_of L.levels cache.old memory lines.old
         → IfErr result (λ stop. IsUnblamed stop (timed_of M.state W.state lines.new).oram.port.tap.log) }
+    ensures fed { (ways : ℕ) (lists : Lines) → IsCore core.old → StandsAs lines.old.count ways cache.old lists
+        → MatchResult result
+        (λ done. IsFedStep W.state ways (machine_of core.old files.old) lists lines.old lines.new cache.new
+        (machine_of core.new files.new) done)
+        (λ _. IsStarvedStep W.state ways (machine_of core.old files.old) lists lines.old lines.new
+        × (machine_of core.new files.new ≡ machine_of core.old files.old)) }
 {
     let done = match step_cached(core, files, base, cache, lines) {
         Ok(done) => done,
@@ -249,6 +272,12 @@ fn instruction<M: UntrustedMemory, W: Watch, L: LeafFn>(
     ensures honest { (memory : List ℕ) → AreKeys (keys_in L.leaf_of lines.old) → IsCore core.old
         → Knows M.state W.state L.leaf_of L.levels cache.old memory lines.old
         → IfErr result (λ halted. CauseUnblamed M.state W.state L.leaf_of L.levels halted.cause lines.new) }
+    ensures fed { (ways : ℕ) (lists : Lines) → IsCore core.old → StandsAs lines.old.count ways cache.old lists
+        → MatchResult result
+        (λ _. (done : DoneValue) × (done.ended ≡ No) × IsFedStep W.state ways (machine_of core.old files.old) lists
+        lines.old lines.new cache.new (machine_of core.new files.new) done)
+        (λ halted. HaltsFed W.state ways before (machine_of core.old files.old) lists lines.old lines.new halted
+        (machine_of core.new files.new)) }
 {
     let time = lines.time();
     let start = lines.clock;
@@ -299,6 +328,11 @@ fn play<M: UntrustedMemory, W: Watch, L: LeafFn>(
     ensures honest { (memory : List ℕ) → AreKeys (keys_in L.leaf_of lines.old) → IsCore core.old
         → Knows M.state W.state L.leaf_of L.levels cache.old memory lines.old
         → CauseUnblamed M.state W.state L.leaf_of L.levels result.cause lines.new }
+    ensures fed { (ways : ℕ) (sets : Sets) → IsCore core.old
+        → StandsAs lines.old.count ways cache.old (over_image image.now sets)
+        → HaltsFed W.state ways 0 (machine_of core.old files.old)
+        (over_image image.now (sets_along ways sets (used WholeWrite image.now.marked.items))) lines.old lines.new result
+        (machine_of core.new files.new) }
 {
     match load(image, cache, lines, base, budget) {
         Ok(()) => {}
@@ -360,6 +394,10 @@ fn finish<M: UntrustedMemory, W: Watch, L: LeafFn>(
         → CauseUnblamed M.state W.state L.leaf_of L.levels halted.cause lines.old
         → IfOk result (λ (ending, end). EndsUnblamed ending (timed_of M.state W.state lines.new).oram.port.tap.log) }
     ensures fetches { KeepsNoted (timed_of M.state W.state lines.old) (timed_of M.state W.state lines.new) }
+    ensures noted { noted W.state lines.new ≡ noted W.state lines.old }
+    ensures fed { (ways : ℕ) (machine last : Machine) (feed : Feed)
+        → CauseFed ways halted.instructions machine feed halted.cause last
+        → IfOk result (λ (ending, end). IsFedRun ways halted.instructions machine feed ending last) }
 {
     match halted.cause {
         Cause::Ends { ending, until } => match lines.idle_until(until) {
@@ -413,6 +451,14 @@ pub(crate) fn drive<M: UntrustedMemory, W: Watch, L: LeafFn>(
         → IfOk result (λ course. EndsUnblamed course.ending (W.state bus.new.tap.now).log) }
     ensures fetches { count_by is_answered (W.state bus.old.tap.now).log.events ≡ 0
         → IfOk result (λ course. course.fetches ≡ count_by is_answered (W.state bus.new.tap.now).log.events) }
+    ensures fed { (ways : ℕ) (sets : Sets) → IsCore core.old
+        → StandsAs oram.old.port.clock.config.shape.lines ways cache.old (over_image image.now sets)
+        → IfOk result (λ course. (lines : List (List ℕ))
+        × (answered_lines (W.state bus.new.tap.now).log.events
+        ≡ answered_lines (W.state bus.old.tap.now).log.events ++ lines)
+        × IsFedRun ways course.instructions (machine_of core.old files.old)
+        (feed_of (over_image image.now (sets_along ways sets (used WholeWrite image.now.marked.items))) lines)
+        course.ending (machine_of core.new files.new)) }
 {
     let mut lines = TimedLines::new(bus.memory, bus.tap, oram);
     let halted = play(image, base, budget, core, files, cache, &mut lines);

@@ -23,6 +23,9 @@ use Rattle.secure_machine.proofs.Starts.{on_err_with, on_err_so, on_both, start_
 use Rattle.secure_machine.proofs.ReportLaws.{unprepared_flat}
 use Rattle.secure_machine.specs.LastMove.{EndsWithMove}
 use Rattle.secure_machine.proofs.LastMoves.{ends_with_move}
+use Rattle.secure_machine.specs.Answered.{answered_lines}
+use Rattle.secure_machine.specs.Fed.{IsFed}
+use Rattle.secure_machine.proofs.FedReports.{unprepared_fed}
 use Rattle.secure_machine.proofs.run.Goals as goal
 
 pub returns-in_err-files-clause-pace_err : goal.returns-in_err-files-clause-pace_err
@@ -471,3 +474,20 @@ returns-in-Ok-clause-leaves g c =
     on_both (λ (report : Report). Reported config report m m2 t t2) (Wanting config m m2 t t2)
     (DrawsLeaves config log) c.run_prepared.result c.run_prepared.ensures.reported c.run_prepared.ensures.wanting
     (λ report r. r.leaves) (λ w. w.leaves)
+
+pub returns-in-Ok-clause-fed : goal.returns-in-Ok-clause-fed
+returns-in-Ok-clause-fed g c =
+    let lines = answered_lines (g.W.Watch.state c.run_prepared.new.bus.tap.now).log.events in
+    let input : c.in_ok-files.files.input ≡ c.args.input.now = ap (λ (f : FilesState). f.input) c.in_ok-files.ensures in
+    IfOk-weaker c.run_prepared.result _ _ (λ report fed. subst (λ (l : List ℕ).
+    IsFed c.args.config.now c.args.image.now l report lines) input fed) c.run_prepared.ensures.fed
+
+pub returns-in-Err-Device-clause-fed : goal.returns-in-Err-Device-clause-fed
+returns-in-Err-Device-clause-fed g c =
+    let tap = g.W.Watch.state c.args.bus.now.tap.now in
+    let none : answered_lines (g.W.Watch.state c.prepare.new.self.tap.now).log.events ≡ [] =
+    ap (λ (x : LogLists). answered_lines x.events) c.in-Err-Device.ensures.prepared.log
+    ∙ ap answered_lines c.requires.no_events in
+    subst (IsFed c.args.config.now c.args.image.now c.args.input.now c.unprepared.result) (sym none)
+    (unprepared_fed c.args.config.now c.args.image.now c.args.input.now c.unprepared.result tap tap
+    (c.unprepared.ensures tap))

@@ -13,7 +13,9 @@ use Rattle.secure_machine.specs.Finish.{HaltsBy, IsOwnEnding}
 use Rattle.secure_machine.specs.Same.{timed_of, keys_in}
 use Rattle.secure_machine.specs.declared.machine.Cause.{Cause}
 use Rattle.secure_machine.proofs.OramGoes.{oram_goes, oram_breaks, wait_after, wait_in_time, wait_pace, wait_soon}
-use Rattle.secure_machine.proofs.NotedLines.{wait_quiet, request_stop}
+use Rattle.secure_machine.proofs.NotedLines.{wait_quiet, request_stop, wait_lines, stop_lines}
+use Rattle.secure_machine.specs.Fed.{CauseFed}
+use Rattle.secure_machine.proofs.FedLaws.{stop_ends, ended_stop_ends}
 use Rattle.secure_machine.proofs.PortGoes.{breaks_then}
 use Rattle.secure_machine.proofs.Settles.{idle_settles}
 use Rattle.secure_machine.proofs.machine.finish.Goals as goal
@@ -140,3 +142,45 @@ returns-in-Stops-clause-honest g c lawful unblamed =
     subst (λ (cause : Cause). CauseUnblamed g.M.UntrustedMemory.state g.W.Watch.state g.L.LeafFn.leaf_of
     g.L.LeafFn.levels cause c.args.lines.now) c.in-Stops.is unblamed evidence
     (evidence_named c.in-Stops.stop evidence (named ∙ ap Some is)) none) c.ending_of-in-Stops.ensures.named
+
+pub returns-in-Ok-clause-noted : goal.returns-in-Ok-clause-noted
+returns-in-Ok-clause-noted g c =
+    wait_lines (keys_in g.L.LeafFn.leaf_of c.args.lines.now) (g.L.LeafFn.levels c.args.lines.now.oram.now.port.leaves)
+    (timed_of g.M.UntrustedMemory.state g.W.Watch.state c.args.lines.now).oram
+    (timed_of g.M.UntrustedMemory.state g.W.Watch.state c.idle_until.new.self).oram c.in-Ends.until _
+    c.in-Ok.ensures.step
+
+pub returns-in-Err-clause-noted : goal.returns-in-Err-clause-noted
+returns-in-Err-clause-noted g c =
+    stop_lines (keys_in g.L.LeafFn.leaf_of c.args.lines.now) (g.L.LeafFn.levels c.args.lines.now.oram.now.port.leaves)
+    (timed_of g.M.UntrustedMemory.state g.W.Watch.state c.args.lines.now).oram
+    (timed_of g.M.UntrustedMemory.state g.W.Watch.state c.idle_until.new.self).oram (Wait c.in-Ends.until)
+    c.in-Err.stop c.in-Err.ensures.step
+
+pub returns-in-Ok-clause-fed : goal.returns-in-Ok-clause-fed
+returns-in-Ok-clause-fed g c ways machine last feed fed =
+    subst (λ (cause : Cause). CauseFed ways c.args.halted.instructions machine feed cause last) c.in-Ends.is fed
+
+pub returns-in-Err-clause-fed : goal.returns-in-Err-clause-fed
+returns-in-Err-clause-fed g c ways machine last feed fed =
+    let levels = g.L.LeafFn.levels c.args.lines.now.oram.now.port.leaves in
+    let keys = keys_in g.L.LeafFn.leaf_of c.args.lines.now in
+    let old = (timed_of g.M.UntrustedMemory.state g.W.Watch.state c.args.lines.now).oram in
+    let new = (timed_of g.M.UntrustedMemory.state g.W.Watch.state c.idle_until.new.self).oram in
+    let by = subst (λ (cause : Cause). HaltsBy c.args.budget levels c.args.halted.instructions
+    c.args.halted.cycles cause c.requires.halts.0 old) c.in-Ends.is c.requires.halts.1 in
+    let fits : FitKeys keys old.port = record { shape = refl; pads = refl } in
+    let in_time : (at : ℕ) → c.in-Err.stop ≡ TimeUp at → ⊥ = λ at is.
+    wait_in_time keys levels old new fits by.1 c.in-Ends.until at
+    (subst (λ (s : Stop). OramStep keys levels old (Wait c.in-Ends.until) (Err s) new) is c.in-Err.ensures.step) in
+    IfOk-weaker c.ending_of.result _ _ (λ (ending, end) named.
+    ended_stop_ends ways c.args.halted.instructions machine last feed c.in-Ends.ending ending c.in-Err.stop in_time named
+    (subst (λ (cause : Cause). CauseFed ways c.args.halted.instructions machine feed cause last) c.in-Ends.is fed))
+    c.ending_of.ensures.named
+
+pub returns-in-Stops-clause-fed : goal.returns-in-Stops-clause-fed
+returns-in-Stops-clause-fed g c ways machine last feed fed =
+    IfOk-weaker c.ending_of-in-Stops.result _ _ (λ (ending, end) named.
+    stop_ends ways c.args.halted.instructions machine last feed c.in-Stops.stop ending named
+    (subst (λ (cause : Cause). CauseFed ways c.args.halted.instructions machine feed cause last) c.in-Stops.is fed))
+    c.ending_of-in-Stops.ensures.named

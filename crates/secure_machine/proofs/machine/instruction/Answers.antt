@@ -8,6 +8,8 @@ use Rattle.secure_machine.specs.Runs.{HaltsOver}
 use Rattle.secure_machine.specs.declared.machine.Halted.{Halted}
 use Rattle.secure_machine.specs.declared.report.Ending.TheVariants.{Exit, Trap}
 use Rattle.secure_machine.proofs.LineChains.{ends_after}
+use Rattle.secure_machine.specs.Fed.{HaltsFed}
+use Rattle.secure_machine.proofs.FedChains.{exit_halts, trap_halts, stop_halts, time_halts}
 use Rattle.secure_machine.proofs.machine.instruction.Goals as goal
 
 pub returns-in-No-clause-refines : goal.returns-in-No-clause-refines
@@ -85,3 +87,46 @@ returns-in-Trap-clause-halts g c =
     c.args.before start start (Trap c.in-Trap.kind c.in-Trap.pc) c.args.lines.now c.step.new.lines
     c.in-Ok.ensures.onwards (omega (arith, c.if-start-time.false, c.time-time.ensures, config))
     (omega (arith, c.if-start-time.false, c.time-time.ensures)))
+
+pub returns-then-start-time-clause-fed : goal.returns-then-start-time-clause-fed
+returns-then-start-time-clause-fed g c ways lists core stands =
+    let start = c.args.lines.now.clock in
+    let machine = machine_of c.args.core.now c.args.files.now in
+    subst (λ (h : Halted). HaltsFed g.W.Watch.state ways c.args.before machine lists c.args.lines.now c.args.lines.now h
+    machine) (sym c.ended.ensures)
+    (time_halts g.W.Watch.state ways c.args.before start start c.time-time.result machine lists c.args.lines.now)
+
+pub returns-in-Err-clause-fed : goal.returns-in-Err-clause-fed
+returns-in-Err-clause-fed g c ways lists core stands =
+    let machine = machine_of c.args.core.now c.args.files.now in
+    let next = machine_of c.step.new.core c.step.new.files in
+    let (starves, is) = c.in-Err.ensures.fed ways lists core stands in
+    subst (λ (h : Halted). HaltsFed g.W.Watch.state ways c.args.before machine lists c.args.lines.now c.step.new.lines h
+    next) (sym c.stopped.ensures)
+    (stop_halts g.W.Watch.state ways c.args.before c.args.lines.now.clock c.in-Err.stop machine next lists
+    c.args.lines.now c.step.new.lines is starves)
+
+pub returns-in-No-clause-fed : goal.returns-in-No-clause-fed
+returns-in-No-clause-fed g c ways lists core stands =
+    (c.in-Ok.done, c.in-No.is, c.in-Ok.ensures.fed ways lists core stands)
+
+pub returns-in-Exit-clause-fed : goal.returns-in-Exit-clause-fed
+returns-in-Exit-clause-fed g c ways lists core stands =
+    let machine = machine_of c.args.core.now c.args.files.now in
+    let next = machine_of c.step.new.core c.step.new.files in
+    subst (λ (h : Halted). HaltsFed g.W.Watch.state ways c.args.before machine lists c.args.lines.now c.step.new.lines h
+    next) (sym c.ended-in-Exit.ensures)
+    (exit_halts g.W.Watch.state ways c.args.before c.step.new.lines.clock c.in-Exit.status c.min.result machine next lists
+    c.args.lines.now c.step.new.lines c.step.new.cache c.in-Ok.done c.in-Exit.is
+    (c.in-Ok.ensures.fed ways lists core stands))
+
+pub returns-in-Trap-clause-fed : goal.returns-in-Trap-clause-fed
+returns-in-Trap-clause-fed g c ways lists core stands =
+    let start = c.args.lines.now.clock in
+    let machine = machine_of c.args.core.now c.args.files.now in
+    let next = machine_of c.step.new.core c.step.new.files in
+    subst (λ (h : Halted). HaltsFed g.W.Watch.state ways c.args.before machine lists c.args.lines.now c.step.new.lines h
+    next) (sym c.ended-in-Trap.ensures)
+    (trap_halts g.W.Watch.state ways c.args.before start c.in-Trap.pc start c.in-Trap.kind machine next lists
+    c.args.lines.now c.step.new.lines c.step.new.cache c.in-Ok.done c.in-Trap.is
+    (c.in-Ok.ensures.fed ways lists core stands))

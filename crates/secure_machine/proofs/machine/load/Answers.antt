@@ -1,4 +1,13 @@
-use Rattle.std.proofs.Common.{refl, sym, subst, arith, take}
+use Rattle.std.proofs.Common.{ℕ, List, [], ◌∙◌, refl, sym, subst, arith, take}
+use Rattle.std.proofs.lemmas.List.{take_all}
+use Rattle.data_cache.specs.Cached.{StandsAs}
+use Rattle.data_cache.specs.CacheLists.{Sets}
+use Rattle.fed_run.specs.Answered.{feed_of}
+use Rattle.fed_run.specs.Fed.{sets_along}
+use Rattle.rv32_core.specs.LineList.{WholeWrite, used}
+use Rattle.secure_machine.specs.Fed.{over_image, CauseFed}
+use Rattle.secure_machine.proofs.FedChains.{along_more}
+use Rattle.secure_machine.proofs.FedLaws.{unbegun_stops}
 use Rattle.encrypted_run.specs.Refined.{loaded}
 use Rattle.oram_contents.specs.Entries.{AreKeys}
 use Rattle.secure_machine.specs.FlatEnds.{HaltsFlat}
@@ -33,6 +42,16 @@ loop-at-preserved g c = record {
       (subst AreKeys (sym (keys_same g.M.UntrustedMemory.state g.W.Watch.state g.L.LeafFn.leaf_of g.L.LeafFn.levels
       c.args.lines.now c.loop-at.lines c.loop-at.invariant.onwards.same)) lawful)
       (c.loop-at.invariant.refines memory lawful known));
+  fed = λ ways sets stands.
+      let marked = c.args.image.now.marked.items in
+      let (none, standing) = c.loop-at.invariant.fed ways sets stands in
+      let (same, after) = c.in-Ok.ensures.fed ways (sets_along ways sets (used WholeWrite (take c.loop-at.at marked)))
+      standing in (
+        same ∙ none,
+        subst (λ (l : Sets). StandsAs c.load_line.new.lines.count ways c.load_line.new.cache
+            (over_image c.args.image.now l)) (sym (along_more ways sets marked c.loop-at.at c.index.result.now
+            (omega (arith, c.loop-at-test.true, c.len-at-end.ensures)) c.index.ensures)) after,
+      );
 }
 
 pub returns-in-Err-clause-none : goal.returns-in-Err-clause-none
@@ -49,3 +68,25 @@ returns-in-Err-clause-honest g c memory lawful known =
     (subst AreKeys (sym (keys_same g.M.UntrustedMemory.state g.W.Watch.state g.L.LeafFn.leaf_of g.L.LeafFn.levels
     c.args.lines.now c.loop-at.lines c.loop-at.invariant.onwards.same)) lawful)
     (c.loop-at.invariant.refines memory lawful known))
+
+pub returns-in-Err-clause-fed : goal.returns-in-Err-clause-fed
+returns-in-Err-clause-fed g c ways sets stands =
+    let marked = c.args.image.now.marked.items in
+    let started = over_image c.args.image.now (sets_along ways sets (used WholeWrite marked)) in
+    let (none, standing) = c.loop-at.invariant.fed ways sets stands in
+    let (same, after) = c.in-Err.ensures.fed ways (sets_along ways sets (used WholeWrite (take c.loop-at.at marked)))
+    standing in (
+      same ∙ none,
+      λ machine. subst (λ (h : Halted). CauseFed ways h.instructions machine (feed_of started []) h.cause machine)
+          (sym c.stopped.ensures) (unbegun_stops ways machine (feed_of started []) c.in-Err.stop refl),
+    )
+
+pub returns-clause-fed : goal.returns-clause-fed
+returns-clause-fed g c ways sets stands =
+    let marked = c.args.image.now.marked.items in
+    let (none, standing) = c.loop-at.invariant.fed ways sets stands in (
+      none,
+      subst (λ (l : List ℕ). StandsAs c.loop-at.lines.count ways c.loop-at.cache
+          (over_image c.args.image.now (sets_along ways sets (used WholeWrite l))))
+          (take_all c.loop-at.at marked (omega (arith, c.loop-at-test.false, c.len-at-end.ensures))) standing,
+    )

@@ -1,4 +1,9 @@
-use Rattle.std.proofs.Common.{ℕ, List, take}
+use Rattle.std.proofs.Common.{◌≡◌, ℕ, List, take}
+use Rattle.data_cache.specs.Cached.{StandsAs}
+use Rattle.data_cache.specs.CacheLists.{Sets}
+use Rattle.fed_run.specs.Fed.{sets_along}
+use Rattle.rv32_core.specs.LineList.{WholeWrite, used}
+use Rattle.secure_machine.specs.Fed.{noted, over_image}
 use Rattle.encrypted_run.specs.Refined.{loaded}
 use Rattle.oram_contents.specs.Entries.{AreKeys}
 use Rattle.secure_machine.specs.Refines.{Knows}
@@ -17,4 +22,8 @@ invariant-loop-at g l = record {
       memory l.fn.lines
       → Knows g.M.UntrustedMemory.state g.W.Watch.state g.L.LeafFn.leaf_of g.L.LeafFn.levels l.cache
       (loaded l.fn.image.bytes.items (take l.at l.fn.image.marked.items) memory) l.lines;
+  fed : (ways : ℕ) (sets : Sets) → StandsAs l.fn.lines.count ways l.fn.cache (over_image l.fn.image sets)
+      → (noted g.W.Watch.state l.lines ≡ noted g.W.Watch.state l.fn.lines)
+      × StandsAs l.lines.count ways l.cache
+      (over_image l.fn.image (sets_along ways sets (used WholeWrite (take l.at l.fn.image.marked.items))));
 }

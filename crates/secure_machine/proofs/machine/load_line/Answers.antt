@@ -1,9 +1,15 @@
-use Rattle.std.proofs.Common.{◌⊎◌, ◌*◌, ℕ, List, sym, subst, arith}
+use Rattle.std.proofs.Common.{◌⊎◌, ◌*◌, ◌∙◌, ℕ, List, sym, ap, subst, arith}
 use Rattle.rv32_core.specs.Access.{spliced}
 use Rattle.secure_machine.specs.Refines.{Knows}
 use Rattle.secure_machine.proofs.Refining.{stop_forged, stop_unblamed, line_known, lines_in, spent_is, ForgedBy, StandBy}
 use Rattle.data_cache.specs.Contents.{write_line_plan}
 use Rattle.secure_machine.proofs.LineChains.{chain_goes, chain_breaks, spent_on}
+use Rattle.data_cache.specs.Cached.{StandsAs}
+use Rattle.data_cache.specs.CacheLists.{sets_after}
+use Rattle.rv32_core.specs.LineList.{WholeWrite}
+use Rattle.secure_machine.specs.Answered.{answered_lines}
+use Rattle.secure_machine.specs.Fed.{over_image}
+use Rattle.secure_machine.proofs.FedChains.{line_fed, line_fed_stop}
 use Rattle.secure_machine.proofs.machine.load_line.Goals as goal
 
 pub returns-in-Err-clause-breaks : goal.returns-in-Err-clause-breaks
@@ -48,3 +54,22 @@ returns-in-Err-clause-honest g c memory lawful known =
     stop_unblamed g.M.UntrustedMemory.state g.W.Watch.state g.L.LeafFn.leaf_of g.L.LeafFn.levels
     (write_line_plan c.args.cache.now c.args.line c.line_of.result) c.args.lines.now c.write_line.new.store
     c.in-Err.stop c.write_line.new.self c.args.cache.now memory lawful c.requires.ready known c.in-Err.ensures.err
+
+pub returns-in-Err-clause-fed : goal.returns-in-Err-clause-fed
+returns-in-Err-clause-fed g c ways sets stands = (
+  line_fed_stop g.M.UntrustedMemory.state g.W.Watch.state g.L.LeafFn.leaf_of g.L.LeafFn.levels ways c.args.line
+      c.args.image.now.bytes.items c.line_of.result c.args.lines.now c.write_line.new.store c.args.cache.now
+      c.write_line.new.self sets c.in-Err.stop c.requires.line c.line_of.ensures.bytes stands c.in-Err.ensures.err,
+  tt,
+)
+
+pub returns-clause-fed : goal.returns-clause-fed
+returns-clause-fed g c ways sets stands =
+    let (none, after) = line_fed g.M.UntrustedMemory.state g.W.Watch.state g.L.LeafFn.leaf_of g.L.LeafFn.levels ways
+    c.args.line c.args.image.now.bytes.items c.line_of.result c.args.lines.now c.write_line.new.store c.args.cache.now
+    c.write_line.new.self sets c.requires.line c.line_of.ensures.bytes stands c.in-Ok.ensures.ok in (
+      ap (λ w. answered_lines (g.W.Watch.state w).log.events) c.spend.ensures.tap ∙ none,
+      subst (λ n. StandsAs n ways c.write_line.new.self (over_image c.args.image.now
+          (sets_after ways sets (record { line = c.args.line; kind = WholeWrite })))) (sym c.spend.ensures.same.count)
+          after,
+    )

@@ -11,6 +11,12 @@ use Rattle.secure_machine.specs.declared.report.Ending.TheVariants.{Budget}
 use Rattle.secure_machine.proofs.FlatLaws.{reaches_none, reaches_more, halts_run}
 use Rattle.secure_machine.proofs.LineChains.{onwards_then, halts_later, ends_after}
 use Rattle.secure_machine.proofs.Refining.{keys_same}
+use Rattle.fed_run.specs.Fed.{sets_along}
+use Rattle.rv32_core.specs.LineList.{WholeWrite, used}
+use Rattle.secure_machine.specs.Fed.{over_image, HaltsFed}
+use Rattle.secure_machine.specs.declared.machine.Cause.TheVariants.{Ends}
+use Rattle.secure_machine.specs.declared.report.Ending.TheVariants.{Budget}
+use Rattle.secure_machine.proofs.FedChains.{fed_none, fed_more, fed_halts, load_halts, budget_halts}
 use Rattle.secure_machine.proofs.machine.play.Goals as goal
 
 pub returns-in-Err-instruction : goal.returns-in-Err-instruction
@@ -44,6 +50,15 @@ returns-in-Err-instruction g c =
             | inr (now, reaches, stands) ↦ c.in-Err-instruction.ensures.honest now lawful_now
                 (c.loop-before.invariant.core core) (inr stands)
           ];
+      fed = λ ways sets core stands.
+          let started = over_image c.args.image.now
+          (sets_along ways sets (used WholeWrite c.args.image.now.marked.items)) in
+          let first = c.loop-before.invariant.fed ways sets core stands in
+          fed_halts g.W.Watch.state ways c.loop-before.before machine
+          (machine_of c.loop-before.core c.loop-before.files)
+          (machine_of c.instruction.new.core c.instruction.new.files) started c.args.lines.now c.loop-before.lines
+          c.instruction.new.lines c.loop-before.cache c.in-Err-instruction.halted first
+          (c.in-Err-instruction.ensures.fed ways (first.1) (c.loop-before.invariant.core core) (first.3));
     }
 
 pub loop-before-preserved : goal.loop-before-preserved
@@ -76,6 +91,15 @@ loop-before-preserved g c =
                   )
                 ]
           ];
+      fed = λ ways sets core stands.
+          let started = over_image c.args.image.now
+          (sets_along ways sets (used WholeWrite c.args.image.now.marked.items)) in
+          let first = c.loop-before.invariant.fed ways sets core stands in
+          let (done, going, step) = c.in-Ok-instruction.ensures.fed ways (first.1) (c.loop-before.invariant.core core)
+          (first.3) in
+          fed_more g.W.Watch.state ways c.loop-before.before machine (machine_of c.loop-before.core c.loop-before.files)
+          (machine_of c.instruction.new.core c.instruction.new.files) started c.args.lines.now c.loop-before.lines
+          c.instruction.new.lines c.loop-before.cache c.instruction.new.cache done going first step;
     }
 
 pub returns-in-Err-clause-refines : goal.returns-in-Err-clause-refines
@@ -100,6 +124,11 @@ loop-before-init g c =
             | inl forged ↦ inl forged
             | inr stands ↦ inr (bytes, reaches_none machine bytes, stands)
           ];
+      fed = λ ways sets core stands.
+          let started = over_image c.args.image.now
+          (sets_along ways sets (used WholeWrite c.args.image.now.marked.items)) in
+          let (none, standing) = c.in-Ok.ensures.fed ways sets stands in
+          fed_none g.W.Watch.state ways machine started c.args.lines.now c.load.new.lines c.load.new.cache none standing;
     }
 
 pub returns-clause-halts : goal.returns-clause-halts
@@ -139,3 +168,31 @@ returns-clause-honest g c memory lawful core known =
       | inl forged ↦ (c.loop-before.cache, memory, inl forged)
       | inr (now, reaches, stands) ↦ (c.loop-before.cache, now, inr stands)
     ])
+
+pub returns-in-Err-clause-fed : goal.returns-in-Err-clause-fed
+returns-in-Err-clause-fed g c ways sets core stands =
+    let machine = machine_of c.args.core.now c.args.files.now in
+    let started = over_image c.args.image.now (sets_along ways sets (used WholeWrite c.args.image.now.marked.items)) in
+    let (none, cause) = c.in-Err.ensures.fed ways sets stands in
+    load_halts g.W.Watch.state ways machine started c.args.lines.now c.load.new.lines c.in-Err.halted none (cause machine)
+
+pub returns-clause-fed : goal.returns-clause-fed
+returns-clause-fed g c ways sets core stands =
+    let machine = machine_of c.args.core.now c.args.files.now in
+    let next = machine_of c.loop-before.core c.loop-before.files in
+    let started = over_image c.args.image.now (sets_along ways sets (used WholeWrite c.args.image.now.marked.items)) in
+    let first = c.loop-before.invariant.fed ways sets core stands in
+    let all : c.loop-before.before ≡ c.args.budget
+    = omega (arith, c.loop-before-test.false, c.loop-before.auto.before-end) in
+    fed_halts g.W.Watch.state ways c.loop-before.before machine next next started c.args.lines.now c.loop-before.lines
+    c.loop-before.lines c.loop-before.cache c.ended.result first
+    (subst (λ (h : Halted). HaltsFed g.W.Watch.state ways c.loop-before.before next (first.1) c.loop-before.lines
+    c.loop-before.lines h next) (sym c.ended.ensures)
+    (subst (λ n. HaltsFed g.W.Watch.state ways c.loop-before.before next (first.1) c.loop-before.lines
+    c.loop-before.lines (record {
+      instructions = n;
+      cycles = c.loop-before.lines.clock;
+      cause = Ends Budget c.min.result;
+    }) next) all
+    (budget_halts g.W.Watch.state ways c.loop-before.before c.loop-before.lines.clock c.min.result next (first.1)
+    c.loop-before.lines)))

@@ -1,12 +1,18 @@
 use Rattle.std.proofs.Common.{◌≡◌, ◌*◌, ◌⊎◌, ℕ, List}
+use Rattle.data_cache.specs.Cached.{StandsAs}
+use Rattle.data_cache.specs.CacheLists.{Sets}
 use Rattle.data_cache.specs.Contents.{CacheBelow}
 use Rattle.encrypted_run.specs.Refined.{loaded}
+use Rattle.fed_run.specs.Fed.{sets_along}
 use Rattle.oram_contents.specs.Entries.{AreKeys}
+use Rattle.rv32_core.specs.LineList.{WholeWrite, used}
 use Rattle.rv32_core.specs.Machine.{IsCore}
 use Rattle.rv32_core.specs.StepPlan.{machine_of}
+use Rattle.secure_machine.specs.Fed.{over_image}
 use Rattle.secure_machine.specs.Refines.{IsForged, StandFor, Knows}
 use Rattle.secure_machine.specs.Runs.{Onwards}
 use Rattle.secure_machine.specs.Same.{keys_in}
+use Rattle.secure_machine.proofs.FedChains.{FedSoFar}
 use Rattle.secure_machine.proofs.FlatLaws.{Reaches}
 use Rattle.secure_machine.proofs.machine.play.Given as goal
 
@@ -25,4 +31,9 @@ invariant-loop-before g l = record {
       ⊎ ((now : List ℕ) × Reaches l.before (machine_of l.fn.core l.fn.files)
       (loaded l.fn.image.bytes.items l.fn.image.marked.items memory) (machine_of l.core l.files) now
       × StandFor g.M.UntrustedMemory.state g.W.Watch.state g.L.LeafFn.leaf_of g.L.LeafFn.levels l.cache now l.lines);
+  fed : (ways : ℕ) (sets : Sets) → IsCore l.fn.core
+      → StandsAs l.fn.lines.count ways l.fn.cache (over_image l.fn.image sets)
+      → FedSoFar g.W.Watch.state ways l.before (machine_of l.fn.core l.fn.files)
+      (over_image l.fn.image (sets_along ways sets (used WholeWrite l.fn.image.marked.items))) l.fn.lines l.lines l.cache
+      (machine_of l.core l.files);
 }

@@ -8,6 +8,7 @@ use Rattle.rv32_core.specs.declared.outcome.Done.{Done}
 use Rattle.rv32_core.specs.StepPlan.{machine_of, step_plan}
 use Rattle.data_cache.specs.Cached.{cache_access}
 use Rattle.secure_machine.proofs.LineChains.{LinesStep, chain_goes, chain_breaks, spent_on}
+use Rattle.secure_machine.proofs.FedChains.{instruction_fed, instruction_starved, spent_fed}
 use Rattle.secure_machine.proofs.machine.step.Goals as goal
 
 pub returns-in-Err-clause-breaks : goal.returns-in-Err-clause-breaks
@@ -88,3 +89,25 @@ returns-in-Err-clause-honest g c memory lawful known =
     c.args.cache.now) c.args.lines.now c.step_cached.new.store c.in-Err.stop
     (c.step_cached.new.cache, machine_of c.step_cached.new.core c.step_cached.new.files) c.args.cache.now memory lawful
     c.requires.ready known c.in-Err.ensures.err
+
+pub returns-in-Err-clause-fed : goal.returns-in-Err-clause-fed
+returns-in-Err-clause-fed g c ways lists core stands = (
+  instruction_starved g.M.UntrustedMemory.state g.W.Watch.state g.L.LeafFn.leaf_of g.L.LeafFn.levels ways
+      (machine_of c.args.core.now c.args.files.now) c.args.lines.now c.step_cached.new.store c.args.cache.now lists
+      c.in-Err.stop (c.step_cached.new.cache, machine_of c.step_cached.new.core c.step_cached.new.files) core
+      c.requires.size stands c.in-Err.ensures.err,
+  step_left (LinesStep g.M.UntrustedMemory.state g.W.Watch.state g.L.LeafFn.leaf_of g.L.LeafFn.levels)
+      c.args.core.now.base (machine_of c.args.core.now c.args.files.now) c.args.cache.now c.args.lines.now
+      c.step_cached.new.store c.in-Err.stop
+      (c.step_cached.new.cache, machine_of c.step_cached.new.core c.step_cached.new.files) c.in-Err.ensures.err,
+)
+
+pub returns-clause-fed : goal.returns-clause-fed
+returns-clause-fed g c ways lists core stands =
+    let machine = machine_of c.args.core.now c.args.files.now in
+    let next = machine_of c.step_cached.new.core c.step_cached.new.files in
+    spent_fed g.W.Watch.state ways machine next lists c.args.lines.now c.step_cached.new.store c.spend.new.self
+    c.step_cached.new.cache c.in-Ok.done c.spend.ensures.tap c.spend.ensures.same.count
+    (instruction_fed g.M.UntrustedMemory.state g.W.Watch.state g.L.LeafFn.leaf_of g.L.LeafFn.levels ways machine
+    c.args.lines.now c.step_cached.new.store c.args.cache.now c.step_cached.new.cache lists (next, c.in-Ok.done) core
+    c.requires.size stands c.in-Ok.ensures.ok)
