@@ -27,7 +27,7 @@ use Rattle.rv32_core.specs.declared.outcome.TrapKind.{TrapKind}
 use Rattle.secure_machine.specs.Answered.{answered_lines}
 use Rattle.secure_machine.specs.Fed.{noted, NotesMore, IsFedStep, IsStarvedStep, CauseFed, HaltsFed}
 use Rattle.secure_machine.specs.Same.{timed_of, keys_in}
-use Rattle.secure_machine.specs.Timed.{answers_lines}
+use Rattle.play_run.specs.Timed.{answers_lines}
 use Rattle.secure_machine.specs.declared.lines.TimedLines.{TimedLines}
 use Rattle.secure_machine.specs.declared.machine.Cause.TheVariants.{Ends as EndsBy, Stops as StopsBy}
 use Rattle.secure_machine.specs.declared.machine.Halted.{Halted}

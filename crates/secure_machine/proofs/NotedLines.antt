@@ -45,7 +45,6 @@ use Rattle.rate_enforcer.specs.PortStep.{PortState, PortStep, PortRequest, Open,
 use Rattle.rate_enforcer.specs.PortStep.{Idle, Said, OpenBreaks}
 use Rattle.play_run.specs.Timed.{TimedState, TimedStep, KeepsNoted}
 use Rattle.secure_machine.specs.Answered.{answered_of, answered_lines}
-use Rattle.secure_machine.specs.Timed.{TimedState, TimedStep, KeepsNoted}
 use Rattle.secure_machine.proofs.SlotGoes.{answer_breaks}
 
 abbrev answered : LogLists → List (List ℕ)
