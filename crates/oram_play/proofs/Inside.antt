@@ -136,8 +136,8 @@ module _ (sizes : WalkSizes) where
       → AreInside (visit sizes purpose displaced held chip b).accesses
   visit-inside purpose displaced held chip b low maps =
       changes-inside purpose displaced chip.counters
-      (asked_changes sizes.lines sizes.layers sizes.ic chip.held chip.counters b) (asked-low chip.held chip.counters b low)
-      maps
+      (asked_changes sizes.lines sizes.layers sizes.ic chip.held chip.counters b)
+      (asked-low chip.held chip.counters b low) maps
 
   down-inside : (line : ℕ) (below : List ℕ) (chip : OnChip) → line < layer_first sizes.lines sizes.layers
       → ((b : ℕ) → Has b below → IsMapBlock sizes b) → ((x : ℕ) → Has x chip.held → IsMapBlock sizes x)

@@ -21,7 +21,8 @@ module _ (sizes : WalkSizes) (lines : ℕ → Line) (put : Purpose) where
   -- the first appended message and all later accesses, and the same of a walk
   split : (o : Option Message) (more : List AnsweredAccess) (d : Option ℕ) (counters : Counters)
       (ws : List WalkAccess)
-      → appended_shown o ++ flat_map answered_shown more ≡ last_shown counters d ++ flat_map (shown_by sizes lines put) ws
+      → appended_shown o ++ flat_map answered_shown more
+      ≡ last_shown counters d ++ flat_map (shown_by sizes lines put) ws
       → (appended_shown o ≡ last_shown counters d)
       × (flat_map answered_shown more ≡ flat_map (shown_by sizes lines put) ws)
   split None more None counters ws e = (refl, e)
@@ -32,7 +33,8 @@ module _ (sizes : WalkSizes) (lines : ℕ → Line) (put : Purpose) where
   split (Some message) more (Some last) counters ws e = (cc, cc)
 
   pub pairs : (accesses : List AnsweredAccess) (ws : List WalkAccess)
-      → flat_map answered_shown accesses ≡ flat_map (shown_by sizes lines put) ws → AreShownAs sizes lines put ws accesses
+      → flat_map answered_shown accesses ≡ flat_map (shown_by sizes lines put) ws
+      → AreShownAs sizes lines put ws accesses
   pairs [] [] e = tt
   pairs [] (w ∷ ws) e = absurd cc
   pairs (one ∷ more) [] e = absurd cc

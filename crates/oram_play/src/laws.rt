@@ -147,9 +147,9 @@ pub fn walked_accesses_take_play_slots()
 {}
 
 /// An encrypted memory that stands where a play stands stands where the play stands after each request that it answers,
-/// or its log shows a forgery: it took the slots of the play's request, the time that is told is the play's clock, and a
-/// fetch tells the line as last stored. So it is from the start, with no slot, and where it waits, with the dummies that
-/// pass.
+/// or its log shows a forgery: it took the slots of the play's request, the time that is told is the play's clock, and
+/// a fetch tells the line as last stored. So it is from the start, with no slot, and where it waits, with the dummies
+/// that pass.
 pub fn requests_stand_as_plays()
     ensures start { (keys : Keys) → AreKeys keys → (levels : ℕ) (config : Config) (o : OramState) → IsConfig config
         → IsNew keys config levels o → o.port.clock.config ≡ config

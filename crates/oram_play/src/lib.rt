@@ -3,8 +3,8 @@
 //!
 //! `specs/Taken.antt` has the slots that an answered access takes, `specs/InTurn.antt` those of accesses one after
 //! another, `specs/Shown.antt` what these show of a walk, `specs/Answered.antt` what an answered request comes to,
-//! `specs/Walked.antt` when accesses are a walk's, and `specs/Playing.antt` when an encrypted memory stands where a play
-//! stands between two requests. `specs/Stopped.antt` has what a stop leaves of the slots that would be taken.
+//! `specs/Walked.antt` when accesses are a walk's, and `specs/Playing.antt` when an encrypted memory stands where a
+//! play stands between two requests. `specs/Stopped.antt` has what a stop leaves of the slots that would be taken.
 //!
 //! The crate has laws alone; the calls do nothing.
 #![tactic(auto)]

@@ -128,7 +128,8 @@ module _ (cycles : ℕ) (shape : Shape) (ic plb : ℕ) (put : Purpose) where
       (b : ℕ) → AreShown lines purpose last counters (asked_changes shape.lines shape.layers ic list counters b)
   asked_shown lines purpose last list counters b =
       let form = asked_form list counters b in
-      subst (AreShown lines purpose last counters) (sym form.1) (accesses_shown lines purpose last list counters b (form.0))
+      subst (AreShown lines purpose last counters) (sym form.1)
+      (accesses_shown lines purpose last list counters b (form.0))
 
   -- a block that is in the list is held
   among_held : (held : List Held) (list : List ℕ) (q : ℕ) → addresses_of held ≡ list → is_among list q ≡ true
@@ -166,7 +167,8 @@ module _ (cycles : ℕ) (shape : Shape) (ic plb : ℕ) (put : Purpose) where
     pub lines' : Lines
     pub end : ℕ
     pub goes : Goes cycles (refill_plan (front cycles shape ic plb roots held) asked (record { 0 = b })) lines
-        (shown_of lines (refill sizes (chip_of list counters) b).accesses) lines' (front cycles shape ic plb roots' later) end
+        (shown_of lines (refill sizes (chip_of list counters) b).accesses) lines'
+        (front cycles shape ic plb roots' later) end
     pub stands : Stands shape None roots' later lines' (take plb (b ∷ list))
         (after_all shape.lines shape.layers counters (asked_changes shape.lines shape.layers ic list counters b))
     pub at : (block : Held) × (held_at later (record { 0 = b }) ≡ Some block)
@@ -312,7 +314,8 @@ module _ (cycles : ℕ) (shape : Shape) (ic plb : ℕ) (put : Purpose) where
     pub later : List Held
     pub lines' : Lines
     pub end : ℕ
-    pub goes : Goes cycles plan lines (shown_of lines walked.accesses) lines' (front cycles shape ic plb roots' later) end
+    pub goes : Goes cycles plan lines (shown_of lines walked.accesses) lines'
+        (front cycles shape ic plb roots' later) end
     pub stands : Stands shape None roots' later lines' walked.chip.held walked.chip.counters
     pub are : AreHeld shape plb walked.chip.held
     pub out : (x : ℕ) → x ≤ b → is_among list x ≡ false → is_among walked.chip.held x ≡ false

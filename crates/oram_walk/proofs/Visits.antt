@@ -91,7 +91,8 @@ module _ (cycles : ℕ) (shape : Shape) (ic plb : ℕ) where
 
       by : (o : Option (ℕ × ℕ)) → children_of shape.lines shape.layers b ≡ o
           → lines b ≡ option_map_or (λ (family : ℕ × ℕ).
-          let line : Line = record { 0 = family_line (counter_at (next_of counters change)) family } in line) o (lines b)
+          let line : Line = record { 0 = family_line (counter_at (next_of counters change)) family } in line) o
+          (lines b)
       by None none = refl
       by (Some (first, number)) children =
           let few = children_few shape.lines shape.layers b first number low children in
@@ -108,7 +109,8 @@ module _ (cycles : ℕ) (shape : Shape) (ic plb : ℕ) where
   child_by_goes : (is : Bool) (state : FrontState) (asked : ℕ) (lines : Lines) (c : Address) (counter next : Counter)
       → Goes cycles
       (child_by is state (record { asked = asked; address = c; counter = counter; next = next; purpose = Keep })) lines
-      (if is then [] else Accessed c.0 counter next Keep (lines c.0) ∷ []) lines state (if is then asked else asked + cycles)
+      (if is then [] else Accessed c.0 counter next Keep (lines c.0) ∷ []) lines state
+      (if is then asked else asked + cycles)
   child_by_goes true state asked lines c counter next = record { shows = refl; ends = refl }
   child_by_goes false state asked lines c counter next = record { shows = refl; ends = refl }
 
@@ -116,7 +118,8 @@ module _ (cycles : ℕ) (shape : Shape) (ic plb : ℕ) where
       (is : Bool) → is_among list c ≡ is → counter ≡ counter_at counters c
       → next ≡ counter_at (next_of counters (MoveChild c)) c
       → (is_among list c ≡ false → lines c ≡ found lines (next_of counters (MoveChild c)) c)
-      → (if is then [] else Accessed c counter next Keep (lines c) ∷ []) ≡ shown_change lines put counters (child_move list c)
+      → (if is then [] else Accessed c counter next Keep (lines c) ∷ [])
+      ≡ shown_change lines put counters (child_move list c)
   shown_child put lines counters list c counter next true there is_counter is_next is_found = rw there refl
   shown_child put lines counters list c counter next false absent is_counter is_next is_found =
       rw (absent, is_counter, is_next)
@@ -137,7 +140,8 @@ module _ (cycles : ℕ) (shape : Shape) (ic plb : ℕ) where
       let state : FrontState = front roots (changed (with_counter next) held (record { 0 = c })) in
       subst (λ b. Goes cycles (child_by b state
       (record { asked = asked; address = record { 0 = c }; counter = counter; next = next; purpose = Keep })) lines
-      (shown_change lines put counters (child_move list c)) lines state (if is_among list c then asked else asked + cycles))
+      (shown_change lines put counters (child_move list c)) lines state
+      (if is_among list c then asked else asked + cycles))
       (sym test)
       (subst (λ shown. Goes cycles (child_by (is_among list c) state
       (record { asked = asked; address = record { 0 = c }; counter = counter; next = next; purpose = Keep })) lines
@@ -319,10 +323,12 @@ module _ (cycles : ℕ) (shape : Shape) (ic plb : ℕ) where
       ap (option_map (λ (f, n). (let x : Address = record { 0 = f } in x, n))) u.children in
       let later : List Held = changed (with_group (moved_group group)) done.later (record { 0 = p }) in
       let whole : Goes cycles (family_plan group (children_in shape (record { 0 = p })) (front roots held) asked) lines
-      (shown_all lines put counters (map (child_move list) (addresses_from first number))) lines (front roots done.later)
+      (shown_all lines put counters (map (child_move list) (addresses_from first number))) lines
+      (front roots done.later)
       done.end =
       subst (λ (o : Option (Address × ℕ)). Goes cycles (family_plan group o (front roots held) asked) lines
-      (shown_all lines put counters (map (child_move list) (addresses_from first number))) lines (front roots done.later)
+      (shown_all lines put counters (map (child_move list) (addresses_from first number))) lines
+      (front roots done.later)
       done.end) (sym family) done.goes in
       let closed = regroup_stands shape (record { 0 = p }) block (moved_group group) roots done.later lines list now
       done.parent (moved_is group)
@@ -397,8 +403,8 @@ module _ (cycles : ℕ) (shape : Shape) (ic plb : ℕ) where
     pub later : List Held
     pub end : ℕ
     pub goes : Goes cycles (visit_plan (front roots held) asked (record { 0 = b }) put) lines
-        (shown_all lines put counters (asked_changes shape.lines shape.layers ic list counters b)) (put_back lines b put)
-        (front roots' later) (record { line = lines b; end = end })
+        (shown_all lines put counters (asked_changes shape.lines shape.layers ic list counters b))
+        (put_back lines b put) (front roots' later) (record { line = lines b; end = end })
     pub stands : Stands shape None roots' later (put_back lines b put) list
         (all_of counters (asked_changes shape.lines shape.layers ic list counters b))
 
@@ -461,7 +467,8 @@ module _ (cycles : ℕ) (shape : Shape) (ic plb : ℕ) where
       → (later : List Held)
       × Goes cycles (step_plan (front roots held) asked (record { 0 = b }) put) lines
       (Accessed b (counter_at counters b) (counter_at (next_of counters (Access b)) b) put
-      (found lines (next_of counters (Access b)) b) ∷ []) (put_back lines b put) (front roots later) (record { line = lines b; end = asked + cycles })
+      (found lines (next_of counters (Access b)) b) ∷ []) (put_back lines b put) (front roots later)
+      (record { line = lines b; end = asked + cycles })
       × Stands shape None roots later (put_back lines b put) list (next_of counters (Access b))
   under_goes put b p first number block roots held lines list counters asked bits u absent kept room s =
       let child : ℕ = child_index_of shape.lines shape.layers b in
@@ -512,7 +519,8 @@ module _ (cycles : ℕ) (shape : Shape) (ic plb : ℕ) where
       )
 
   -- what the accesses of changes one after another show
-  shown-append : (put : Purpose) (lines : Lines) (counters : Counters) (xs ys : List Change) → shown_all lines put counters (xs ++ ys)
+  shown-append : (put : Purpose) (lines : Lines) (counters : Counters) (xs ys : List Change)
+      → shown_all lines put counters (xs ++ ys)
       ≡ shown_all lines put counters xs ++ shown_all lines put (all_of counters xs) ys
   unfolding after_all
   shown-append put lines counters [] ys = refl
@@ -567,7 +575,8 @@ module _ (cycles : ℕ) (shape : Shape) (ic plb : ℕ) where
             (subst (λ (o : Option (Address × GroupState)). Goes cycles
             (on (full_plan (front roots held) asked o) (λ later end. step_plan later end address put)) lines
             (Accessed b (counter_at counters b) (counter_at (next_of counters (Access b)) b) put
-            (found lines (next_of counters (Access b)) b) ∷ []) (put_back lines b put) (front roots (step.0)) (record { line = lines b; end = asked + cycles }))
+            (found lines (next_of counters (Access b)) b) ∷ []) (put_back lines b put) (front roots (step.0))
+            (record { line = lines b; end = asked + cycles }))
             (sym none)
             step.1);
         stands = subst (λ changes. Stands shape None roots (step.0) (put_back lines b put) list

@@ -38,7 +38,8 @@ use Rattle.oram_walk.specs.Shows.{Shows, shown_by}
 use Rattle.oram_walk.specs.declared.slots.Purpose.{Purpose}
 use Rattle.oram_walk.specs.declared.slots.Purpose.TheVariants.{Refill, Keep, Replace}
 use Rattle.oram_walk.specs.declared.slots.Seen.{Seen}
-use Rattle.oram_walk.proofs.Climbs.{sizes, shown_of, same_shown, asked_shown, descended, climbed, Climbs, climb, reaches}
+use Rattle.oram_walk.proofs.Climbs.{sizes, shown_of, same_shown, asked_shown, descended, climbed, Climbs, climb}
+use Rattle.oram_walk.proofs.Climbs.{reaches}
 use Rattle.oram_walk.proofs.Fronts.{first_is}
 use Rattle.oram_walk.proofs.Played.{Lines, Goes, goes_on, play-told, play-left}
 use Rattle.oram_walk.proofs.Refills.{AreHeld}

@@ -84,8 +84,8 @@ pub fn requests_show_the_walk()
 
 /// The plans on rows: over a memory of zeros they access and append what the walk does. On the default shape lines 0,
 /// 32 and 0 take 9 accesses where one block is held, and 6 where 32 are. With own counts of two bits four stores
-/// of line 0 of 64 take 37 accesses, the last of which moves a group. Under one root with two held blocks lines 0, 32, 0,
-/// 32, 0, 32 and 0 take 48, of which the last moves two groups; in the first of these a block is held.
+/// of line 0 of 64 take 37 accesses, the last of which moves a group. Under one root with two held blocks lines 0, 32,
+/// 0, 32, 0, 32 and 0 take 48, of which the last moves two groups; in the first of these a block is held.
 pub fn plans_have_rows()
     ensures nine { (requests (start default_shape 16 14 1) 0 zeros Keep (0 ∷ 32 ∷ 0 ∷ [])).0
         ≡ row (default_sizes 1) (0 ∷ 32 ∷ 0 ∷ []) }
