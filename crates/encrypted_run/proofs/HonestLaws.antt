@@ -44,7 +44,8 @@ module _ (keys : Keys) (lawful : AreKeys keys) (levels : ℕ) where
       evidence x.holds (below, whole) serves one none
 
   -- a plan of requests
-  pub plan_blameless : {B A : Type 0} (plan : Plan LineRequest (List ℕ) B A) (list : List (List ℕ)) (old new : OramState)
+  pub plan_blameless : {B A : Type 0} (plan : Plan LineRequest (List ℕ) B A) (list : List (List ℕ))
+      (old new : OramState)
       (evidence : Evidence) (left : B) → HoldsList keys levels list old → old.stop ≡ None
       → Stops (OramLine keys levels) plan old new (Integrity evidence) left → new.port.tap.log.altered ≡ [] → ⊥
   plan_blameless (Done x) list old new evidence left held serves stops none = stops
@@ -88,7 +89,8 @@ module _ (keys : Keys) (lawful : AreKeys keys) (levels : ℕ) where
       → Computes keys levels cache memory old → old.stop ≡ None
       → OramStep keys levels old (Wait time) (Err (Integrity evidence)) new → new.port.tap.log.altered ≡ [] → ⊥
   wait_clear memory cache old new time evidence x serves one none =
-      call_blameless keys lawful levels (λ n. get_or x.list n []) old new (Wait time) evidence x.held.holds tt serves one
+      call_blameless keys lawful levels (λ n. get_or x.list n []) old new
+      (Wait time) evidence x.held.holds tt serves one
       none
 
   -- A whole run.

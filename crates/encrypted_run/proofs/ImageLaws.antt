@@ -2,7 +2,8 @@
 use Rattle.std.proofs.Common.{◌≡◌, ◌<◌, ◌+◌, ◌-◌, ◌*◌, ◌⊎◌, inl, inr, ℕ, zero, suc, List, [], ◌∷◌, ◌++◌, length}
 use Rattle.std.proofs.Common.{All, take, drop, replicate, sym, ap, ◌∙◌, arith}
 use Rattle.std.proofs.lemmas.Bool.{cases_eq}
-use Rattle.std.proofs.lemmas.List.{length-take-le, length-drop, length-replicate, take-append-drop, drop-replicate, take-replicate}
+use Rattle.std.proofs.lemmas.List.{length-take-le, length-drop, length-replicate, take-append-drop, drop-replicate}
+use Rattle.std.proofs.lemmas.List.{take-replicate}
 use Rattle.std.proofs.lemmas.List.{nil_from_length, drop-drop}
 use Rattle.asc_base.specs.Has.{Has}
 use Rattle.oram_contents.specs.Counts.{zero_line}

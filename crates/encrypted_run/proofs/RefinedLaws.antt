@@ -24,7 +24,8 @@ use Rattle.rv32_core.specs.Access.{spliced}
 use Rattle.rv32_core.specs.declared.outcome.Done.{Done as Finished}
 use Rattle.data_cache.specs.Cached.{cache_access}
 use Rattle.data_cache.specs.Contents.{Contents, write_line_plan}
-use Rattle.data_cache.specs.Lines.{LineRequest, Fetch, Store, FlatStep, FlatStep-length, FlatStep-answers, FlatStep-told}
+use Rattle.data_cache.specs.Lines.{LineRequest, Fetch, Store, FlatStep, FlatStep-length, FlatStep-answers}
+use Rattle.data_cache.specs.Lines.{FlatStep-told}
 use Rattle.data_cache.specs.Lines.{FlatStep-fetch, FlatStep-store}
 use Rattle.data_cache.specs.Standing.{StandFor}
 use Rattle.data_cache.proofs.ToldLaws.{whole-stands}

@@ -152,7 +152,8 @@ module _ (keys : Keys) (lawful : AreKeys keys) (levels : ℕ) where
                   (let (core, same_base, same_size) = kept base machine old mid cache r is one in
                   behind_first n before base machine ((r.1).0) ((r.1).1)
                   ((r.1).1).ended memory now mid new r.0 stop left refl
-                  step (λ later. stop_refines n (before + 1) base ((r.1).0) now mid new r.0 stop left core (same_base ∙ at)
+                  step (λ later. stop_refines n (before + 1) base ((r.1).0) now mid new r.0 stop left core
+                  (same_base ∙ at)
                   (same_size ∙ long) y later) rest)
             ]
       ]
@@ -180,10 +181,12 @@ module _ (keys : Keys) (lawful : AreKeys keys) (levels : ℕ) where
         | inr (cache, mid, one, rest) ↦ elim (image_refines keys lawful levels image marked long inside
             (replicate (64 * keys.shape.lines) 0) old mid (empty_cache sets ways) cache
             (start_computes keys lawful levels config old sets ways is_config is_new some room) one) [
-              | inl forged ↦ inl (plan_stop (through (cache_access machine.core.base) (run_plan n 0 machine) cache) mid new
+              | inl forged ↦ inl (plan_stop (through (cache_access machine.core.base)
+                  (run_plan n 0 machine) cache) mid new
                   stop left rest forged)
               | inr y ↦ elim (stop_refines n 0 machine.core.base machine image mid new cache stop left is refl size
-                  (subst (λ m. Computes keys levels cache m mid) (loaded_is image keys.shape.lines long marked inside zeros)
+                  (subst (λ m. Computes keys levels cache m mid)
+                  (loaded_is image keys.shape.lines long marked inside zeros)
                   y) rest) [
                     | inl forged ↦ inl forged
                     | inr (k, count, is_prefix) ↦ inr (subst (λ (c : ℕ). IsPrefix c machine image ((left.1).1))

@@ -1,5 +1,6 @@
 -- What a cache over an encrypted memory stands for: a list of bytes.
-use Rattle.std.specs.Prelude.{◌≡◌, ◌<◌, ◌*◌, ℕ, List, [], ◌∷◌, Result, Ok, Err, None, Some, length, slice_index_or, replicate}
+use Rattle.std.specs.Prelude.{◌≡◌, ◌<◌, ◌*◌, ℕ, List, [], ◌∷◌, Result, Ok, Err, None, Some, length, slice_index_or}
+use Rattle.std.specs.Prelude.{replicate}
 use Rattle.asc_base.specs.declared.stop.Stop.{Stop}
 use Rattle.data_cache.specs.CacheLists.{line_in}
 use Rattle.data_cache.specs.Contents.{Contents}

@@ -120,7 +120,8 @@ pub fn stopped_runs_are_prefixes()
 {}
 
 /// Where no reply was altered, and the encrypted memory hasn't stopped before, none of these is stopped by evidence: a
-/// line that is written whole, an instruction, a run, a whole run over a new encrypted memory, and dummies up to a time.
+/// line that is written whole, an instruction, a run, a whole run over a new encrypted memory, and dummies up to a
+/// time.
 pub fn honest_runs_are_not_blamed()
     ensures line { (keys : Keys) → AreKeys keys → (levels line : ℕ) (value : Line) (memory : List ℕ)
         (old new : OramState) (cache left : Contents) (evidence : Evidence) → Computes keys levels cache memory old

@@ -3,8 +3,8 @@ use Rattle.std.specs.Prelude.{◌≡◌}
 use Rattle.unified_tree.specs.Tree.{IsSameTree}
 use Rattle.oram_frontend.specs.declared.slots.PortSlots.{PortSlots}
 
--- the references are the same; behind them the keys of tags, the leaf function, the configuration, and the tree's shape,
--- stash and key are
+-- the references are the same; behind them the keys of tags, the leaf function, the configuration, and the tree's
+-- shape, stash and key are
 pub record IsSameSlots {M W L : Type 0} (old new : PortSlots M W L) : Type 0 where
   pub memory : new.memory.ghost_name ≡ old.memory.ghost_name
   pub tap : new.tap.ghost_name ≡ old.tap.ghost_name

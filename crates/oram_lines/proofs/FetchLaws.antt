@@ -3,8 +3,10 @@ use Rattle.std.proofs.Common.{◌≡◌, ◌<◌, ◌≤◌, ◌+◌, ◌-◌, �
 use Rattle.std.proofs.Common.{length, refl, sym, ap, ◌∙◌, subst, arith, append-nil}
 use Rattle.std.proofs.lemmas.Bool.{cases_eq}
 use Rattle.request_plan.specs.Plan.{Done, Ask, Ends}
-use Rattle.asc_base.proofs.Layers.{layer_of_is, layer_of-lt, index_of-lt, parent_of-top, parent_of-below, children_of-line}
-use Rattle.asc_base.proofs.Layers.{layer_count-next, layer_first-next, layer_first-le, layer_first-zero, layer_count-zero}
+use Rattle.asc_base.proofs.Layers.{layer_of_is, layer_of-lt, index_of-lt, parent_of-top, parent_of-below}
+use Rattle.asc_base.proofs.Layers.{children_of-line}
+use Rattle.asc_base.proofs.Layers.{layer_count-next, layer_first-next, layer_first-le, layer_first-zero}
+use Rattle.asc_base.proofs.Layers.{layer_count-zero}
 use Rattle.asc_base.proofs.Families.{parent_above}
 use Rattle.asc_base.proofs.ShapeFacts.{shape_layered}
 use Rattle.asc_base.specs.TreeShape.{parent_of, children_of, layer_first, layer_of, index_of, IsInLayer}

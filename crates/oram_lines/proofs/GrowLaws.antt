@@ -17,7 +17,8 @@ use Rattle.oram_walk.specs.Request.{Request, Slot, Append, Answer, Room, Steps}
 use Rattle.oram_walk.specs.declared.slots.Seen.{Seen}
 use Rattle.rate_enforcer.proofs.Counted.{counted_still}
 use Rattle.rate_enforcer.specs.Counts.{IsCounted}
-use Rattle.rate_enforcer.specs.PortStep.{PortState, PortStep, PortRequest, Said, Open, Take, Note, Put, Close, Abort, Join, Idle}
+use Rattle.rate_enforcer.specs.PortStep.{PortState, PortStep, PortRequest, Said, Open, Take, Note, Put, Close}
+use Rattle.rate_enforcer.specs.PortStep.{Abort, Join, Idle}
 use Rattle.rate_enforcer.specs.declared.clock.Clock.{Clock}
 use Rattle.oram_frontend.specs.Access.{SlotStep, serve_plan}
 

@@ -1,5 +1,6 @@
 -- A refilled block comes to be held, and walks to a line.
-use Rattle.std.proofs.Common.{◌≡◌, ◌<◌, ◌≤◌, ◌+◌, ◌-◌, ◌⊎◌, inl, inr, ℕ, zero, suc, List, [], ◌∷◌, Option, None, Some, Ok}
+use Rattle.std.proofs.Common.{◌≡◌, ◌<◌, ◌≤◌, ◌+◌, ◌-◌, ◌⊎◌, inl, inr, ℕ, zero, suc, List, [], ◌∷◌, Option, None}
+use Rattle.std.proofs.Common.{Some, Ok}
 use Rattle.std.proofs.Common.{take, refl, sym, ap, ◌∙◌, subst, arith, append-nil}
 use Rattle.request_plan.specs.Plan.{Ends}
 use Rattle.asc_base.specs.Has.{Has}

@@ -17,7 +17,8 @@ use Rattle.oram_contents.specs.Entries.{Keys, AreKeys}
 use Rattle.oram_contents.specs.Slots.{refilled as taken_out}
 use Rattle.oram_contents.proofs.Lines.{put_same, line_same}
 use Rattle.oram_walk.specs.Front.{FrontState, counter_in, with_held}
-use Rattle.oram_walk.specs.Plans.{FrontPlan, visit_plan, hold_plan, refill_plan, refilled, found_plan, walk_plan, request_plan}
+use Rattle.oram_walk.specs.Plans.{FrontPlan, visit_plan, hold_plan, refill_plan, refilled, found_plan, walk_plan}
+use Rattle.oram_walk.specs.Plans.{request_plan}
 use Rattle.oram_walk.specs.declared.slots.Purpose.TheVariants.{Refill}
 use Rattle.oram_walk.specs.declared.slots.Seen.{Seen}
 use Rattle.posmap_lookaside.specs.Addresses.{used}

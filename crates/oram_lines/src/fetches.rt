@@ -13,8 +13,8 @@ ghost use Rattle.oram_walk.specs.declared.slots.Seen.{Seen};
 ghost use Rattle.request_plan.specs.Plan.{Ends};
 ghost use Rattle.rate_enforcer.specs.PortStep.{PortState};
 
-/// A fetch answers the line's bytes and leaves all lines as they are, and a store changes the one line, or the log shows
-/// a forgery.
+/// A fetch answers the line's bytes and leaves all lines as they are, and a store changes the one line, or the log
+/// shows a forgery.
 pub fn lines_are_kept()
     ensures fetch { (keys : Keys) → AreKeys keys → (levels : ℕ) (front : FrontState) (g : Ghost) (s : PortState)
         (asked line : ℕ) → StandsFor keys levels 0 front g s → IsCalm g → line < keys.shape.lines

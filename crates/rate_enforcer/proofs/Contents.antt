@@ -1,7 +1,8 @@
 -- What a port's slots make of the contents, over plain trees and taps.
 use Rattle.std.proofs.Common.{◌≡◌, ◌<◌, ◌≤◌, ◌+◌, ◌-◌, ◌^◌, ◌++◌, ℕ, suc, List, [], ◌∷◌, Option, None, map}
 use Rattle.std.specs.Option.{IsSome}
-use Rattle.std.proofs.Common.{Some, ◌↔◌, length, length-append, nat_lt, false, Ok, refl, sym, ap, subst, ◌∙◌, arith, append_assoc, append-nil}
+use Rattle.std.proofs.Common.{Some, ◌↔◌, length, length-append, nat_lt, false, Ok, refl, sym, ap, subst, ◌∙◌, arith}
+use Rattle.std.proofs.Common.{append_assoc, append-nil}
 use Rattle.asc_base.specs.declared.block.Entry.{Entry}
 use Rattle.asc_base.specs.declared.block.Leaf.{Leaf}
 use Rattle.asc_base.specs.declared.block.Point.{Point}

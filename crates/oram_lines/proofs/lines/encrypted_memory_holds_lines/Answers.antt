@@ -1,4 +1,5 @@
-use Rattle.oram_lines.proofs.LineLaws.{new_holds, call_holds, calls_hold, points_differ, blocks_home, forgery_call, forgery_stop}
+use Rattle.oram_lines.proofs.LineLaws.{new_holds, call_holds, calls_hold, points_differ, blocks_home, forgery_call}
+use Rattle.oram_lines.proofs.LineLaws.{forgery_stop}
 use Rattle.oram_lines.proofs.lines.encrypted_memory_holds_lines.Goals as goal
 
 pub returns : goal.returns
