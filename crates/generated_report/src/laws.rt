@@ -13,8 +13,8 @@ ghost use Rattle.secure_machine.specs.declared.report.Report.{Report};
 
 use generated_run::generated_programs_hash;
 
-/// A report that is flat RV32IM's, of a generated program with N data words: it has at most 8N + 21 instructions. An exit
-/// has the status 0 and comes after exactly so many, and the output is then the four bytes of the hash of the data
+/// A report that is flat RV32IM's, of a generated program with N data words: it has at most 8N + 21 instructions. An
+/// exit has the status 0 and comes after exactly so many, and the output is then the four bytes of the hash of the data
 /// words, the least first. It doesn't trap.
 pub fn generated_reports_have_the_hash()
     ensures few { (config : Config) (image : Image) (input : List ℕ) (report : Report) (seed words : ℕ)

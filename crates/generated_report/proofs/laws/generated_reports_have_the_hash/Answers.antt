@@ -13,8 +13,8 @@ returns-clause-few c config image input report seed words is flat =
     let written : (n : ℕ) → 8 * words + 21 ≤ n → IsWritten (8 * words + 21) (hash_of seed words)
     (flat_run n start image.bytes.items) = λ n enough.
     subst (IsWritten (8 * words + 21) (hash_of seed words)) (same_run config image input seed words is n)
-    (c.generated_programs_hash.ensures seed words config.base config.size n is.file input is.memory is.some is.most is.is
-    is.accepted enough) in
+    (c.generated_programs_hash.ensures seed words config.base config.size n is.file input is.memory is.some is.most
+    is.is is.accepted enough) in
     few_finish start image.bytes.items (8 * words + 21) (hash_of seed words) written report.instructions flat.finished
 
 pub returns-clause-exit : goal.returns-clause-exit
@@ -25,8 +25,8 @@ returns-clause-exit c config image input report seed words status is flat ending
     let hash = hash_of seed words in
     let written : (n : ℕ) → last ≤ n → IsWritten last hash (flat_run n start bytes) = λ n enough.
     subst (IsWritten last hash) (same_run config image input seed words is n)
-    (c.generated_programs_hash.ensures seed words config.base config.size n is.file input is.memory is.some is.most is.is
-    is.accepted enough) in
+    (c.generated_programs_hash.ensures seed words config.base config.size n is.file input is.memory is.some is.most
+    is.is is.accepted enough) in
     let ends = subst (FlatEnds report.instructions start bytes) ending flat.ends in
     let count = exit_finishes start bytes last hash written report.instructions status flat.finished ends in (
       exit_is_0 start bytes last hash written report.instructions status count ends,
@@ -43,7 +43,7 @@ returns-clause-trap c config image input report seed words pc kind is flat endin
     let hash = hash_of seed words in
     let written : (n : ℕ) → last ≤ n → IsWritten last hash (flat_run n start bytes) = λ n enough.
     subst (IsWritten last hash) (same_run config image input seed words is n)
-    (c.generated_programs_hash.ensures seed words config.base config.size n is.file input is.memory is.some is.most is.is
-    is.accepted enough) in
+    (c.generated_programs_hash.ensures seed words config.base config.size n is.file input is.memory is.some is.most
+    is.is is.accepted enough) in
     none_traps start bytes last hash written (report.instructions + 1) pc kind
     (subst (FlatEnds report.instructions start bytes) ending flat.ends)
