@@ -54,7 +54,8 @@ module _ {M W L : Type 0} (memory_of : M → MemoryState) (tap_of : W → TapSta
   notes s t (Fetch line) bytes (same, answered) = (
     bytes,
     fetch_lines (keys_in leaf_of s) (levels s) (timed_of memory_of tap_of s).oram (timed_of memory_of tap_of t).oram
-        s.clock line (record { line = Some (record { 0 = bytes }); end = t.clock }) (record { 0 = bytes }) refl answered.0,
+        s.clock line (record { line = Some (record { 0 = bytes }); end = t.clock }) (record { 0 = bytes }) refl
+        answered.0,
     refl,
   )
   notes s t (Store line value) bytes (same, answered) = (
@@ -110,8 +111,8 @@ module _ {M W L : Type 0} (memory_of : M → MemoryState) (tap_of : W → TapSta
   line_fed_stop ways line memory value s t cache left sets stop below is stands stops =
       kept-line-stop Step answers Always (λ u v q x one holds. tt) (noted tap_of) (λ u v q x one. notes u v q x one.1)
       (λ u v q e one. unnoted u v q e one.1) s.count ways line memory below (stands.0).size s t cache left sets stop tt
-      stands (subst (λ (bytes : List ℕ). Stops Step (write_line_plan cache line (record { 0 = bytes })) s t stop left) is
-      stops)
+      stands
+      (subst (λ (bytes : List ℕ). Stops Step (write_line_plan cache line (record { 0 = bytes })) s t stop left) is stops)
 
   -- An instruction.
   pub instruction_fed : (ways : ℕ) (machine : Machine) (s t : Timed) (cache after : Contents) (lists : Lines)
@@ -127,14 +128,14 @@ module _ {M W L : Type 0} (memory_of : M → MemoryState) (tap_of : W → TapSta
       notes answers s t cache after lists.memory lists.sets end stands ends in
       (lines, now, (more, whole), subst (λ n. StandsAs n ways after now) (sym same.count) later, step)
 
-  pub instruction_starved : (ways : ℕ) (machine : Machine) (s t : Timed) (cache : Contents) (lists : Lines) (stop : Stop)
-      (left : Contents × Machine) → IsCore machine.core → machine.core.size ≡ 64 * s.count
+  pub instruction_starved : (ways : ℕ) (machine : Machine) (s t : Timed) (cache : Contents) (lists : Lines)
+      (stop : Stop) (left : Contents × Machine) → IsCore machine.core → machine.core.size ≡ 64 * s.count
       → StandsAs s.count ways cache lists
       → Stops Step (through (cache_access machine.core.base) (step_plan machine) cache) s t stop left
       → IsStarvedStep tap_of ways machine lists s t
   instruction_starved ways machine s t cache lists stop left is size stands stops =
-      let (lines, more, whole, starves) = instruction-stops s.count ways machine is size Step (noted tap_of) notes answers
-      unnoted s t cache lists.memory lists.sets stop left stands stops in
+      let (lines, more, whole, starves) = instruction-stops s.count ways machine is size Step (noted tap_of) notes
+      answers unnoted s t cache lists.memory lists.sets stop left stands stops in
       (lines, (more, whole), starves)
 
 -- ---- what a run tells, instruction by instruction
@@ -173,7 +174,8 @@ module _ {M W L : Type 0} (tap_of : W → TapState) where
   -- the clock went on
   pub spent_fed : (ways : ℕ) (machine next : Machine) (lists : Lines) (s t u : TimedLines M W L) (cache : Contents)
       (done : Done) → u.tap.now ≡ t.tap.now → u.count ≡ t.count
-      → IsFedStep tap_of ways machine lists s t cache next done → IsFedStep tap_of ways machine lists s u cache next done
+      → IsFedStep tap_of ways machine lists s t cache next done
+      → IsFedStep tap_of ways machine lists s u cache next done
   spent_fed ways machine next lists s t u cache done tap count (lines, now, (more, whole), stands, step) = (
     lines,
     now,

@@ -241,7 +241,8 @@ pub reaches_more : (ways n : ℕ) (machine next last : Machine) (lists now later
     → Reaches ways (n + 1) machine lists (lines ++ others) last later
 reaches_more ways n machine next last lists now later lines others done some reaches going step more whole =
     ap (λ l. fed_run ways (n + 1) machine (feed_of lists l)) (append_assoc lines others more)
-    ∙ (reached_run ways n 1 machine next lists now lines (others ++ more) reaches (AreLines-append others more some whole)
+    ∙ (reached_run ways n 1 machine next lists now lines (others ++ more) reaches
+    (AreLines-append others more some whole)
     ∙ (ap (fed_before n) (first_ends ways 0 next (feed_of now (others ++ more))
     (record { machine = last; feed = feed_of later more; done = done }) No (step more whole) going)
     ∙ (ap (λ (r : FedRun). fed_before n (one_before r)) (fed_run-zero ways last (feed_of later more))

@@ -7,9 +7,10 @@ use Rattle.data_cache.specs.CacheLists.{Sets, Lines}
 use Rattle.data_cache.specs.Contents.{Contents}
 use Rattle.elf_loader.specs.declared.image.Image.{Image}
 use Rattle.fed_run.specs.Answered.{AreLines, feed_of}
-use Rattle.fed_run.specs.Fed.{Feed, FedRun, Ends as EndsAs, fed_step, fed_run}
+use Rattle.fed_run.specs.Fed.{Feed, FedRun, Ends as EndsAs, fed_step, fed_run, sets_along}
 use Rattle.fed_run.specs.Whole.{fed, feed_at_start}
 use Rattle.rv32_core.specs.FlatRun.{FlatEnding, Exited, Trapped, Budget as FlatBudget}
+use Rattle.rv32_core.specs.LineList.{WholeWrite, used}
 use Rattle.rv32_core.specs.Machine.{Machine}
 use Rattle.rv32_core.specs.declared.outcome.Done.{Done}
 use Rattle.secure_machine.specs.Answered.{answered_lines}
@@ -63,6 +64,10 @@ module _ (ways instructions : ℕ) (machine : Machine) (feed : Feed) where
 abbrev pub over_image : Image → Sets → Lines
 over_image image sets = record { memory = image.bytes.items; sets = sets }
 
+-- the same after its lines were written whole into a cache for which these lists stood
+abbrev pub over_loaded : ℕ → Image → Sets → Lines
+over_loaded ways image sets = over_image image (sets_along ways sets (used WholeWrite image.marked.items))
+
 module _ {M W L : Type 0} (tap_of : W → TapState) where
   -- the lines that were answered, as the log notes them
   abbrev pub noted : TimedLines M W L → List (List ℕ)
@@ -72,8 +77,8 @@ module _ {M W L : Type 0} (tap_of : W → TapState) where
   abbrev pub NotesMore : TimedLines M W L → List (List ℕ) → TimedLines M W L → Type 0
   NotesMore s lines t = (noted t ≡ noted s ++ lines) × AreLines lines
 
-  -- An instruction is that of the machine that is fed with just the lines that were answered, and leaves its machine, and
-  -- a cache for which its lists stand.
+  -- An instruction is that of the machine that is fed with just the lines that were answered: it leaves this machine,
+  -- and lists that stand for the cache.
   abbrev pub IsFedStep : ℕ → Machine → Lines → (s t : TimedLines M W L) → Contents → Machine → Done → Type 0
   IsFedStep ways machine lists s t cache next done =
       (lines : List (List ℕ)) × (now : Lines) × NotesMore s lines t × StandsAs t.count ways cache now
@@ -94,14 +99,14 @@ module _ {M W L : Type 0} (tap_of : W → TapState) where
       × CauseFed ways more machine (feed_of lists lines) halted.cause last
 
 -- ---- a report
--- the run of so many instructions of the machine that is fed with these lines, from the start with an image and an input
+-- so many instructions of the machine that is fed with these lines, from the start with an image and an input
 abbrev pub fed_from_start : Config → Image → List ℕ → ℕ → List (List ℕ) → FedRun
 fed_from_start config image input n lines =
     fed config.ways config.sets image.bytes.items image.marked.items n (start_of config image input) lines
 
 -- A report is that of the machine that is fed with these lines, whatever they are. With one instruction more than were
--- reported it uses all of them, each for the line for which the cache's lists ask then, in order. With just the reported
--- instructions it finishes them, and its output is the reported one. And it ends as was reported.
+-- reported it uses all of them, in order, each for the line for which the cache's lists ask then. With just the
+-- reported instructions it finishes these, and its output is the reported one. And it ends as was reported.
 pub record IsFed (config : Config) (image : Image) (input : List ℕ) (report : Report) (lines : List (List ℕ)) : Type 0
   where
     pub uses : (fed_from_start config image input (report.instructions + 1) lines).feed.left ≡ []

@@ -5,19 +5,19 @@ ghost use Rattle.data_cache.specs.CacheLists.{Sets, Lines, line_in, sets_after};
 ghost use Rattle.data_cache.specs.Cached.{StandsAs};
 ghost use Rattle.encrypted_run.specs.Refined.{Computes, loaded};
 ghost use Rattle.fed_run.specs.Answered.{feed_of};
-ghost use Rattle.fed_run.specs.Fed.{Feed, sets_along};
+ghost use Rattle.fed_run.specs.Fed.{Feed};
 ghost use Rattle.oram_contents.specs.Entries.{AreKeys};
 ghost use Rattle.oram_contents.specs.Forgery.{Forgery};
 ghost use Rattle.rate_enforcer.specs.Served.{keys_of};
 ghost use Rattle.rv32_core.specs.Access.{spliced};
 ghost use Rattle.rv32_core.specs.FlatMachine.{flat_step};
-ghost use Rattle.rv32_core.specs.LineList.{WholeWrite, used};
+ghost use Rattle.rv32_core.specs.LineList.{WholeWrite};
 ghost use Rattle.rv32_core.specs.Machine.{Machine, IsCore};
 ghost use Rattle.rv32_core.specs.StepPlan.{machine_of};
 ghost use Rattle.rv32_core.specs.declared.outcome.Done.{Done as DoneValue};
 ghost use Rattle.rv32_core.specs.declared.outcome.Ended.TheVariants.{No};
 ghost use Rattle.secure_machine.specs.Answered.{answered_lines};
-ghost use Rattle.secure_machine.specs.Fed.{noted, over_image, IsFedStep, IsStarvedStep, HaltsFed, CauseFed, IsFedRun};
+ghost use Rattle.secure_machine.specs.Fed.{noted, over_image, over_loaded, IsFedStep, IsStarvedStep, HaltsFed, CauseFed, IsFedRun};
 ghost use Rattle.secure_machine.specs.FlatEnds.{HaltsFlat, HaltsRun, IsFlat, ending_by};
 ghost use Rattle.secure_machine.specs.Refines.{IsForged, StandFor, Knows, IsUnblamed, EndsUnblamed, CauseUnblamed};
 ghost use Rattle.std.specs.Prelude.{◌≡◌, ◌<◌, ◌*◌, ◌%◌, ℕ, Some, OnOk, IfOk, IfErr, MatchResult, vec_len};
@@ -169,7 +169,7 @@ fn load<M: UntrustedMemory, W: Watch, L: LeafFn>(
         → Knows M.state W.state L.leaf_of L.levels cache.old memory lines.old
         → IfErr result (λ halted. CauseUnblamed M.state W.state L.leaf_of L.levels halted.cause lines.new) }
     ensures fed { (ways : ℕ) (sets : Sets) → StandsAs lines.old.count ways cache.old (over_image image.now sets)
-        → let started = over_image image.now (sets_along ways sets (used WholeWrite image.now.marked.items)) in
+        → let started = over_loaded ways image.now sets in
         (noted W.state lines.new ≡ noted W.state lines.old)
         × MatchResult result
         (λ _. StandsAs lines.new.count ways cache.new started)
@@ -330,9 +330,8 @@ fn play<M: UntrustedMemory, W: Watch, L: LeafFn>(
         → CauseUnblamed M.state W.state L.leaf_of L.levels result.cause lines.new }
     ensures fed { (ways : ℕ) (sets : Sets) → IsCore core.old
         → StandsAs lines.old.count ways cache.old (over_image image.now sets)
-        → HaltsFed W.state ways 0 (machine_of core.old files.old)
-        (over_image image.now (sets_along ways sets (used WholeWrite image.now.marked.items))) lines.old lines.new result
-        (machine_of core.new files.new) }
+        → HaltsFed W.state ways 0 (machine_of core.old files.old) (over_loaded ways image.now sets) lines.old lines.new
+        result (machine_of core.new files.new) }
 {
     match load(image, cache, lines, base, budget) {
         Ok(()) => {}
@@ -457,8 +456,7 @@ pub(crate) fn drive<M: UntrustedMemory, W: Watch, L: LeafFn>(
         × (answered_lines (W.state bus.new.tap.now).log.events
         ≡ answered_lines (W.state bus.old.tap.now).log.events ++ lines)
         × IsFedRun ways course.instructions (machine_of core.old files.old)
-        (feed_of (over_image image.now (sets_along ways sets (used WholeWrite image.now.marked.items))) lines)
-        course.ending (machine_of core.new files.new)) }
+        (feed_of (over_loaded ways image.now sets) lines) course.ending (machine_of core.new files.new)) }
 {
     let mut lines = TimedLines::new(bus.memory, bus.tap, oram);
     let halted = play(image, base, budget, core, files, cache, &mut lines);

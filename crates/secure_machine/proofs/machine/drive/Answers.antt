@@ -2,12 +2,10 @@ use Rattle.std.proofs.Common.{◌≡◌, ◌++◌, ◌∙◌, inl, inr, sym, ap,
 use Rattle.data_cache.specs.Cached.{StandsAs}
 use Rattle.encrypted_run.specs.Refined.{loaded}
 use Rattle.fed_run.specs.Answered.{feed_of}
-use Rattle.fed_run.specs.Fed.{sets_along}
 use Rattle.oram_contents.specs.Entries.{AreKeys}
-use Rattle.rv32_core.specs.LineList.{WholeWrite, used}
 use Rattle.rv32_core.specs.StepPlan.{machine_of}
 use Rattle.secure_machine.specs.Answered.{answered_lines}
-use Rattle.secure_machine.specs.Fed.{over_image, CauseFed}
+use Rattle.secure_machine.specs.Fed.{over_image, over_loaded, CauseFed}
 use Rattle.secure_machine.proofs.LineChains.{same_then}
 use Rattle.secure_machine.proofs.Refining.{keys_same, at_parts, keys_by, forged_first, StandBy}
 use Rattle.secure_machine.proofs.machine.drive.Goals as goal
@@ -51,7 +49,7 @@ pub returns-clause-fed : goal.returns-clause-fed
 returns-clause-fed g c ways sets core stands =
     let machine = machine_of c.args.core.now c.args.files.now in
     let last = machine_of c.play-halted.new.core c.play-halted.new.files in
-    let started = over_image c.args.image.now (sets_along ways sets (used WholeWrite c.args.image.now.marked.items)) in
+    let started = over_loaded ways c.args.image.now sets in
     let (lines, k, (more, whole), count, cause) = c.play-halted.ensures.fed ways sets core
     (subst (λ n. StandsAs n ways c.args.cache.now (over_image c.args.image.now sets)) (sym c.new-lines.ensures.count)
     stands) in

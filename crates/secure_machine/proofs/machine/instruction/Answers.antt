@@ -116,8 +116,8 @@ returns-in-Exit-clause-fed g c ways lists core stands =
     let next = machine_of c.step.new.core c.step.new.files in
     subst (λ (h : Halted). HaltsFed g.W.Watch.state ways c.args.before machine lists c.args.lines.now c.step.new.lines h
     next) (sym c.ended-in-Exit.ensures)
-    (exit_halts g.W.Watch.state ways c.args.before c.step.new.lines.clock c.in-Exit.status c.min.result machine next lists
-    c.args.lines.now c.step.new.lines c.step.new.cache c.in-Ok.done c.in-Exit.is
+    (exit_halts g.W.Watch.state ways c.args.before c.step.new.lines.clock c.in-Exit.status c.min.result machine next
+    lists c.args.lines.now c.step.new.lines c.step.new.cache c.in-Ok.done c.in-Exit.is
     (c.in-Ok.ensures.fed ways lists core stands))
 
 pub returns-in-Trap-clause-fed : goal.returns-in-Trap-clause-fed

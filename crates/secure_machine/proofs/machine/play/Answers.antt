@@ -11,9 +11,7 @@ use Rattle.secure_machine.specs.declared.report.Ending.TheVariants.{Budget}
 use Rattle.secure_machine.proofs.FlatLaws.{reaches_none, reaches_more, halts_run}
 use Rattle.secure_machine.proofs.LineChains.{onwards_then, halts_later, ends_after}
 use Rattle.secure_machine.proofs.Refining.{keys_same}
-use Rattle.fed_run.specs.Fed.{sets_along}
-use Rattle.rv32_core.specs.LineList.{WholeWrite, used}
-use Rattle.secure_machine.specs.Fed.{over_image, HaltsFed}
+use Rattle.secure_machine.specs.Fed.{over_loaded, HaltsFed}
 use Rattle.secure_machine.specs.declared.machine.Cause.TheVariants.{Ends}
 use Rattle.secure_machine.specs.declared.report.Ending.TheVariants.{Budget}
 use Rattle.secure_machine.proofs.FedChains.{fed_none, fed_more, fed_halts, load_halts, budget_halts}
@@ -51,8 +49,7 @@ returns-in-Err-instruction g c =
                 (c.loop-before.invariant.core core) (inr stands)
           ];
       fed = λ ways sets core stands.
-          let started = over_image c.args.image.now
-          (sets_along ways sets (used WholeWrite c.args.image.now.marked.items)) in
+          let started = over_loaded ways c.args.image.now sets in
           let first = c.loop-before.invariant.fed ways sets core stands in
           fed_halts g.W.Watch.state ways c.loop-before.before machine
           (machine_of c.loop-before.core c.loop-before.files)
@@ -92,8 +89,7 @@ loop-before-preserved g c =
                 ]
           ];
       fed = λ ways sets core stands.
-          let started = over_image c.args.image.now
-          (sets_along ways sets (used WholeWrite c.args.image.now.marked.items)) in
+          let started = over_loaded ways c.args.image.now sets in
           let first = c.loop-before.invariant.fed ways sets core stands in
           let (done, going, step) = c.in-Ok-instruction.ensures.fed ways (first.1) (c.loop-before.invariant.core core)
           (first.3) in
@@ -125,10 +121,10 @@ loop-before-init g c =
             | inr stands ↦ inr (bytes, reaches_none machine bytes, stands)
           ];
       fed = λ ways sets core stands.
-          let started = over_image c.args.image.now
-          (sets_along ways sets (used WholeWrite c.args.image.now.marked.items)) in
+          let started = over_loaded ways c.args.image.now sets in
           let (none, standing) = c.in-Ok.ensures.fed ways sets stands in
-          fed_none g.W.Watch.state ways machine started c.args.lines.now c.load.new.lines c.load.new.cache none standing;
+          fed_none g.W.Watch.state ways machine started c.args.lines.now c.load.new.lines c.load.new.cache none
+          standing;
     }
 
 pub returns-clause-halts : goal.returns-clause-halts
@@ -172,15 +168,16 @@ returns-clause-honest g c memory lawful core known =
 pub returns-in-Err-clause-fed : goal.returns-in-Err-clause-fed
 returns-in-Err-clause-fed g c ways sets core stands =
     let machine = machine_of c.args.core.now c.args.files.now in
-    let started = over_image c.args.image.now (sets_along ways sets (used WholeWrite c.args.image.now.marked.items)) in
+    let started = over_loaded ways c.args.image.now sets in
     let (none, cause) = c.in-Err.ensures.fed ways sets stands in
-    load_halts g.W.Watch.state ways machine started c.args.lines.now c.load.new.lines c.in-Err.halted none (cause machine)
+    load_halts g.W.Watch.state ways machine started c.args.lines.now c.load.new.lines c.in-Err.halted none
+    (cause machine)
 
 pub returns-clause-fed : goal.returns-clause-fed
 returns-clause-fed g c ways sets core stands =
     let machine = machine_of c.args.core.now c.args.files.now in
     let next = machine_of c.loop-before.core c.loop-before.files in
-    let started = over_image c.args.image.now (sets_along ways sets (used WholeWrite c.args.image.now.marked.items)) in
+    let started = over_loaded ways c.args.image.now sets in
     let first = c.loop-before.invariant.fed ways sets core stands in
     let all : c.loop-before.before ≡ c.args.budget
     = omega (arith, c.loop-before-test.false, c.loop-before.auto.before-end) in

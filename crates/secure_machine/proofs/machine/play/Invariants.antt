@@ -3,12 +3,10 @@ use Rattle.data_cache.specs.Cached.{StandsAs}
 use Rattle.data_cache.specs.CacheLists.{Sets}
 use Rattle.data_cache.specs.Contents.{CacheBelow}
 use Rattle.encrypted_run.specs.Refined.{loaded}
-use Rattle.fed_run.specs.Fed.{sets_along}
 use Rattle.oram_contents.specs.Entries.{AreKeys}
-use Rattle.rv32_core.specs.LineList.{WholeWrite, used}
 use Rattle.rv32_core.specs.Machine.{IsCore}
 use Rattle.rv32_core.specs.StepPlan.{machine_of}
-use Rattle.secure_machine.specs.Fed.{over_image}
+use Rattle.secure_machine.specs.Fed.{over_image, over_loaded}
 use Rattle.secure_machine.specs.Refines.{IsForged, StandFor, Knows}
 use Rattle.secure_machine.specs.Runs.{Onwards}
 use Rattle.secure_machine.specs.Same.{keys_in}
@@ -34,6 +32,5 @@ invariant-loop-before g l = record {
   fed : (ways : ℕ) (sets : Sets) → IsCore l.fn.core
       → StandsAs l.fn.lines.count ways l.fn.cache (over_image l.fn.image sets)
       → FedSoFar g.W.Watch.state ways l.before (machine_of l.fn.core l.fn.files)
-      (over_image l.fn.image (sets_along ways sets (used WholeWrite l.fn.image.marked.items))) l.fn.lines l.lines l.cache
-      (machine_of l.core l.files);
+      (over_loaded ways l.fn.image sets) l.fn.lines l.lines l.cache (machine_of l.core l.files);
 }
