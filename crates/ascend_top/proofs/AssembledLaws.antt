@@ -1,5 +1,5 @@
 -- The fields of an assembled file, what faults it doesn't have, and its memory.
-use Rattle.std.proofs.Common.{◌≡◌, ◌∙◌, ℕ, ◌+◌, ◌-◌, ◌%◌, ◌^◌, ◌<◌, ◌≤◌, List, [], ◌∷◌, ◌++◌, length, ap, sym, subst, refl, arith, inl, inr, true, false, length-append}
+use Rattle.std.proofs.Common.{◌≡◌, ◌∙◌, ℕ, ◌+◌, ◌-◌, ◌%◌, ◌^◌, ◌<◌, ◌≤◌, List, [], ◌∷◌, ◌++◌, length, lit≤, ap, sym, subst, refl, arith, inl, inr, true, false, length-append}
 use Rattle.std.specs.Prelude.{nat_lt, ◌&&◌, cond, map, replicate, slice_index, Some, None}
 use Rattle.std.specs.List.{find, range_with_len}
 use Rattle.std.proofs.lemmas.Nat.{from_le_bytes-to_le_bytes_4}
@@ -200,3 +200,19 @@ module _ (base size at : ℕ) (bytes : List ℕ) (inside : IsInside base size at
       (long ∙ same_length)
       (λ i less. get_or-map-range_with_len (image_byte file) base size i (base + i) 0 (omega arith) refl
       ∙ at_index i (omega arith))
+
+-- a program of one word in the default memory
+pub one_word : IsInside 0 1_048_576 4_096 (115 ∷ 0 ∷ 0 ∷ 0 ∷ [])
+one_word = record {
+  memory = record {
+    size_from = lit≤ tt;
+    size_to = lit≤ tt;
+    size_pages = refl;
+    base_pages = refl;
+    below_top = lit≤ tt;
+  };
+  aligned = refl;
+  from = lit≤ tt;
+  entry = lit≤ tt;
+  to = lit≤ tt;
+}

@@ -1,6 +1,6 @@
 //! Laws of the crates below, taken together, and of what a run leaves. The calls do nothing.
 
-ghost use Rattle.std.specs.Prelude.{◌≡◌, ℕ, List, Some};
+ghost use Rattle.std.specs.Prelude.{◌≡◌, ℕ, List, [], ◌∷◌, Some};
 ghost use Rattle.asc_outside.specs.Host.{Files, HostState};
 ghost use Rattle.elf_loader.specs.Elf.{entry_of};
 ghost use Rattle.elf_loader.specs.Faults.{IsFaultless};
@@ -17,7 +17,8 @@ ghost use Rattle.ascend_top.specs.Texts.{run_text};
 ghost use Rattle.ascend_top.specs.declared.commands.run.Encrypted.{Encrypted as EncryptedRun};
 
 /// `parse` accepts every file that `assemble` gives, where the program is inside the memory: the memory has the
-/// program's bytes at their place and zeros elsewhere, and the first instruction is the program's first.
+/// program's bytes at their place and zeros elsewhere, and the first instruction is the program's first. A program of one
+/// word, `ecall`, is inside the default memory.
 pub fn assembled_files_are_accepted()
     ensures faultless { (base size at : ℕ) (bytes : List ℕ) → IsInside base size at bytes
         → IsFaultless base size (file_of at bytes) }
@@ -25,6 +26,7 @@ pub fn assembled_files_are_accepted()
         → image_bytes base size (file_of at bytes) ≡ memory_of base size at bytes }
     ensures entry { (base size at : ℕ) (bytes : List ℕ) → IsInside base size at bytes
         → entry_of (file_of at bytes) ≡ at }
+    ensures one { IsInside 0 1_048_576 4_096 (115 ∷ 0 ∷ 0 ∷ 0 ∷ []) }
 {}
 
 /// Where a run over encrypted memory was reported, the output file is the report's output, unless the file of the trace

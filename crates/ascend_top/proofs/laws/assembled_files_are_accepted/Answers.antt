@@ -1,4 +1,4 @@
-use Rattle.ascend_top.proofs.AssembledLaws.{no_fault, entry_is, memory_is}
+use Rattle.ascend_top.proofs.AssembledLaws.{no_fault, entry_is, memory_is, one_word}
 use Rattle.ascend_top.proofs.laws.assembled_files_are_accepted.Goals as goal
 
 pub returns-clause-faultless : goal.returns-clause-faultless
@@ -9,3 +9,6 @@ returns-clause-memory c base size at bytes inside = memory_is base size at bytes
 
 pub returns-clause-entry : goal.returns-clause-entry
 returns-clause-entry c base size at bytes inside = entry_is base size at bytes inside
+
+pub returns-clause-one : goal.returns-clause-one
+returns-clause-one c = one_word
