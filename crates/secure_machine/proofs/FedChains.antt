@@ -17,7 +17,7 @@ use Rattle.fed_run.proofs.InstructionChains.{instruction-ends, instruction-stops
 use Rattle.fed_run.proofs.KeptChains.{kept-line, kept-line-stop}
 use Rattle.oram_frontend.specs.Oram.{Fetch as OramFetch, Store as OramStore}
 use Rattle.request_plan.specs.Laws.{NotesAnswers, StopsUnnoted}
-use Rattle.request_plan.specs.Plan.{Ends, Stops, through}
+use Rattle.request_plan.specs.Plan.{Plan, Ends, Stops, through}
 use Rattle.rv32_core.specs.LineList.{WholeWrite, used}
 use Rattle.rv32_core.specs.Machine.{Machine, IsCore}
 use Rattle.rv32_core.specs.StepPlan.{step_plan}
@@ -109,10 +109,12 @@ module _ {M W L : Type 0} (memory_of : M → MemoryState) (tap_of : W → TapSta
       → Stops Step (write_line_plan cache line value) s t stop left
       → noted tap_of t ≡ noted tap_of s
   line_fed_stop ways line memory value s t cache left sets stop below is stands stops =
+      let plan : List ℕ → Plan LineRequest (List ℕ) Contents Contents =
+      λ bytes. write_line_plan cache line (record { 0 = bytes }) in
       kept-line-stop Step answers Always (λ u v q x one holds. tt) (noted tap_of) (λ u v q x one. notes u v q x one.1)
       (λ u v q e one. unnoted u v q e one.1) s.count ways line memory below (stands.0).size s t cache left sets stop tt
       stands
-      (subst (λ (bytes : List ℕ). Stops Step (write_line_plan cache line (record { 0 = bytes })) s t stop left) is stops)
+      (subst (λ (bytes : List ℕ). Stops Step (plan bytes) s t stop left) is stops)
 
   -- An instruction.
   pub instruction_fed : (ways : ℕ) (machine : Machine) (s t : Timed) (cache after : Contents) (lists : Lines)

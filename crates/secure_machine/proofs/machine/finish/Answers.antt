@@ -173,9 +173,11 @@ returns-in-Err-clause-fed g c ways machine last feed fed =
     let in_time : (at : ℕ) → c.in-Err.stop ≡ TimeUp at → ⊥ = λ at is.
     wait_in_time keys levels old new fits by.1 c.in-Ends.until at
     (subst (λ (s : Stop). OramStep keys levels old (Wait c.in-Ends.until) (Err s) new) is c.in-Err.ensures.step) in
+    let runs = subst (λ (cause : Cause). CauseFed ways c.args.halted.instructions machine feed cause last) c.in-Ends.is
+    fed in
     IfOk-weaker c.ending_of.result _ _ (λ (ending, end) named.
     ended_stop_ends ways c.args.halted.instructions machine last feed c.in-Ends.ending ending c.in-Err.stop in_time
-    named (subst (λ (cause : Cause). CauseFed ways c.args.halted.instructions machine feed cause last) c.in-Ends.is fed))
+    named runs)
     c.ending_of.ensures.named
 
 pub returns-in-Stops-clause-fed : goal.returns-in-Stops-clause-fed
