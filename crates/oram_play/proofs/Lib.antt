@@ -14,3 +14,4 @@ pub mod CutSlots
 pub mod CutSteps
 pub mod PairsTo
 pub mod StopTurns
+pub mod CutRequests

@@ -5,3 +5,4 @@ pub mod Shown
 pub mod Playing
 pub mod Stopped
 pub mod StopsInTurn
+pub mod OnPlay

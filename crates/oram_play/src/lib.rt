@@ -15,4 +15,6 @@ pub use laws::{
     accesses_take_asked_slots, answered_requests_take_slots, answered_requests_take_slots_in_turn,
     ports_keep_the_pace, walked_accesses_take_play_slots,
 };
-pub use stops::{stopped_accesses_are_cut, stopped_requests_take_slots_in_turn};
+pub use stops::{
+    stopped_accesses_are_cut, stopped_requests_take_slots_in_turn, stopped_walks_cut_plays,
+};

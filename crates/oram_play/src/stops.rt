@@ -1,13 +1,18 @@
 //! Laws of what a stop leaves of the slots of a play. The functions do nothing: each states laws in its contract.
 
-ghost use Rattle.std.specs.Prelude.{◌≡◌, ◌+◌, ℕ, List, [], ◌∷◌, ◌++◌, None, Err};
+ghost use Rattle.std.specs.Prelude.{◌≡◌, ◌+◌, ◌⊎◌, ℕ, List, [], ◌∷◌, ◌++◌, None, Err};
 ghost use Rattle.asc_base.specs.declared.block.Line.{Line};
 ghost use Rattle.asc_base.specs.declared.block.Message.{Message};
+ghost use Rattle.asc_base.specs.declared.settings.Config.{Config};
 ghost use Rattle.asc_base.specs.declared.stop.Stop.{Stop};
+ghost use Rattle.data_cache.specs.Lines.{LineRequest};
 ghost use Rattle.oram_contents.specs.Entries.{Keys};
+ghost use Rattle.oram_contents.specs.Forgery.{Forgery};
 ghost use Rattle.oram_frontend.specs.Access.{SlotStep};
 ghost use Rattle.oram_frontend.specs.Oram.{OramState, OramStep, Fetch, Store, Wait};
 ghost use Rattle.oram_frontend.specs.Slots.{FitKeys};
+ghost use Rattle.oram_play.specs.OnPlay.{IsOnPlay};
+ghost use Rattle.oram_play.specs.Playing.{LeavesOf};
 ghost use Rattle.oram_play.specs.Stopped.{AccessLeaves, AppendLeaves, WaitLeaves};
 ghost use Rattle.oram_play.specs.StopsInTurn.{StopsInTurn, ShowsWalkTo};
 ghost use Rattle.oram_play.specs.Taken.{HasTaken};
@@ -15,6 +20,7 @@ ghost use Rattle.oram_walk.specs.Request.{Slot as AccessSlot, Append};
 ghost use Rattle.oram_walk.specs.declared.slots.Access.{Access};
 ghost use Rattle.oram_walk.specs.declared.slots.Purpose.TheVariants.{Keep, Replace};
 ghost use Rattle.rate_enforcer.specs.PortStep.{PortState, Resting};
+ghost use Rattle.run_play.specs.Requests.{Standing, request_slots};
 ghost use Rattle.run_play.specs.Slots.{Pace, Numbers, Slot};
 
 /// An access that is stopped leaves a part of the slots that it would take: the log says the slots before the one that
@@ -52,4 +58,14 @@ pub fn stopped_requests_take_slots_in_turn()
         → OramStep keys levels old (Store asked line value) (Err stop) new
         → (stops : StopsInTurn keys levels old.port.clock.config numbers asked slots pace stop new.port)
         × ShowsWalkTo old.front line (Replace value) stops.accesses stops.next }
+{}
+
+/// Where a stopped request is on the walk of the play's request, up to lines that are forged, it leaves a cut of the
+/// play: a slot of it was stopped, or all its slots were taken before one that is too late.
+pub fn stopped_walks_cut_plays()
+    ensures { (keys : Keys) (levels : ℕ) (config : Config) (now : Standing) (request : LineRequest)
+        (slots : List Slot) (stop : Stop) (new : PortState) → now.late ≡ None
+        → (stops : StopsInTurn keys levels config now.numbers now.clock slots now.pace stop new)
+        → IsOnPlay keys config now request stops.accesses stops.mid new stops.next
+        → Forgery keys new.tap.log ⊎ LeavesOf levels slots (request_slots config now request) stop new }
 {}
