@@ -1,13 +1,16 @@
 -- What is asked of a port along a plan and how it is answered; and when the answers are the lines of a memory.
 use Rattle.std.specs.Prelude.{◌≡◌, ◌<◌, ℕ, List, [], ◌∷◌, ◌++◌, Some, Result, Ok, Err}
+use Rattle.request_plan.specs.Plan.{Ends, Stops}
 use Rattle.asc_base.specs.Has.{Has}
 use Rattle.asc_base.specs.declared.block.Line.{Line}
 use Rattle.asc_base.specs.declared.stop.Stop.{Stop}
 use Rattle.oram_contents.specs.Counts.{Ghost, line_at}
 use Rattle.oram_contents.specs.Entries.{Keys}
 use Rattle.oram_frontend.specs.Access.{SlotStep}
+use Rattle.oram_walk.specs.Front.{FrontState}
 use Rattle.oram_walk.specs.Memory.{memory}
-use Rattle.oram_walk.specs.Request.{Request, Slot, Append, Answer, Room}
+use Rattle.oram_walk.specs.Plans.{FrontPlan}
+use Rattle.oram_walk.specs.Request.{Request, Slot, Append, Answer, Room, Steps}
 use Rattle.oram_walk.specs.declared.slots.Seen.{Seen}
 use Rattle.rate_enforcer.specs.PortStep.{PortState}
 
@@ -41,7 +44,8 @@ lines_then lines request = (memory 0 lines request).held
 -- each is answered so, in a memory that changes by what is put back and appended
 abbrev pub AreAnswersIn : (ℕ → Line) → Answers → Type 0
 AreAnswersIn lines [] = Unit {0}
-AreAnswersIn lines ((request, seen) ∷ more) = IsAnswerIn lines request seen × AreAnswersIn (lines_then lines request) more
+AreAnswersIn lines ((request, seen) ∷ more) =
+    IsAnswerIn lines request seen × AreAnswersIn (lines_then lines request) more
 
 -- its lines after them
 abbrev pub lines_behind : (ℕ → Line) → Answers → ℕ → Line
@@ -52,3 +56,20 @@ lines_behind lines ((request, seen) ∷ more) = lines_behind (lines_then lines r
 pub record IsMemoryOf (keys : Keys) (g : Ghost) (lines : ℕ → Line) : Type 0 where
   pub each : (a : ℕ) → a < keys.shape.total → (Has a g.held → ⊥) → (g.flight ≡ Some a → ⊥)
       → (lines a).0 ≡ line_at keys.shape g a
+
+-- Each run of a plan over a port is one in which its answers are noted behind others, and the other way round; so is
+-- each that is stopped.
+pub record AreRunsNoted (keys : Keys) (levels : ℕ) {A : Type 0} (plan : FrontPlan A) : Type 0 where
+  pub ends : (s t : PortState) (before : Answers) (outcome : FrontState × A)
+      → Ends (Steps (SlotStep keys levels)) plan s t outcome
+      → (answers : Answers) × Ends (Steps (NotedStep keys levels)) plan (record { port = s; answers = before })
+      (record { port = t; answers = answers }) outcome
+  pub stops : (s t : PortState) (before : Answers) (stop : Stop) (left : FrontState)
+      → Stops (Steps (SlotStep keys levels)) plan s t stop left
+      → (answers : Answers) × Stops (Steps (NotedStep keys levels)) plan (record { port = s; answers = before })
+      (record { port = t; answers = answers }) stop left
+  pub ends_back : (s t : NotedState) (outcome : FrontState × A) → Ends (Steps (NotedStep keys levels)) plan s t outcome
+      → Ends (Steps (SlotStep keys levels)) plan s.port t.port outcome
+  pub stops_back : (s t : NotedState) (stop : Stop) (left : FrontState)
+      → Stops (Steps (NotedStep keys levels)) plan s t stop left
+      → Stops (Steps (SlotStep keys levels)) plan s.port t.port stop left
