@@ -123,34 +123,39 @@ module _ (keys : Keys) (lawful : AreKeys keys) (levels : ℕ) where
     record { each = outside.each },
   )
 
+  -- a new one stands for zeros
+  pub new_stands : (config : Config) (o : OramState) → IsConfig config → IsNew keys config levels o
+      → StandsFor keys levels 0 o.front first_ghost o.port
+  new_stands config o is_config new = record {
+    known = record {
+      fits = new.fits;
+      sound = subst (λ (l : LogLists). Sound keys l first_ghost (contents o.port)) (sym new.log)
+          (subst (λ (c : Contents). Sound keys empty_log first_ghost c) (sym new.contents_are)
+          (start_sound keys));
+      always = subst (λ (l : LogLists). Always keys l (contents o.port)) (sym new.log)
+          (subst (λ (c : Contents). Always keys empty_log c) (sym new.contents_are)
+          (start_always keys));
+      closed = refl;
+      dummies = new.dummies;
+      drawn = let none = ap (λ (l : LogLists). count_by draws l.events) new.log in
+          omega (arith, new.dummies, new.real);
+      points = subst DrawnOnce (sym (ap (λ (l : LogLists). l.events) new.log)) tt;
+      forms = subst (λ (c : Contents). AreInForm keys c.mirror) (sym new.contents_are) (start_forms keys);
+      home = λ none. subst (λ (c : Contents). Home keys first_ghost c) (sym new.contents_are) (start_home keys);
+      bytes = λ a. zero_whole;
+    };
+    shown = subst (λ (f : FrontState). IsShown keys f first_ghost) (sym new.front)
+        (start_shown keys lawful config is_config new.shape);
+    small = subst (λ (l : LogLists). AreSmall keys.shape o.front.ic l first_ghost.count) (sym new.log)
+        (small_start keys.shape o.front.ic);
+    rests = (0, omega arith, new.rests);
+  }
+
   pub new_holds : (config : Config) (o : OramState) → IsConfig config → IsNew keys config levels o
       → HoldsLines keys levels (λ line. zero_line) o
   new_holds config o is_config new = record {
     ghost = first_ghost;
-    stands = record {
-      known = record {
-        fits = new.fits;
-        sound = subst (λ (l : LogLists). Sound keys l first_ghost (contents o.port)) (sym new.log)
-            (subst (λ (c : Contents). Sound keys empty_log first_ghost c) (sym new.contents_are)
-            (start_sound keys));
-        always = subst (λ (l : LogLists). Always keys l (contents o.port)) (sym new.log)
-            (subst (λ (c : Contents). Always keys empty_log c) (sym new.contents_are)
-            (start_always keys));
-        closed = refl;
-        dummies = new.dummies;
-        drawn = let none = ap (λ (l : LogLists). count_by draws l.events) new.log in
-            omega (arith, new.dummies, new.real);
-        points = subst DrawnOnce (sym (ap (λ (l : LogLists). l.events) new.log)) tt;
-        forms = subst (λ (c : Contents). AreInForm keys c.mirror) (sym new.contents_are) (start_forms keys);
-        home = λ none. subst (λ (c : Contents). Home keys first_ghost c) (sym new.contents_are) (start_home keys);
-        bytes = λ a. zero_whole;
-      };
-      shown = subst (λ (f : FrontState). IsShown keys f first_ghost) (sym new.front)
-          (start_shown keys lawful config is_config new.shape);
-      small = subst (λ (l : LogLists). AreSmall keys.shape o.front.ic l first_ghost.count) (sym new.log)
-          (small_start keys.shape o.front.ic);
-      rests = (0, omega arith, new.rests);
-    };
+    stands = new_stands config o is_config new;
     calm = record { flight = refl; pend = refl; stepped = refl; move = refl };
     counted = record {
       dummies = new.dummies ∙ ap (λ (l : LogLists). count_by is_dummy l.events) (sym new.log);

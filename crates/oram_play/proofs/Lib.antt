@@ -15,3 +15,8 @@ pub mod CutSteps
 pub mod PairsTo
 pub mod StopTurns
 pub mod CutRequests
+pub mod Notes
+pub mod Inside
+pub mod Found
+pub mod Stands
+pub mod StopNotes

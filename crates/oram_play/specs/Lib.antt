@@ -2,6 +2,7 @@ pub mod Taken
 pub mod InTurn
 pub mod Walked
 pub mod Shown
+pub mod Answered
 pub mod Playing
 pub mod Stopped
 pub mod StopsInTurn

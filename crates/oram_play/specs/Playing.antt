@@ -1,5 +1,5 @@
 -- When an encrypted memory stands where a play stands between two requests; and what a stop leaves.
-use Rattle.std.specs.Prelude.{◌≡◌, ◌<◌, ℕ, List, [], ◌∷◌, ◌++◌, None, Some}
+use Rattle.std.specs.Prelude.{◌≡◌, ◌<◌, ℕ, List, [], ◌∷◌, ◌++◌, Option, None, Some}
 use Rattle.asc_base.specs.declared.block.Line.{Line}
 use Rattle.asc_base.specs.declared.settings.Config.{Config}
 use Rattle.asc_base.specs.declared.stop.Stop.{Stop}
@@ -43,6 +43,11 @@ pub record PlaysAs (keys : Keys) (levels : ℕ) (config : Config) (slots : List 
 abbrev pub called : ℕ → LineRequest → OramRequest
 called asked (Fetch line) = OramFetch asked line
 called asked (Store line value) = OramStore asked line (record { 0 = value })
+
+-- what is told of an answered request: a fetch's line as last stored
+abbrev pub IsTold : Standing → LineRequest → Option Line → Type 0
+IsTold now (Fetch line) told = told ≡ Some (record { 0 = data_line now.data_lines line })
+IsTold now (Store line value) told = told ≡ None
 
 -- Of slots that were to be taken, behind others, one was stopped: the log says the slots before it and the part of it
 -- that was done, and the port's last end is that of the stop.

@@ -18,10 +18,11 @@ abbrev pub lines_appended : (ℕ → Line) → Option Message → ℕ → Line
 lines_appended lines None = lines
 lines_appended lines (Some message) = put_line lines message.address.0 message.line
 
--- an access to a block under its counters and with its purpose, and what is appended behind it
+-- an access to a block under its counters and with its purpose, the line that is found, and what is appended behind it
 abbrev pub answered_shown : AnsweredAccess → List Shown
 answered_shown one =
-    Accessed one.access.address.0 one.access.counter one.access.next one.access.purpose ∷ appended_shown one.appended
+    Accessed one.access.address.0 one.access.counter one.access.next one.access.purpose one.line
+    ∷ appended_shown one.appended
 
 -- Each access was answered with its block's line, in a memory that changes by what is put back and appended.
 abbrev pub AreLinesIn : (ℕ → Line) → List AnsweredAccess → Type 0
@@ -30,16 +31,16 @@ AreLinesIn lines (one ∷ more) =
     (one.line ≡ lines one.access.address.0)
     × AreLinesIn (lines_appended (put_back lines one.access.address.0 one.access.purpose) one.appended) more
 
--- each access shows what one of a walk does, in order, and the walk has no others
-abbrev pub AreShownAs : WalkSizes → Purpose → List WalkAccess → List AnsweredAccess → Type 0
-AreShownAs sizes put [] [] = Unit {0}
-AreShownAs sizes put (walked ∷ rest) (one ∷ more) =
-    (answered_shown one ≡ shown_by sizes put walked) × AreShownAs sizes put rest more
-AreShownAs sizes put [] (one ∷ more) = ⊥
-AreShownAs sizes put (walked ∷ rest) [] = ⊥
+-- each access shows what one of a walk does over a memory with these lines, in order, and the walk has no others
+abbrev pub AreShownAs : WalkSizes → (ℕ → Line) → Purpose → List WalkAccess → List AnsweredAccess → Type 0
+AreShownAs sizes lines put [] [] = Unit {0}
+AreShownAs sizes lines put (walked ∷ rest) (one ∷ more) =
+    (answered_shown one ≡ shown_by sizes lines put walked) × AreShownAs sizes lines put rest more
+AreShownAs sizes lines put [] (one ∷ more) = ⊥
+AreShownAs sizes lines put (walked ∷ rest) [] = ⊥
 
 -- What a request's accesses show, if their lines are those of a memory that shows the counters: its walk.
 abbrev pub ShowsWalk : FrontState → ℕ → Purpose → List AnsweredAccess → Type 0
 ShowsWalk front line put accesses = (lines : ℕ → Line) (chip : OnChip) → line < front.shape.lines
     → Shows front lines chip → AreLinesIn lines accesses
-    → AreShownAs (sizes_of front) put (walk (sizes_of front) chip line).accesses accesses
+    → AreShownAs (sizes_of front) lines put (walk (sizes_of front) chip line).accesses accesses

@@ -2,10 +2,18 @@
 use Rattle.std.specs.Prelude.{◌≡◌, ℕ, List, [], ◌∷◌, Option}
 use Rattle.std.specs.Option.{option_map}
 use Rattle.asc_base.specs.declared.settings.Config.{Config}
+use Rattle.data_cache.specs.Lines.{LineRequest, Fetch, Store}
+use Rattle.oram_walk.specs.declared.slots.Purpose.{Purpose}
+use Rattle.oram_walk.specs.declared.slots.Purpose.TheVariants.{Keep, Replace}
 use Rattle.posmap_lookaside.specs.Walk.{WalkAccess}
 use Rattle.run_play.specs.Requests.{StoredLines, Standing, Taken, put_back, message_of}
 use Rattle.oram_play.specs.Taken.{put_in}
 use Rattle.oram_play.specs.InTurn.{AnsweredAccess, slots_in_turn}
+
+-- how the line of a request is put back
+abbrev pub put_for : LineRequest → Purpose
+put_for (Fetch line) = Keep
+put_for (Store line value) = Replace (record { 0 = value })
 
 -- An answered access is one of a walk: to the same block under the same counter, it puts the same message back, and the
 -- same block is displaced behind it.

@@ -1,29 +1,38 @@
 //! Laws of the slots that an encrypted memory takes. The functions do nothing: each states laws in its contract.
 
-ghost use Rattle.std.specs.Prelude.{◌≡◌, ◌<◌, ◌+◌, ℕ, List, [], ◌∷◌, ◌++◌, Option, None, Ok, max};
+ghost use Rattle.std.specs.Prelude.{◌≡◌, ◌<◌, ◌≤◌, ◌+◌, ◌⊎◌, ℕ, List, [], ◌∷◌, ◌++◌, Option, None, Some, Ok, max};
 ghost use Rattle.std.specs.Option.{option_map};
+ghost use Rattle.asc_base.specs.Settings.{IsConfig};
 ghost use Rattle.asc_base.specs.TreeShape.{olat_of};
 ghost use Rattle.asc_base.specs.declared.block.Line.{Line};
 ghost use Rattle.asc_base.specs.declared.block.Message.{Message};
 ghost use Rattle.asc_base.specs.declared.settings.Config.{Config};
 ghost use Rattle.bus_schedule.specs.Timetable.{public_of};
 ghost use Rattle.data_cache.specs.Lines.{LineRequest};
-ghost use Rattle.oram_contents.specs.Entries.{Keys};
+ghost use Rattle.oram_contents.specs.Entries.{Keys, AreKeys};
+ghost use Rattle.oram_contents.specs.Forgery.{Forgery};
 ghost use Rattle.oram_contents.specs.Starts.{empty_log};
 ghost use Rattle.oram_frontend.specs.Access.{SlotStep};
 ghost use Rattle.oram_frontend.specs.Oram.{OramState, OramStep, Told, Fetch, Store, Wait};
 ghost use Rattle.oram_frontend.specs.Slots.{FitKeys};
 ghost use Rattle.oram_play.specs.Taken.{HasTaken, IsPaceOf, put_in, with_appended, asked_start, asked_slots};
 ghost use Rattle.oram_play.specs.Taken.{slots_taken};
-ghost use Rattle.oram_play.specs.InTurn.{AnsweredAccess, AreInTurn, TakesInTurn};
-ghost use Rattle.oram_play.specs.Shown.{ShowsWalk};
-ghost use Rattle.oram_play.specs.Walked.{AreWalked, taken_in_turn};
+ghost use Rattle.oram_play.specs.InTurn.{AnsweredAccess, AreInTurn};
+ghost use Rattle.oram_play.specs.Answered.{IsAnswered};
+ghost use Rattle.oram_play.specs.Playing.{PlaysAs, called, IsTold};
+ghost use Rattle.oram_play.specs.Shown.{AreShownAs};
+ghost use Rattle.oram_play.specs.Walked.{AreWalked, put_for, taken_in_turn};
+ghost use Rattle.oram_lines.specs.Lines.{IsNew, IsRequest};
+ghost use Rattle.oram_lines.specs.Noted.{AreAnswersIn};
+ghost use Rattle.oram_walk.specs.Plans.{fetch_plan, store_plan};
+ghost use Rattle.oram_walk.specs.Shows.{Shows};
 ghost use Rattle.oram_walk.specs.Request.{Slot as AccessSlot, Append, Answer};
 ghost use Rattle.oram_walk.specs.declared.slots.Access.{Access};
 ghost use Rattle.oram_walk.specs.declared.slots.Purpose.TheVariants.{Keep, Replace};
 ghost use Rattle.oram_walk.specs.declared.slots.Seen.{Seen};
-ghost use Rattle.posmap_lookaside.specs.Walk.{WalkAccess, walk};
+ghost use Rattle.posmap_lookaside.specs.Walk.{OnChip, IsHeldList, WalkAccess, walk};
 ghost use Rattle.rate_enforcer.specs.PortStep.{PortState, Resting};
+ghost use Rattle.run_play.specs.Requests.{StoredLines, data_line, standing_at_start};
 ghost use Rattle.run_play.specs.Requests.{Standing, Taken, access_slot, one_by_one, put_back, message_of};
 ghost use Rattle.run_play.specs.Requests.{request_slots, request_done, requested, value_of, walk_sizes};
 ghost use Rattle.run_play.specs.Slots.{Pace, Numbers, Slot, first_pace, passed};
@@ -71,18 +80,24 @@ pub fn answered_requests_take_slots()
 /// each other one at the end of the one before; each slot starts before the time of the settings; a message that is
 /// appended stands behind the slot of the access that came last; and the time that is told is the end of the last one.
 /// If each was answered with the line of a memory that shows the counters, these are the accesses of the walk: in
-/// order, the same blocks under the same counters, with the same purposes, and the same blocks appended.
+/// order, the same blocks under the same counters, with the same purposes and the lines that are found, and the same
+/// blocks appended. They are, where the answers are noted as those of such a memory; then the front end and the memory
+/// show the counters after the walk, and a fetch tells its line.
 pub fn answered_requests_take_slots_in_turn()
     ensures fetch { (keys : Keys) (levels notes asked line : ℕ) (told : Told) (old new : OramState) (slots : List Slot)
         (pace : Pace) (numbers : Numbers) → FitKeys keys old.port → Resting notes levels old.port
         → HasTaken old.port slots pace → OramStep keys levels old (Fetch asked line) (Ok told) new
-        → (takes : TakesInTurn old.port.clock.config numbers asked told.end slots pace new.port)
-        × ShowsWalk old.front line Keep takes.accesses }
+        → (seen : Seen) × (told.line ≡ Some seen.line)
+        × (done : IsAnswered keys levels numbers asked told.end line Keep (fetch_plan old.front asked line) seen slots
+        pace old new)
+        × ((lines : ℕ → Line) (chip : OnChip) → line < old.front.shape.lines → Shows old.front lines chip
+        → AreAnswersIn lines done.answers → seen.line ≡ lines line) }
     ensures store { (keys : Keys) (levels notes asked line : ℕ) (value : Line) (told : Told) (old new : OramState)
         (slots : List Slot) (pace : Pace) (numbers : Numbers) → FitKeys keys old.port → Resting notes levels old.port
         → HasTaken old.port slots pace → OramStep keys levels old (Store asked line value) (Ok told) new
-        → (takes : TakesInTurn old.port.clock.config numbers asked told.end slots pace new.port)
-        × ShowsWalk old.front line (Replace value) takes.accesses }
+        → (told.line ≡ None)
+        × IsAnswered keys levels numbers asked told.end line (Replace value) (store_plan old.front asked line value)
+        told.end slots pace old new }
 {}
 
 /// These slots are those of the play's access to the same block under the same counter, where it puts the same message
@@ -95,6 +110,19 @@ pub fn accesses_take_asked_slots()
         → access_slot config value now walked
         ≡ slots_taken config now access line
         (option_map (message_of config walked.counters now.data_lines) walked.displaced) }
+{}
+
+/// Accesses that show what those of a request's walk show, over a memory that has the data lines as last stored, are
+/// the walk's: what each puts back and what is appended behind it is what the play puts back and appends.
+pub fn shown_accesses_are_walked()
+    ensures { (config : Config) (stored : StoredLines) (lines : ℕ → Line) (chip : OnChip) (request : LineRequest)
+        (accesses : List AnsweredAccess) → 1 ≤ config.shape.layers → IsHeldList (walk_sizes config) chip.held
+        → requested request < config.shape.lines
+        → ((a : ℕ) → a < config.shape.lines → (lines a).0 ≡ data_line stored a)
+        → AreShownAs (walk_sizes config) lines (put_for request)
+        (walk (walk_sizes config) chip (requested request)).accesses accesses
+        → AreWalked config stored (value_of request) (walk (walk_sizes config) chip (requested request)).accesses
+        accesses }
 {}
 
 /// Where accesses that are asked for one after another are those of a walk, the play takes just their slots, and stands
@@ -116,4 +144,28 @@ pub fn walked_accesses_take_play_slots()
           standing = request_done request (record taken.standing { chip = walked.chip });
         } in
         request_slots config now request ≡ answered }
+{}
+
+/// An encrypted memory that stands where a play stands stands where the play stands after each request that it answers,
+/// or its log shows a forgery: it took the slots of the play's request, the time that is told is the play's clock, and
+/// a fetch tells the line as last stored. So it is from the start, with no slot, and where it waits, with the dummies
+/// that pass.
+pub fn requests_stand_as_plays()
+    ensures start { (keys : Keys) → AreKeys keys → (levels : ℕ) (config : Config) (o : OramState) → IsConfig config
+        → IsNew keys config levels o → o.port.clock.config ≡ config
+        → PlaysAs keys levels config [] (standing_at_start config) o }
+    ensures request { (keys : Keys) → AreKeys keys → (levels : ℕ) (config : Config) (slots : List Slot)
+        (now : Standing) (request : LineRequest) (told : Told) (old new : OramState)
+        → PlaysAs keys levels config slots now old → IsRequest config.shape.lines (called now.clock request)
+        → OramStep keys levels old (called now.clock request) (Ok told) new
+        → Forgery keys new.port.tap.log
+        ⊎ (let taken = request_slots config now request in
+        PlaysAs keys levels config (slots ++ taken.slots) (taken.standing) new
+        × (told.end ≡ taken.standing.clock) × IsTold now request told.line) }
+    ensures wait { (keys : Keys) → AreKeys keys → (levels : ℕ) (config : Config) (slots : List Slot) (now : Standing)
+        (time : ℕ) (told : Told) (old new : OramState) → PlaysAs keys levels config slots now old
+        → OramStep keys levels old (Wait time) (Ok told) new
+        → let more = passed (public_of config) now.numbers time now.pace in
+        PlaysAs keys levels config (slots ++ more.slots) (record now { pace = more.pace }) new
+        × (told.end ≡ max time more.pace.heard.ended) }
 {}

@@ -14,8 +14,9 @@ ghost use Rattle.oram_frontend.specs.Slots.{FitKeys};
 ghost use Rattle.oram_play.specs.OnPlay.{IsOnPlay};
 ghost use Rattle.oram_play.specs.Playing.{LeavesOf};
 ghost use Rattle.oram_play.specs.Stopped.{AccessLeaves, AppendLeaves, WaitLeaves};
-ghost use Rattle.oram_play.specs.StopsInTurn.{StopsInTurn, ShowsWalkTo};
+ghost use Rattle.oram_play.specs.StopsInTurn.{StopsInTurn, IsStopped};
 ghost use Rattle.oram_play.specs.Taken.{HasTaken};
+ghost use Rattle.oram_walk.specs.Plans.{fetch_plan, store_plan};
 ghost use Rattle.oram_walk.specs.Request.{Slot as AccessSlot, Append};
 ghost use Rattle.oram_walk.specs.declared.slots.Access.{Access};
 ghost use Rattle.oram_walk.specs.declared.slots.Purpose.TheVariants.{Keep, Replace};
@@ -45,19 +46,19 @@ pub fn stopped_accesses_are_cut()
 /// A fetch or a store that is stopped took slots access by access up to there, as an answered one does: then an access
 /// was stopped, which is asked for at the end of the last answered one, or an append behind it, or room was wanting. If
 /// each answered access had the line of a memory that shows the counters, they are the first of the walk, and what was
-/// stopped is the next access of it, or the append behind the last one.
+/// stopped is the next access of it, or the append behind the last one. The run can be noted answer by answer: where
+/// these are the lines of a memory, so are those of the accesses.
 pub fn stopped_requests_take_slots_in_turn()
     ensures fetch { (keys : Keys) (levels notes asked line : ℕ) (stop : Stop) (old new : OramState)
         (slots : List Slot) (pace : Pace) (numbers : Numbers) → FitKeys keys old.port → Resting notes levels old.port
         → old.stop ≡ None → HasTaken old.port slots pace → OramStep keys levels old (Fetch asked line) (Err stop) new
-        → (stops : StopsInTurn keys levels old.port.clock.config numbers asked slots pace stop new.port)
-        × ShowsWalkTo old.front line Keep stops.accesses stops.next }
+        → IsStopped keys levels numbers asked line Keep (fetch_plan old.front asked line) slots pace stop old new }
     ensures store { (keys : Keys) (levels notes asked line : ℕ) (value : Line) (stop : Stop) (old new : OramState)
         (slots : List Slot) (pace : Pace) (numbers : Numbers) → FitKeys keys old.port → Resting notes levels old.port
         → old.stop ≡ None → HasTaken old.port slots pace
         → OramStep keys levels old (Store asked line value) (Err stop) new
-        → (stops : StopsInTurn keys levels old.port.clock.config numbers asked slots pace stop new.port)
-        × ShowsWalkTo old.front line (Replace value) stops.accesses stops.next }
+        → IsStopped keys levels numbers asked line (Replace value) (store_plan old.front asked line value) slots pace
+        stop old new }
 {}
 
 /// Where a stopped request is on the walk of the play's request, up to lines that are forged, it leaves a cut of the

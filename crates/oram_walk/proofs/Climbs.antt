@@ -6,7 +6,7 @@ use Rattle.std.proofs.Common.{option_map, is_some, inl, inr, refl, sym, ap, ◌�
 use Rattle.std.specs.Prelude.{if◌then◌else◌}
 use Rattle.std.specs.List.{flat_map}
 use Rattle.std.specs.Option.{option_map_or}
-use Rattle.std.proofs.lemmas.Bool.{cases_eq}
+use Rattle.std.proofs.lemmas.Bool.{cases_eq, cases_Bool}
 use Rattle.std.proofs.lemmas.Grind.{flat_map-append}
 use Rattle.std.proofs.lemmas.List.{reverse-append}
 use Rattle.std.proofs.lemmas.List.Sums.{take_while-cons}
@@ -34,7 +34,7 @@ use Rattle.posmap_lookaside.proofs.HeldLaws.{inserted_at, promoted_keeps}
 use Rattle.oram_walk.specs.Front.{FrontState, with_held, counter_in}
 use Rattle.oram_walk.specs.Memory.{Shown, Accessed}
 use Rattle.oram_walk.specs.Plans.{FrontPlan, on, visit_plan, hold_plan, refilled, refill_plan, found_plan, walk_plan}
-use Rattle.oram_walk.specs.Shows.{IsShown, put_of, displaced_by, shown_by}
+use Rattle.oram_walk.specs.Shows.{IsShown, put_of, displaced_by, found_line, shown_by}
 use Rattle.oram_walk.specs.declared.slots.Purpose.{Purpose}
 use Rattle.oram_walk.specs.declared.slots.Purpose.TheVariants.{Refill, Keep}
 use Rattle.oram_walk.specs.declared.slots.Seen.{Seen}
@@ -42,7 +42,7 @@ use Rattle.oram_walk.proofs.Fresh.{take_out, front_out, used_out}
 use Rattle.oram_walk.proofs.Played.{Lines, Goes, goes_on}
 use Rattle.oram_walk.proofs.Refills.{appended, shown_last, hold_goes, AreHeld, used_held, put_held, last_shown}
 use Rattle.oram_walk.proofs.Refills.{inserted_stands, appended_same}
-use Rattle.oram_walk.proofs.Standing.{Stands, none_some, held_among, used_stands}
+use Rattle.oram_walk.proofs.Standing.{Stands, none_some, held_among, not_held, used_stands}
 use Rattle.oram_walk.proofs.Visits.{front, shown_all, HasParent, Visited, visit_goes}
 use Rattle.oram_walk.proofs.Visits.{counter_under_parent, counter_of_root, has_group, under_of}
 use Rattle.oram_walk.proofs.WalkLists.{absent_used}
@@ -57,38 +57,60 @@ module _ (cycles : ℕ) (shape : Shape) (ic plb : ℕ) (put : Purpose) where
   abbrev pub chip_of : List ℕ → Counters → OnChip
   chip_of list counters = record { held = list; counters = counters }
 
-  abbrev pub shown_of : List WalkAccess → List Shown
-  shown_of accesses = flat_map (shown_by sizes put) accesses
+  abbrev pub shown_of : Lines → List WalkAccess → List Shown
+  shown_of lines accesses = flat_map (shown_by sizes lines put) accesses
 
   -- what is shown of a displaced block
   abbrev pub last_of : Counters → Option ℕ → List Shown
   last_of counters last = option_map_or (λ a. displaced_by sizes (counter_at counters) a ∷ []) last []
 
+  -- memories with the same data lines
+  abbrev pub SameData : Lines → Lines → Type 0
+  SameData lines lines' = (a : ℕ) → children_of shape.lines shape.layers a ≡ None → lines' a ≡ lines a
+
+  -- of which the same is shown
+  pub same_shown : (lines lines' : Lines) → SameData lines lines' → (accesses : List WalkAccess)
+      → shown_of lines' accesses ≡ shown_of lines accesses
+  same_shown lines lines' same [] = refl
+  same_shown lines lines' same (access ∷ more) =
+      ap (λ line. Accessed access.address access.counter (counter_at access.counters access.address)
+      (put_of put access.purpose) line ∷ last_of access.counters access.displaced ++ shown_of lines' more)
+      (by (children_of shape.lines shape.layers access.address) refl)
+      ∙ ap (λ later. shown_by sizes lines put access ++ later) (same_shown lines lines' same more)
+    where
+      by : (o : Option (ℕ × ℕ)) → children_of shape.lines shape.layers access.address ≡ o
+          → found_line sizes (counter_at access.counters) lines' access.address
+          ≡ found_line sizes (counter_at access.counters) lines access.address
+      by None none = rw none (same access.address none)
+      by (Some family) children = rw children refl
+
   -- the accesses of changes show what the changes say, and then the displaced block
-  abbrev pub AreShown : WalkPurpose → Option ℕ → Counters → List Change → Type 0
-  AreShown purpose last counters changes =
-      shown_of (accesses_of_all sizes purpose last counters changes)
-      ≡ shown_all cycles shape ic plb (put_of put purpose) counters changes
+  abbrev pub AreShown : Lines → WalkPurpose → Option ℕ → Counters → List Change → Type 0
+  AreShown lines purpose last counters changes =
+      shown_of lines (accesses_of_all sizes purpose last counters changes)
+      ≡ shown_all cycles shape ic plb lines (put_of put purpose) counters changes
       ++ last_of (after_all shape.lines shape.layers counters changes) last
 
-  accesses_shown : (purpose : WalkPurpose) (last : Option ℕ) (list : List ℕ) (counters : Counters) (b : ℕ)
-      (xs : List ℕ) → AreShown purpose last counters (map (child_move list) xs ++ Access b ∷ [])
+  accesses_shown : (lines : Lines) (purpose : WalkPurpose) (last : Option ℕ) (list : List ℕ) (counters : Counters)
+      (b : ℕ) (xs : List ℕ) → AreShown lines purpose last counters (map (child_move list) xs ++ Access b ∷ [])
   unfolding accesses_of_all after_all
-  accesses_shown purpose last list counters b [] =
-      ap (λ shown. Accessed b (counter_at counters b)
-      (counter_at (after shape.lines shape.layers counters (Access b)) b) (put_of put purpose) ∷ shown)
+  accesses_shown lines purpose last list counters b [] =
+      let now : Counters = after shape.lines shape.layers counters (Access b) in
+      ap (λ shown. Accessed b (counter_at counters b) (counter_at now b) (put_of put purpose)
+      (found_line sizes (counter_at now) lines b) ∷ shown)
       (append-nil (last_of (after shape.lines shape.layers counters (Access b)) last))
-  accesses_shown purpose last list counters b (x ∷ xs) =
-      by (is_among list x) (λ now. accesses_shown purpose last list now b xs)
+  accesses_shown lines purpose last list counters b (x ∷ xs) =
+      by (is_among list x) (λ now. accesses_shown lines purpose last list now b xs)
     where
-      by : (is : Bool) → ((now : Counters) → AreShown purpose last now (map (child_move list) xs ++ Access b ∷ []))
-          → AreShown purpose last counters
+      by : (is : Bool)
+          → ((now : Counters) → AreShown lines purpose last now (map (child_move list) xs ++ Access b ∷ []))
+          → AreShown lines purpose last counters
           ((if is then RenumberChild x else MoveChild x) ∷ (map (child_move list) xs ++ Access b ∷ []))
       by true again = again (after shape.lines shape.layers counters (RenumberChild x))
       by false again =
-          ap (λ shown. Accessed x (counter_at counters x)
-          (counter_at (after shape.lines shape.layers counters (MoveChild x)) x) Keep ∷ shown)
-          (again (after shape.lines shape.layers counters (MoveChild x)))
+          let now : Counters = after shape.lines shape.layers counters (MoveChild x) in
+          ap (λ shown. Accessed x (counter_at counters x) (counter_at now x) Keep
+          (found_line sizes (counter_at now) lines x) ∷ shown) (again now)
 
   -- changes that are asked for are those of a group move, if any, and the access
   asked_form : (list : List ℕ) (counters : Counters) (b : ℕ)
@@ -102,11 +124,12 @@ module _ (cycles : ℕ) (shape : Shape) (ic plb : ℕ) (put : Purpose) where
       by true = (siblings shape.lines shape.layers b, refl)
       by false = ([], refl)
 
-  pub asked_shown : (purpose : WalkPurpose) (last : Option ℕ) (list : List ℕ) (counters : Counters) (b : ℕ)
-      → AreShown purpose last counters (asked_changes shape.lines shape.layers ic list counters b)
-  asked_shown purpose last list counters b =
+  pub asked_shown : (lines : Lines) (purpose : WalkPurpose) (last : Option ℕ) (list : List ℕ) (counters : Counters)
+      (b : ℕ) → AreShown lines purpose last counters (asked_changes shape.lines shape.layers ic list counters b)
+  asked_shown lines purpose last list counters b =
       let form = asked_form list counters b in
-      subst (AreShown purpose last counters) (sym form.1) (accesses_shown purpose last list counters b (form.0))
+      subst (AreShown lines purpose last counters) (sym form.1)
+      (accesses_shown lines purpose last list counters b (form.0))
 
   -- a block that is in the list is held
   among_held : (held : List Held) (list : List ℕ) (q : ℕ) → addresses_of held ≡ list → is_among list q ≡ true
@@ -119,17 +142,6 @@ module _ (cycles : ℕ) (shape : Shape) (ic plb : ℕ) (put : Purpose) where
           → (block : Held) × (held_at held (record { 0 = q }) ≡ Some block)
       by None at none = absurd (cc)
       by (Some block) at some = (block, at)
-
-  -- and one that isn't, isn't
-  not_held : (held : List Held) (list : List ℕ) (q : ℕ) → addresses_of held ≡ list → is_among list q ≡ false
-      → held_at held (record { 0 = q }) ≡ None
-  not_held held list q same absent =
-      by (held_at held (record { 0 = q }))
-      (is_some-held_at held (record { 0 = q }) ∙ ap (λ l. is_among l q) same ∙ absent)
-    where
-      by : (o : Option Held) → is_some o ≡ false → o ≡ None
-      by None none = refl
-      by (Some block) some = absurd (cc)
 
   -- the counter that the front end shows
   known : (b : ℕ) (roots : List ℕ) (held : List Held) (lines : Lines) (list : List ℕ) (counters : Counters)
@@ -155,7 +167,8 @@ module _ (cycles : ℕ) (shape : Shape) (ic plb : ℕ) (put : Purpose) where
     pub lines' : Lines
     pub end : ℕ
     pub goes : Goes cycles (refill_plan (front cycles shape ic plb roots held) asked (record { 0 = b })) lines
-        (shown_of (refill sizes (chip_of list counters) b).accesses) lines' (front cycles shape ic plb roots' later) end
+        (shown_of lines (refill sizes (chip_of list counters) b).accesses) lines'
+        (front cycles shape ic plb roots' later) end
     pub stands : Stands shape None roots' later lines' (take plb (b ∷ list))
         (after_all shape.lines shape.layers counters (asked_changes shape.lines shape.layers ic list counters b))
     pub at : (block : Held) × (held_at later (record { 0 = b }) ≡ Some block)
@@ -181,7 +194,7 @@ module _ (cycles : ℕ) (shape : Shape) (ic plb : ℕ) (put : Purpose) where
       λ p above. among_held visited.later list p visited.stands.held_is
       (held_among shape held list (record { 0 = p }) ((parent p above).0) s.held_is (parent p above).1) in
       let none : held_at visited.later address ≡ None =
-      not_held visited.later list b visited.stands.held_is absent in
+      not_held shape visited.later list b visited.stands.held_is absent in
       let group : (first number : ℕ) → children_of shape.lines shape.layers b ≡ Some (first, number)
       → IsGroup block.group × HasCounters (counter_at now) first number block.group =
       λ first number children.
@@ -197,15 +210,15 @@ module _ (cycles : ℕ) (shape : Shape) (ic plb : ℕ) (put : Purpose) where
       now visited.stands
       h absent is_counter (group ((family.0).0) ((family.0).1) family.1).0
       (λ first number children. (group first number children).1) in
-      let shows : shown_all cycles shape ic plb Refill counters
+      let shows : shown_all cycles shape ic plb lines Refill counters
       (asked_changes shape.lines shape.layers ic list counters b) ++ (shown_last last ++ [])
-      ≡ shown_of (refill sizes (chip_of list counters) b).accesses =
-      ap (λ x. shown_all cycles shape ic plb Refill counters
+      ≡ shown_of lines (refill sizes (chip_of list counters) b).accesses =
+      ap (λ x. shown_all cycles shape ic plb lines Refill counters
       (asked_changes shape.lines shape.layers ic list counters b) ++ x)
       (append-nil (shown_last last)
       ∙ last_shown shape plb some b block refl visited.roots' visited.later lines list now visited.stands h absent sizes
       refl refl)
-      ∙ sym (asked_shown Refills (slice_get (b ∷ list) plb) list counters b) in
+      ∙ sym (asked_shown lines Refills (slice_get (b ∷ list) plb) list counters b) in
       record {
         roots' = visited.roots';
         later = later;
@@ -217,7 +230,7 @@ module _ (cycles : ℕ) (shape : Shape) (ic plb : ℕ) (put : Purpose) where
             (goes_on cycles (visit_plan (front cycles shape ic plb roots held) asked address Refill)
             (λ later seen. on (hold_plan later (refilled later address seen.line)) (λ last _. Done (last, seen.end)))
             lines lines lines'
-            (shown_all cycles shape ic plb Refill counters
+            (shown_all cycles shape ic plb lines Refill counters
             (asked_changes shape.lines shape.layers ic list counters b)) (shown_last last ++ []) state
             (front cycles shape ic plb visited.roots' later) seen visited.end visited.goes
             (goes_on cycles (hold_plan state block) (λ last _. Done (last, seen.end)) lines lines' lines'
@@ -301,11 +314,13 @@ module _ (cycles : ℕ) (shape : Shape) (ic plb : ℕ) (put : Purpose) where
     pub later : List Held
     pub lines' : Lines
     pub end : ℕ
-    pub goes : Goes cycles plan lines (shown_of walked.accesses) lines' (front cycles shape ic plb roots' later) end
+    pub goes : Goes cycles plan lines (shown_of lines walked.accesses) lines'
+        (front cycles shape ic plb roots' later) end
     pub stands : Stands shape None roots' later lines' walked.chip.held walked.chip.counters
     pub are : AreHeld shape plb walked.chip.held
     pub out : (x : ℕ) → x ≤ b → is_among list x ≡ false → is_among walked.chip.held x ≡ false
     pub same : (x : ℕ) → x ≤ b → is_among list x ≡ false → lines' x ≡ lines x
+    pub stored : SameData lines lines'
     pub parent : HasParent cycles shape ic plb later b
 
   -- a parent is one layer further up
@@ -342,6 +357,14 @@ module _ (cycles : ℕ) (shape : Shape) (ic plb : ℕ) (put : Purpose) where
       λ p parent. reaches above p (parent_above shape.lines shape.layers b p low parent).1
       (omega (arith, parent_layer b p low parent))
 
+  -- what is held has children
+  childless : (a : ℕ) (list : List ℕ) → children_of shape.lines shape.layers a ≡ None → AreHeld shape plb list
+      → is_among list a ≡ false
+  childless a list none are = elim (cases_Bool (is_among list a)) [
+    | inl there ↦ absurd (none_some (sym none ∙ (are.blocks a there).2))
+    | inr absent ↦ absent
+  ]
+
   -- the parent is held, or it is refilled after the walk to it
   climb_test : (above b p : ℕ) (is : Bool) (roots : List ℕ) (held : List Held) (lines : Lines) (list : List ℕ)
       (counters : Counters) (asked : ℕ) → 1 ≤ ic → ic ≤ 14 → 1 ≤ plb → b < layer_first shape.lines shape.layers
@@ -366,6 +389,7 @@ module _ (cycles : ℕ) (shape : Shape) (ic plb : ℕ) (put : Purpose) where
         are = used_held shape plb list p h;
         out = λ x below absent. used_out list p x absent;
         same = λ x below absent. refl;
+        stored = λ a none. refl;
         parent = λ q above.
             let same : p ≡ q = some_is (sym parent ∙ above) in
             let found = among_held held list p s.held_is there in
@@ -394,12 +418,15 @@ module _ (cycles : ℕ) (shape : Shape) (ic plb : ℕ) (put : Purpose) where
         goes = subst (λ shown. Goes cycles (on (walk_plan above start asked (record { 0 = p }))
             (λ later end. refill_plan later end (record { 0 = p }))) lines shown one.lines'
             (front cycles shape ic plb one.roots' one.later) one.end)
-            (sym (flat_map-append (shown_by sizes put) walked.accesses (refill sizes walked.chip p).accesses))
+            (sym (flat_map-append (shown_by sizes lines put) walked.accesses (refill sizes walked.chip p).accesses))
             (goes_on cycles (walk_plan above start asked (record { 0 = p }))
             (λ later end. refill_plan later end (record { 0 = p })) lines first.lines' one.lines'
-            (shown_of walked.accesses) (shown_of (refill sizes walked.chip p).accesses)
+            (shown_of lines walked.accesses) (shown_of lines (refill sizes walked.chip p).accesses)
             (front cycles shape ic plb first.roots' first.later) (front cycles shape ic plb one.roots' one.later)
-            first.end one.end first.goes one.goes);
+            first.end one.end first.goes
+            (subst (λ shown. Goes cycles (refill_plan (front cycles shape ic plb first.roots' first.later) first.end
+            (record { 0 = p })) first.lines' shown one.lines' (front cycles shape ic plb one.roots' one.later) one.end)
+            (same_shown lines first.lines' first.stored (refill sizes walked.chip p).accesses) one.goes));
         stands = one.stands;
         are = put_held shape plb walked.chip.held p up.5 ((up.0, up.1), up.2) gone first.are;
         out = λ x below none.
@@ -409,6 +436,7 @@ module _ (cycles : ℕ) (shape : Shape) (ic plb : ℕ) (put : Purpose) where
         same = λ x below none.
             one.same x (first.out x (omega (arith, below, over.0)) none)
             ∙ first.same x (omega (arith, below, over.0)) none;
+        stored = λ a none. one.same a (childless a walked.chip.held none first.are) ∙ first.stored a none;
         parent = λ q above.
             let same : p ≡ q = some_is (sym parent ∙ above) in
             subst (λ r. (block : Held) × (held_at one.later (record { 0 = r }) ≡ Some block)) same one.at;
@@ -452,6 +480,7 @@ module _ (cycles : ℕ) (shape : Shape) (ic plb : ℕ) (put : Purpose) where
     are = h;
     out = λ x below absent. absent;
     same = λ x below absent. refl;
+    stored = λ a none. refl;
     parent = λ p above. absurd (none_some (sym reach ∙ above));
   }
   climb (suc above) b roots held lines list counters asked bits bits_to some low reach h s =
@@ -494,6 +523,7 @@ module _ (cycles : ℕ) (shape : Shape) (ic plb : ℕ) (put : Purpose) where
         are = h;
         out = λ x below absent. absent;
         same = λ x below absent. refl;
+        stored = λ a none. refl;
         parent = λ p above. absurd (none_some (sym top ∙ above));
       }
       by (Some p) parent again =

@@ -24,12 +24,11 @@ use Rattle.posmap_lookaside.proofs.HeldLaws.{changed_at, changed_other}
 use Rattle.oram_walk.specs.Front.{FrontState, IsFront, with_held, group_at, counter_in, counter_by, counter_under}
 use Rattle.oram_walk.specs.Front.{child_in}
 use Rattle.oram_walk.specs.Front.{stepped, stepped_by, stepped_under, full_parent, full_by, full_under, root_place}
-use Rattle.oram_walk.specs.Memory.{Shown, Accessed, Displaced}
 use Rattle.oram_walk.specs.Plans.{FrontPlan, on, child_by, children_plan, family_plan, full_plan, move_plan}
 use Rattle.oram_walk.specs.Plans.{step_plan, visit_plan, append_plan, hold_plan}
 use Rattle.oram_walk.specs.Request.{Request}
 use Rattle.oram_walk.specs.Shadows.{shown_request, ShowsAlways, moves_shown, family_shown, is_full, visit_shown}
-use Rattle.oram_walk.specs.Shadows.{IsVisited}
+use Rattle.oram_walk.specs.Shadows.{IsVisited, Shadow, Accessed, Displaced}
 use Rattle.oram_walk.specs.Shadows.{under_shown, visit_by, is_member, moved_counter, moved_by, counter_held}
 use Rattle.oram_walk.specs.declared.slots.Purpose.{Purpose}
 use Rattle.oram_walk.specs.declared.slots.Purpose.TheVariants.{Keep}
@@ -39,7 +38,7 @@ use Rattle.oram_walk.proofs.Standing.{at_number}
 
 -- one plan after another shows what the first shows, and then the second
 shows-bind : {B C A D : Type 0} (R : A → Type 0) (put : B → C) (plan : Plan Request Seen B A)
-    (next : A → Plan Request Seen C D) (xs ys : List Shown) → ShowsAlways xs plan → Outcomes R plan
+    (next : A → Plan Request Seen C D) (xs ys : List Shadow) → ShowsAlways xs plan → Outcomes R plan
     → ((a : A) → R a → ShowsAlways ys (next a)) → ShowsAlways (xs ++ ys) (bind put plan next)
 shows-bind R put (Done a) next xs ys here out each =
     subst (λ zs. ShowsAlways (zs ++ ys) (next a)) (sym here) (each a out)
@@ -223,7 +222,7 @@ moves_free : (list : List ℕ) (first child left : ℕ) (group : GroupState) →
 moves_free list first child left group absent = rw absent refl
 
 -- A plan shows these, and leaves the groups.
-record Shifted (old : FrontState) (change : ℕ → Counter → Counter) (shown : List Shown) (plan : FrontPlan ℕ) : Type 0
+record Shifted (old : FrontState) (change : ℕ → Counter → Counter) (shown : List Shadow) (plan : FrontPlan ℕ) : Type 0
   where
     pub shows : ShowsAlways shown plan
     pub keeps : Outcomes (λ (r : FrontState × ℕ). Kept old (r.0)
@@ -389,7 +388,7 @@ visited_of state now full parent address group group' is_full_of under at is m =
 }
 
 -- A plan shows these, and leaves what an access that is asked for leaves.
-record Follows (state : FrontState) (address : Address) (shown : List Shown) (plan : FrontPlan Seen) : Type 0 where
+record Follows (state : FrontState) (address : Address) (shown : List Shadow) (plan : FrontPlan Seen) : Type 0 where
   pub shows : ShowsAlways shown plan
   pub leaves : Outcomes (λ (r : FrontState × Seen). IsVisited state address (r.0)) plan
 

@@ -70,6 +70,17 @@ module _ (shape : Shape) where
   held_among held list address block held_is at =
       ap (λ l. is_among l address.0) (sym held_is) ∙ sym (is_some-held_at held address) ∙ ap is_some at
 
+  -- and one that doesn't, isn't held
+  pub not_held : (held : List Held) (list : List ℕ) (q : ℕ) → addresses_of held ≡ list → is_among list q ≡ false
+      → held_at held (record { 0 = q }) ≡ None
+  not_held held list q same absent =
+      by (held_at held (record { 0 = q }))
+      (is_some-held_at held (record { 0 = q }) ∙ ap (λ l. is_among l q) same ∙ absent)
+    where
+      by : (o : Option Held) → is_some o ≡ false → o ≡ None
+      by None none = refl
+      by (Some block) some = absurd (cc)
+
   -- a child's part of a group move
   pub child_stands : (p c : ℕ) (next : Counter) (roots : List ℕ) (held : List Held) (lines : ℕ → Line) (list : List ℕ)
       (counters : Counters) → parent_of shape.lines shape.layers c ≡ Some p → next ≡ next_group (counter_at counters c)

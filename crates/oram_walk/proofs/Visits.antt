@@ -4,26 +4,29 @@ use Rattle.std.proofs.Common.{is_none, nat_le}
 use Rattle.std.proofs.Common.{List, [], ◌∷◌, ◌++◌, map, get_or, Option, Some, None, option_map, inl, inr}
 use Rattle.std.proofs.Common.{refl, sym, ap, ◌∙◌, subst, arith, append-nil, append_assoc, length-set}
 use Rattle.std.specs.Prelude.{if◌then◌else◌, slice_set, slice_index}
+use Rattle.std.specs.Option.{option_map_or}
 use Rattle.std.proofs.lemmas.Bool.Decides.{leb_tells}
 use Rattle.request_plan.specs.Plan.{Done}
 use Rattle.asc_base.specs.TreeShape.{layer_first, parent_of, children_of, child_index_of}
 use Rattle.asc_base.specs.declared.shape.Shape.{Shape}
 use Rattle.asc_base.specs.declared.block.Address.{Address}
 use Rattle.asc_base.specs.declared.block.Counter.{Counter}
+use Rattle.asc_base.specs.declared.block.Line.{Line}
 use Rattle.asc_base.specs.Shape.{children_in}
-use Rattle.asc_base.proofs.Families.{child_of_parent, parent_of_child, children_few}
+use Rattle.asc_base.proofs.Families.{child_of_parent, parent_of_child, parent_above, children_few}
 use Rattle.posmap_counters.specs.Counters.{Counters, counter_at, next_group, Change, Access, MoveChild, RenumberChild}
-use Rattle.posmap_counters.specs.Counters.{child_move, after, after_all, asked_changes, group_move, is_among}
+use Rattle.posmap_counters.specs.Counters.{child_move, after, after_all, asked_changes, group_move, is_among, block_of}
 use Rattle.posmap_counters.specs.Counters.{addresses_from}
-use Rattle.posmap_counters.specs.Families.{HasCounters, HasRoots, IsMoving}
-use Rattle.posmap_counters.specs.Group.{GroupState, IsGroup, child_counter, moved_group, stepped_group}
+use Rattle.posmap_counters.specs.Families.{HasCounters, HasRoots, IsMoving, family_line}
+use Rattle.posmap_counters.specs.Group.{GroupState, IsGroup, child_counter, moved_group, stepped_group, line_in}
 use Rattle.posmap_counters.proofs.AskedLaws.{family-full, family-room, some_room}
-use Rattle.posmap_counters.proofs.FamilyLaws.{step_counters, zeros_at}
-use Rattle.posmap_counters.proofs.FamilyLines.{step_is, moved_is}
+use Rattle.posmap_counters.proofs.FamilyLaws.{step_counters, zeros_at, counters_stay}
+use Rattle.posmap_counters.proofs.FamilyLines.{step_is, moved_is, family_only}
 use Rattle.posmap_counters.proofs.RootLaws.{step_roots, roots_stay, asked-root}
 use Rattle.posmap_counters.proofs.ChangeLaws.{after_at}
 use Rattle.posmap_counters.proofs.MoveLaws.{move_begins, move_ends, move_is, child_moves}
 use Rattle.posmap_lookaside.specs.Held.{held_at, changed, with_group, with_counter, addresses_of}
+use Rattle.posmap_lookaside.specs.Walk.{WalkSizes}
 use Rattle.posmap_lookaside.specs.declared.held.Held.{Held}
 use Rattle.posmap_lookaside.proofs.AddressLaws.{is_some-held_at}
 use Rattle.posmap_lookaside.proofs.HeldLaws.{changed_at, changed_other}
@@ -32,12 +35,12 @@ use Rattle.oram_walk.specs.Front.{stepped_under, full_parent, full_by, full_unde
 use Rattle.oram_walk.specs.Memory.{Shown, Accessed, put_back}
 use Rattle.oram_walk.specs.Plans.{on, child_by, child_plan, children_plan, family_plan, move_plan}
 use Rattle.oram_walk.specs.Plans.{full_plan, step_plan, visit_plan}
-use Rattle.oram_walk.specs.Shows.{IsShown}
+use Rattle.oram_walk.specs.Shows.{IsShown, found_line}
 use Rattle.oram_walk.specs.declared.slots.Purpose.{Purpose}
 use Rattle.oram_walk.specs.declared.slots.Purpose.TheVariants.{Keep}
 use Rattle.oram_walk.proofs.Played.{Lines, Goes, goes_on}
 use Rattle.oram_walk.specs.declared.slots.Seen.{Seen}
-use Rattle.oram_walk.proofs.Standing.{Stands, none_some, opened, child_stands, regroup_stands, access_stands}
+use Rattle.oram_walk.proofs.Standing.{Stands, none_some, not_held, opened, child_stands, regroup_stands, access_stands}
 
 module _ (cycles : ℕ) (shape : Shape) (ic plb : ℕ) where
   abbrev pub front : List ℕ → List Held → FrontState
@@ -49,53 +52,101 @@ module _ (cycles : ℕ) (shape : Shape) (ic plb : ℕ) where
   abbrev pub all_of : Counters → List Change → Counters
   all_of counters changes = after_all shape.lines shape.layers counters changes
 
-  -- what the access of a change shows
-  abbrev pub shown_change : Purpose → Counters → Change → List Shown
-  shown_change put counters (Access a) =
-      Accessed a (counter_at counters a) (counter_at (next_of counters (Access a)) a) put ∷ []
-  shown_change put counters (MoveChild a) =
-      Accessed a (counter_at counters a) (counter_at (next_of counters (MoveChild a)) a) Keep ∷ []
-  shown_change put counters (RenumberChild a) = []
+  abbrev sizes : WalkSizes
+  sizes = record { lines = shape.lines; layers = shape.layers; plb = plb; ic = ic }
 
-  abbrev pub shown_all : Purpose → Counters → List Change → List Shown
-  shown_all put counters [] = []
-  shown_all put counters (change ∷ changes) =
-      shown_change put counters change ++ shown_all put (next_of counters change) changes
+  -- the line that is found of a block, under these counters
+  abbrev found : Lines → Counters → ℕ → Line
+  found lines counters a = found_line sizes (counter_at counters) lines a
+
+  -- what the access of a change shows
+  abbrev pub shown_change : Lines → Purpose → Counters → Change → List Shown
+  shown_change lines put counters (Access a) =
+      Accessed a (counter_at counters a) (counter_at (next_of counters (Access a)) a) put
+      (found lines (next_of counters (Access a)) a) ∷ []
+  shown_change lines put counters (MoveChild a) =
+      Accessed a (counter_at counters a) (counter_at (next_of counters (MoveChild a)) a) Keep
+      (found lines (next_of counters (MoveChild a)) a) ∷ []
+  shown_change lines put counters (RenumberChild a) = []
+
+  abbrev pub shown_all : Lines → Purpose → Counters → List Change → List Shown
+  shown_all lines put counters [] = []
+  shown_all lines put counters (change ∷ changes) =
+      shown_change lines put counters change ++ shown_all lines put (next_of counters change) changes
+
+  -- a block that isn't held is found with its line, before the change of its counter and by the counters after it
+  found_is : (moving : Option ℕ) (change : Change) (roots : List ℕ) (held : List Held) (lines : Lines) (list : List ℕ)
+      (counters : Counters) → block_of change < layer_first shape.lines shape.layers
+      → is_among list (block_of change) ≡ false → moving ≢ Some (block_of change)
+      → Stands shape moving roots held lines list counters
+      → lines (block_of change) ≡ found lines (next_of counters change) (block_of change)
+  found_is moving change roots held lines list counters low absent apart s =
+      by (children_of shape.lines shape.layers b) refl
+    where
+      b : ℕ
+      b = block_of change
+
+      above : parent_of shape.lines shape.layers b ≢ Some b
+      above same = absurd (omega (arith, (parent_above shape.lines shape.layers b b low same).0))
+
+      by : (o : Option (ℕ × ℕ)) → children_of shape.lines shape.layers b ≡ o
+          → lines b ≡ option_map_or (λ (family : ℕ × ℕ).
+          let line : Line = record { 0 = family_line (counter_at (next_of counters change)) family } in line) o
+          (lines b)
+      by None none = refl
+      by (Some (first, number)) children =
+          let few = children_few shape.lines shape.layers b first number low children in
+          let shown = subst (λ (o : Option Held). IsShown o (lines b) (counter_at counters) first number)
+          (not_held shape held list b s.held_is absent)
+          (s.groups_are (record { 0 = b }) first number low apart children) in
+          let has = counters_stay shape.lines shape.layers counters change b first number (shown.0) low children above
+          shown.2 in
+          let is = family_only (counter_at (next_of counters change)) first number (shown.0) few.0 (shown.1).children
+          has in
+          ap (λ bytes. let line : Line = record { 0 = bytes } in line) (shown.3 ∙ ap line_in is)
 
   -- a child's part of a group move
   child_by_goes : (is : Bool) (state : FrontState) (asked : ℕ) (lines : Lines) (c : Address) (counter next : Counter)
       → Goes cycles
       (child_by is state (record { asked = asked; address = c; counter = counter; next = next; purpose = Keep })) lines
-      (if is then [] else Accessed c.0 counter next Keep ∷ []) lines state (if is then asked else asked + cycles)
+      (if is then [] else Accessed c.0 counter next Keep (lines c.0) ∷ []) lines state
+      (if is then asked else asked + cycles)
   child_by_goes true state asked lines c counter next = record { shows = refl; ends = refl }
   child_by_goes false state asked lines c counter next = record { shows = refl; ends = refl }
 
-  shown_child : (put : Purpose) (counters : Counters) (list : List ℕ) (c : ℕ) (counter next : Counter) (is : Bool)
-      → is_among list c ≡ is → counter ≡ counter_at counters c
+  shown_child : (put : Purpose) (lines : Lines) (counters : Counters) (list : List ℕ) (c : ℕ) (counter next : Counter)
+      (is : Bool) → is_among list c ≡ is → counter ≡ counter_at counters c
       → next ≡ counter_at (next_of counters (MoveChild c)) c
-      → (if is then [] else Accessed c counter next Keep ∷ []) ≡ shown_change put counters (child_move list c)
-  shown_child put counters list c counter next true there is_counter is_next = rw there refl
-  shown_child put counters list c counter next false absent is_counter is_next = rw (absent, is_counter, is_next) refl
+      → (is_among list c ≡ false → lines c ≡ found lines (next_of counters (MoveChild c)) c)
+      → (if is then [] else Accessed c counter next Keep (lines c) ∷ [])
+      ≡ shown_change lines put counters (child_move list c)
+  shown_child put lines counters list c counter next true there is_counter is_next is_found = rw there refl
+  shown_child put lines counters list c counter next false absent is_counter is_next is_found =
+      rw (absent, is_counter, is_next)
+      (ap (λ line. Accessed c (counter_at counters c) (counter_at (next_of counters (MoveChild c)) c) Keep line ∷ [])
+      (is_found absent))
 
   child_goes : (put : Purpose) (roots : List ℕ) (held : List Held) (lines : Lines) (list : List ℕ) (counters : Counters)
       (asked c : ℕ) (counter next : Counter) → addresses_of held ≡ list → counter ≡ counter_at counters c
       → next ≡ counter_at (next_of counters (MoveChild c)) c
+      → (is_among list c ≡ false → lines c ≡ found lines (next_of counters (MoveChild c)) c)
       → Goes cycles (child_plan (front roots held) asked (record { 0 = c }) counter next) lines
-      (shown_change put counters (child_move list c)) lines
+      (shown_change lines put counters (child_move list c)) lines
       (front roots (changed (with_counter next) held (record { 0 = c })))
       (if is_among list c then asked else asked + cycles)
-  child_goes put roots held lines list counters asked c counter next held_is is_counter is_next =
+  child_goes put roots held lines list counters asked c counter next held_is is_counter is_next is_found =
       let test : is_some (held_at held (record { 0 = c })) ≡ is_among list c =
       is_some-held_at held (record { 0 = c }) ∙ ap (λ l. is_among l c) held_is in
       let state : FrontState = front roots (changed (with_counter next) held (record { 0 = c })) in
       subst (λ b. Goes cycles (child_by b state
       (record { asked = asked; address = record { 0 = c }; counter = counter; next = next; purpose = Keep })) lines
-      (shown_change put counters (child_move list c)) lines state (if is_among list c then asked else asked + cycles))
+      (shown_change lines put counters (child_move list c)) lines state
+      (if is_among list c then asked else asked + cycles))
       (sym test)
       (subst (λ shown. Goes cycles (child_by (is_among list c) state
       (record { asked = asked; address = record { 0 = c }; counter = counter; next = next; purpose = Keep })) lines
       shown lines state (if is_among list c then asked else asked + cycles))
-      (shown_child put counters list c counter next (is_among list c) refl is_counter is_next)
+      (shown_child put lines counters list c counter next (is_among list c) refl is_counter is_next is_found)
       (child_by_goes (is_among list c) state asked lines (record { 0 = c }) counter next))
 
   -- what so many children of a family, from one on, leave of a group move
@@ -105,17 +156,25 @@ module _ (cycles : ℕ) (shape : Shape) (ic plb : ℕ) where
     pub later : List Held
     pub end : ℕ
     pub goes : Goes cycles (children_plan group first done left (front roots held) asked) lines
-        (shown_all put counters (map (child_move list) (addresses_from from left))) lines (front roots later) end
+        (shown_all lines put counters (map (child_move list) (addresses_from from left))) lines (front roots later) end
     pub stands : Stands shape (Some p) roots later lines list
         (all_of counters (map (child_move list) (addresses_from from left)))
     pub moving : IsMoving (counter_at (all_of counters (map (child_move list) (addresses_from from left)))) first number
         (done + left) group
     pub parent : held_at later (record { 0 = p }) ≡ Some block
 
+  number_is : {a b : ℕ} → Some a ≡ Some b → a ≡ b
+  number_is e = cc
+
+  -- a child of a block
+  record IsChild (p c : ℕ) : Type 0 where
+    pub above : parent_of shape.lines shape.layers c ≡ Some p
+    pub apart : p ≢ c
+    pub low : c < layer_first shape.lines shape.layers
+
   children_goes : (put : Purpose) (p first number done left : ℕ) (group : GroupState) (block : Held) (roots : List ℕ)
       (held : List Held) (lines : Lines) (list : List ℕ) (counters : Counters) (asked : ℕ) → done + left ≤ number
-      → ((k : ℕ) → k < number → (parent_of shape.lines shape.layers (first + k) ≡ Some p) × (p ≢ first + k))
-      → Stands shape (Some p) roots held lines list counters
+      → ((k : ℕ) → k < number → IsChild p (first + k)) → Stands shape (Some p) roots held lines list counters
       → IsMoving (counter_at counters) first number done group → held_at held (record { 0 = p }) ≡ Some block
       → Moved put p first number done left (first + done) group block roots held lines list counters asked
   unfolding after_all addresses_from
@@ -139,24 +198,27 @@ module _ (cycles : ℕ) (shape : Shape) (ic plb : ℕ) where
       let now : Counters = next_of counters (child_move list c) in
       let held' : List Held = changed (with_counter next) held (record { 0 = c }) in
       let end : ℕ = (if is_among list c then asked else asked + cycles) in
+      let is_child : IsChild p c = family done within in
       let one = child_goes put roots held lines list counters asked c (child_counter group done) next stands.held_is
-      (sym shown) (raised ∙ sym (after_at shape.lines shape.layers counters (MoveChild c))) in
+      (sym shown) (raised ∙ sym (after_at shape.lines shape.layers counters (MoveChild c)))
+      (λ absent. found_is (Some p) (MoveChild c) roots held lines list counters is_child.low absent
+      (λ e. is_child.apart (number_is e)) stands) in
       let place : first + (done + 1) ≡ first + done + 1 = omega arith in
       let rest : Moved put p first number (done + 1) left (first + done + 1) group block roots held'
       lines list now end =
       subst (λ from. Moved put p first number (done + 1) left from group block roots held' lines list now end) place
       (children_goes put p first number (done + 1) left group block roots held' lines list now end (omega arith) family
-      (child_stands shape p c next roots held lines list counters (family done within).0 raised stands)
+      (child_stands shape p c next roots held lines list counters is_child.above raised stands)
       (child_moves shape.lines shape.layers counters first number done group list within moving)
-      (changed_other (with_counter next) held (record { 0 = c }) (record { 0 = p }) (λ h. refl) (family done within).1
+      (changed_other (with_counter next) held (record { 0 = c }) (record { 0 = p }) (λ h. refl) is_child.apart
       ∙ at)) in
       record {
         later = rest.later;
         end = rest.end;
         goes = goes_on cycles (child_plan (front roots held) asked (record { 0 = c }) (child_counter group done) next)
             (λ s e. children_plan group first (done + 1) left s e) lines lines lines
-            (shown_change put counters (child_move list c))
-            (shown_all put now (map (child_move list) (addresses_from (first + done + 1) left)))
+            (shown_change lines put counters (child_move list c))
+            (shown_all lines put now (map (child_move list) (addresses_from (first + done + 1) left)))
             (front roots held') (front roots rest.later) end rest.end one rest.goes;
         stands = rest.stands;
         moving = let same : done + 1 + left ≡ done + suc left = omega arith in
@@ -206,11 +268,14 @@ module _ (cycles : ℕ) (shape : Shape) (ic plb : ℕ) where
 
   -- it is one of the family
   member : (b p first number : ℕ) (held : List Held) (block : Held) → IsUnder b p first number held block → (k : ℕ)
-      → k < number → (parent_of shape.lines shape.layers (first + k) ≡ Some p) × (p ≢ first + k)
-  member b p first number held block u k h = (
-    (parent_of_child shape.lines shape.layers p first number k u.inside u.children h).0,
-    λ same. absurd (omega (arith, same, (children_few shape.lines shape.layers p first number u.inside u.children).2)),
-  )
+      → k < number → IsChild p (first + k)
+  member b p first number held block u k h =
+      let few = children_few shape.lines shape.layers p first number u.inside u.children in
+      record {
+        above = (parent_of_child shape.lines shape.layers p first number k u.inside u.children h).0;
+        apart = λ same. absurd (omega (arith, same, few.2));
+        low = omega (arith, few.2, u.inside, h);
+      }
 
   -- the group of the parent, by the family that it has
   pub has_group : (b p first number : ℕ) (held : List Held) (block : Held) (roots : List ℕ)
@@ -227,7 +292,7 @@ module _ (cycles : ℕ) (shape : Shape) (ic plb : ℕ) where
     pub later : List Held
     pub end : ℕ
     pub goes : Goes cycles (move_plan (front roots held) asked (record { 0 = p }) group) lines
-        (shown_all put counters (group_move shape.lines shape.layers list b)) lines (front roots later) end
+        (shown_all lines put counters (group_move shape.lines shape.layers list b)) lines (front roots later) end
     pub stands : Stands shape None roots later lines list
         (all_of counters (group_move shape.lines shape.layers list b))
     pub under : IsUnder b p first number later (with_group (moved_group group) block)
@@ -258,10 +323,12 @@ module _ (cycles : ℕ) (shape : Shape) (ic plb : ℕ) where
       ap (option_map (λ (f, n). (let x : Address = record { 0 = f } in x, n))) u.children in
       let later : List Held = changed (with_group (moved_group group)) done.later (record { 0 = p }) in
       let whole : Goes cycles (family_plan group (children_in shape (record { 0 = p })) (front roots held) asked) lines
-      (shown_all put counters (map (child_move list) (addresses_from first number))) lines (front roots done.later)
+      (shown_all lines put counters (map (child_move list) (addresses_from first number))) lines
+      (front roots done.later)
       done.end =
       subst (λ (o : Option (Address × ℕ)). Goes cycles (family_plan group o (front roots held) asked) lines
-      (shown_all put counters (map (child_move list) (addresses_from first number))) lines (front roots done.later)
+      (shown_all lines put counters (map (child_move list) (addresses_from first number))) lines
+      (front roots done.later)
       done.end) (sym family) done.goes in
       let closed = regroup_stands shape (record { 0 = p }) block (moved_group group) roots done.later lines list now
       done.parent (moved_is group)
@@ -271,12 +338,12 @@ module _ (cycles : ℕ) (shape : Shape) (ic plb : ℕ) where
         later = later;
         end = done.end;
         goes = subst (λ changes. Goes cycles (move_plan (front roots held) asked (record { 0 = p }) group) lines
-            (shown_all put counters changes) lines (front roots later) done.end) (sym moves)
+            (shown_all lines put counters changes) lines (front roots later) done.end) (sym moves)
             (subst (λ shown. Goes cycles (move_plan (front roots held) asked (record { 0 = p }) group) lines shown lines
             (front roots later) done.end) (append-nil _)
             (goes_on cycles (family_plan group (children_in shape (record { 0 = p })) (front roots held) asked)
             (λ s e. Done (with_held s (changed (with_group (moved_group group)) s.held (record { 0 = p })), e))
-            lines lines lines (shown_all put counters (map (child_move list) (addresses_from first number))) []
+            lines lines lines (shown_all lines put counters (map (child_move list) (addresses_from first number))) []
             (front roots done.later) (front roots later) done.end done.end whole
             (record { shows = refl; ends = refl })));
         stands = subst (λ changes. Stands shape None roots later lines list (all_of counters changes))
@@ -317,12 +384,13 @@ module _ (cycles : ℕ) (shape : Shape) (ic plb : ℕ) where
 
   -- the step and its access, by the counters before and after
   step_goes : (put : Purpose) (b : Address) (state now : FrontState) (lines : Lines) (asked : ℕ) (c c' : Counter)
-      → stepped state b ≡ now → counter_in state b ≡ c → counter_in now b ≡ c'
-      → Goes cycles (step_plan state asked b put) lines (Accessed b.0 c c' put ∷ []) (put_back lines b.0 put) now
+      (line : Line) → stepped state b ≡ now → counter_in state b ≡ c → counter_in now b ≡ c' → lines b.0 ≡ line
+      → Goes cycles (step_plan state asked b put) lines (Accessed b.0 c c' put line ∷ []) (put_back lines b.0 put) now
       (record { line = lines b.0; end = asked + cycles })
-  step_goes put b state now lines asked c c' is_now before after_it = record {
-    shows = ap (λ x. Accessed b.0 x (counter_in (stepped state b) b) put ∷ []) before
-        ∙ ap (λ x. Accessed b.0 c x put ∷ []) (ap (λ (s : FrontState). counter_in s b) is_now ∙ after_it);
+  step_goes put b state now lines asked c c' line is_now before after_it is_line = record {
+    shows = ap (λ x. Accessed b.0 x (counter_in (stepped state b) b) put (lines b.0) ∷ []) before
+        ∙ ap (λ x. Accessed b.0 c x put (lines b.0) ∷ []) (ap (λ (s : FrontState). counter_in s b) is_now ∙ after_it)
+        ∙ ap (λ l. Accessed b.0 c c' put l ∷ []) is_line;
     ends = ap (λ (s : FrontState).
         let seen : Seen = record { line = lines b.0; end = asked + cycles } in
         (put_back lines b.0 put, (s, seen))) is_now;
@@ -335,8 +403,8 @@ module _ (cycles : ℕ) (shape : Shape) (ic plb : ℕ) where
     pub later : List Held
     pub end : ℕ
     pub goes : Goes cycles (visit_plan (front roots held) asked (record { 0 = b }) put) lines
-        (shown_all put counters (asked_changes shape.lines shape.layers ic list counters b)) (put_back lines b put)
-        (front roots' later) (record { line = lines b; end = end })
+        (shown_all lines put counters (asked_changes shape.lines shape.layers ic list counters b))
+        (put_back lines b put) (front roots' later) (record { line = lines b; end = end })
     pub stands : Stands shape None roots' later (put_back lines b put) list
         (all_of counters (asked_changes shape.lines shape.layers ic list counters b))
 
@@ -361,13 +429,14 @@ module _ (cycles : ℕ) (shape : Shape) (ic plb : ℕ) where
       let now : Counters = next_of counters (Access b) in
       let seen : Seen = record { line = lines b; end = asked + cycles } in
       let here : Goes cycles (step_plan (front roots held) asked address put) lines
-      (Accessed b (counter_at counters b) (counter_at now b) put ∷ []) (put_back lines b put)
+      (Accessed b (counter_at counters b) (counter_at now b) put (found lines now b) ∷ []) (put_back lines b put)
       (front roots' held) seen =
       step_goes put address (front roots held) (front roots' held) lines asked (counter_at counters b)
-      (counter_at now b)
+      (counter_at now b) (found lines now b)
       (ap (λ (o : Option ℕ). stepped_by (front roots held) address
       (option_map (λ n. let x : Address = record { 0 = n } in x) o)) top)
-      (counter_of_root b roots held counters top low s.roots_are) (counter_of_root b roots' held now top low has) in
+      (counter_of_root b roots held counters top low s.roots_are) (counter_of_root b roots' held now top low has)
+      (found_is None (Access b) roots held lines list counters low absent (λ e. none_some e) s) in
       let none : full_parent (front roots held) address ≡ None =
       ap (λ (o : Option ℕ). full_by (front roots held) address
       (option_map (λ n. let x : Address = record { 0 = n } in x) o)) top in
@@ -380,10 +449,10 @@ module _ (cycles : ℕ) (shape : Shape) (ic plb : ℕ) where
         later = held;
         end = asked + cycles;
         goes = subst (λ changes. Goes cycles (visit_plan (front roots held) asked address put) lines
-            (shown_all put counters changes) (put_back lines b put) (front roots' held) seen) (sym alone)
+            (shown_all lines put counters changes) (put_back lines b put) (front roots' held) seen) (sym alone)
             (subst (λ (o : Option (Address × GroupState)). Goes cycles
             (on (full_plan (front roots held) asked o) (λ later end. step_plan later end address put)) lines
-            (Accessed b (counter_at counters b) (counter_at now b) put ∷ []) (put_back lines b put)
+            (Accessed b (counter_at counters b) (counter_at now b) put (found lines now b) ∷ []) (put_back lines b put)
             (front roots' held) seen) (sym none) here);
         stands = subst (λ changes. Stands shape None roots' held (put_back lines b put) list (all_of counters changes))
             (sym alone) stands;
@@ -397,8 +466,9 @@ module _ (cycles : ℕ) (shape : Shape) (ic plb : ℕ) where
       → Stands shape None roots held lines list counters
       → (later : List Held)
       × Goes cycles (step_plan (front roots held) asked (record { 0 = b }) put) lines
-      (Accessed b (counter_at counters b) (counter_at (next_of counters (Access b)) b) put ∷ []) (put_back lines b put)
-      (front roots later) (record { line = lines b; end = asked + cycles })
+      (Accessed b (counter_at counters b) (counter_at (next_of counters (Access b)) b) put
+      (found lines (next_of counters (Access b)) b) ∷ []) (put_back lines b put) (front roots later)
+      (record { line = lines b; end = asked + cycles })
       × Stands shape None roots later (put_back lines b put) list (next_of counters (Access b))
   under_goes put b p first number block roots held lines list counters asked bits u absent kept room s =
       let child : ℕ = child_index_of shape.lines shape.layers b in
@@ -440,21 +510,23 @@ module _ (cycles : ℕ) (shape : Shape) (ic plb : ℕ) where
       (option_map (λ (h : Held). h.group) o)) u.at in (
         later,
         step_goes put address (front roots held) (front roots later) lines asked (counter_at counters b)
-            (counter_at now b) is_stepped
+            (counter_at now b) (found lines now b) is_stepped
             (counter_under_parent b p first number block roots held lines list counters u has.1)
             (counter_under_parent b p first number (with_group group' block) roots later (put_back lines b put) list now
-            after_u stepped_has),
+            after_u stepped_has)
+            (found_is None (Access b) roots held lines list counters u.low absent (λ e. none_some e) s),
         stands,
       )
 
   -- what the accesses of changes one after another show
-  shown-append : (put : Purpose) (counters : Counters) (xs ys : List Change) → shown_all put counters (xs ++ ys)
-      ≡ shown_all put counters xs ++ shown_all put (all_of counters xs) ys
+  shown-append : (put : Purpose) (lines : Lines) (counters : Counters) (xs ys : List Change)
+      → shown_all lines put counters (xs ++ ys)
+      ≡ shown_all lines put counters xs ++ shown_all lines put (all_of counters xs) ys
   unfolding after_all
-  shown-append put counters [] ys = refl
-  shown-append put counters (x ∷ xs) ys =
-      ap (λ shown. shown_change put counters x ++ shown) (shown-append put (next_of counters x) xs ys)
-      ∙ sym (append_assoc (shown_change put counters x) _ _)
+  shown-append put lines counters [] ys = refl
+  shown-append put lines counters (x ∷ xs) ys =
+      ap (λ shown. shown_change lines put counters x ++ shown) (shown-append put lines (next_of counters x) xs ys)
+      ∙ sym (append_assoc (shown_change lines put counters x) _ _)
 
   last-append : (counters : Counters) (xs : List Change) (b : ℕ)
       → all_of counters (xs ++ Access b ∷ []) ≡ next_of (all_of counters xs) (Access b)
@@ -498,12 +570,13 @@ module _ (cycles : ℕ) (shape : Shape) (ic plb : ℕ) where
         later = step.0;
         end = asked + cycles;
         goes = subst (λ changes. Goes cycles (visit_plan (front roots held) asked address put) lines
-            (shown_all put counters changes) (put_back lines b put) (front roots (step.0))
+            (shown_all lines put counters changes) (put_back lines b put) (front roots (step.0))
             (record { line = lines b; end = asked + cycles })) (sym alone)
             (subst (λ (o : Option (Address × GroupState)). Goes cycles
             (on (full_plan (front roots held) asked o) (λ later end. step_plan later end address put)) lines
-            (Accessed b (counter_at counters b) (counter_at (next_of counters (Access b)) b) put ∷ [])
-            (put_back lines b put) (front roots (step.0)) (record { line = lines b; end = asked + cycles }))
+            (Accessed b (counter_at counters b) (counter_at (next_of counters (Access b)) b) put
+            (found lines (next_of counters (Access b)) b) ∷ []) (put_back lines b put) (front roots (step.0))
+            (record { line = lines b; end = asked + cycles }))
             (sym none)
             step.1);
         stands = subst (λ changes. Stands shape None roots (step.0) (put_back lines b put) list
@@ -540,23 +613,24 @@ module _ (cycles : ℕ) (shape : Shape) (ic plb : ℕ) where
       moved.later lines list
       middle moved.end bits_to moved.under absent kept fresh moved.stands in
       let here : List Shown =
-      Accessed b (counter_at middle b) (counter_at (next_of middle (Access b)) b) put ∷ [] in
+      Accessed b (counter_at middle b) (counter_at (next_of middle (Access b)) b) put
+      (found lines (next_of middle (Access b)) b) ∷ [] in
       let seen : Seen = record { line = lines b; end = moved.end + cycles } in
       record {
         roots' = roots;
         later = step.0;
         end = moved.end + cycles;
         goes = subst (λ changes. Goes cycles (visit_plan (front roots held) asked address put) lines
-            (shown_all put counters changes) (put_back lines b put) (front roots (step.0)) seen) (sym both)
+            (shown_all lines put counters changes) (put_back lines b put) (front roots (step.0)) seen) (sym both)
             (subst (λ shown. Goes cycles (visit_plan (front roots held) asked address put) lines shown
             (put_back lines b put) (front roots (step.0)) seen)
-            (sym (shown-append put counters moves (Access b ∷ [])))
+            (sym (shown-append put lines counters moves (Access b ∷ [])))
             (subst (λ (o : Option (Address × GroupState)). Goes cycles
             (on (full_plan (front roots held) asked o) (λ later end. step_plan later end address put)) lines
-            (shown_all put counters moves ++ here) (put_back lines b put) (front roots (step.0)) seen) (sym some)
+            (shown_all lines put counters moves ++ here) (put_back lines b put) (front roots (step.0)) seen) (sym some)
             (goes_on cycles (move_plan (front roots held) asked (address_of p) block.group)
             (λ later end. step_plan later end address put) lines lines (put_back lines b put)
-            (shown_all put counters moves) here (front roots moved.later) (front roots (step.0)) moved.end seen
+            (shown_all lines put counters moves) here (front roots moved.later) (front roots (step.0)) moved.end seen
             moved.goes step.1)));
         stands = subst (λ changes. Stands shape None roots (step.0) (put_back lines b put) list
             (all_of counters changes))

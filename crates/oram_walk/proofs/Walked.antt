@@ -38,7 +38,8 @@ use Rattle.oram_walk.specs.Shows.{Shows, shown_by}
 use Rattle.oram_walk.specs.declared.slots.Purpose.{Purpose}
 use Rattle.oram_walk.specs.declared.slots.Purpose.TheVariants.{Refill, Keep, Replace}
 use Rattle.oram_walk.specs.declared.slots.Seen.{Seen}
-use Rattle.oram_walk.proofs.Climbs.{sizes, shown_of, asked_shown, descended, climbed, Climbs, climb, reaches}
+use Rattle.oram_walk.proofs.Climbs.{sizes, shown_of, same_shown, asked_shown, descended, climbed, Climbs, climb}
+use Rattle.oram_walk.proofs.Climbs.{reaches}
 use Rattle.oram_walk.proofs.Fronts.{first_is}
 use Rattle.oram_walk.proofs.Played.{Lines, Goes, goes_on, play-told, play-left}
 use Rattle.oram_walk.proofs.Refills.{AreHeld}
@@ -125,7 +126,7 @@ record Requested (cycles : ℕ) (state : FrontState) (asked line : ℕ) (put : P
   pub now : FrontState
   pub seen : Seen
   pub goes : Goes cycles (request_plan state asked (record { 0 = line }) put) lines
-      (flat_map (shown_by (sizes_of state) put) (walk (sizes_of state) chip line).accesses) lines' now seen
+      (flat_map (shown_by (sizes_of state) lines put) (walk (sizes_of state) chip line).accesses) lines' now seen
   pub shows : Shows now lines' (walk (sizes_of state) chip line).chip
   pub answer : seen.line ≡ lines line
 
@@ -177,18 +178,19 @@ request_goes cycles state asked line put lines chip below shown =
     let changes : List Change =
     asked_changes shape.lines shape.layers ic walked.chip.held walked.chip.counters line in
     let last : Walked = visit (sizes_of state) Final None walked.chip.held walked.chip line in
-    let shows_last : shown_all cycles shape ic plb put walked.chip.counters changes
-    ≡ shown_of cycles shape ic plb put last.accesses =
-    sym (asked_shown cycles shape ic plb put Final None walked.chip.held walked.chip.counters line ∙ append-nil _) in
+    let shows_last : shown_all cycles shape ic plb up.lines' put walked.chip.counters changes
+    ≡ shown_of cycles shape ic plb put lines last.accesses =
+    sym (asked_shown cycles shape ic plb put up.lines' Final None walked.chip.held walked.chip.counters line
+    ∙ append-nil _) ∙ same_shown cycles shape ic plb put lines up.lines' up.stored last.accesses in
     let whole : walk (sizes_of state) chip line ≡ ended cycles shape ic plb put line walked =
     down-ended cycles shape ic plb put line (reverse (missing chip.held above))
     (record { held = looked_up chip.held above; counters = chip.counters }) in
-    let shows_all : shown_of cycles shape ic plb put walked.accesses
-    ++ shown_all cycles shape ic plb put walked.chip.counters changes
-    ≡ shown_of cycles shape ic plb put (walk (sizes_of state) chip line).accesses =
-    ap (λ x. shown_of cycles shape ic plb put walked.accesses ++ x) shows_last
-    ∙ sym (flat_map-append (shown_by (sizes_of state) put) walked.accesses last.accesses)
-    ∙ ap (λ (w : Walked). shown_of cycles shape ic plb put w.accesses) (sym whole) in
+    let shows_all : shown_of cycles shape ic plb put lines walked.accesses
+    ++ shown_all cycles shape ic plb up.lines' put walked.chip.counters changes
+    ≡ shown_of cycles shape ic plb put lines (walk (sizes_of state) chip line).accesses =
+    ap (λ x. shown_of cycles shape ic plb put lines walked.accesses ++ x) shows_last
+    ∙ sym (flat_map-append (shown_by (sizes_of state) lines put) walked.accesses last.accesses)
+    ∙ ap (λ (w : Walked). shown_of cycles shape ic plb put lines w.accesses) (sym whole) in
     record {
       lines' = lines';
       now = now;
@@ -197,8 +199,8 @@ request_goes cycles state asked line put lines chip below shown =
           now seen) shows_all
           (goes_on cycles (walk_plan shape.layers state asked (record { 0 = line }))
           (λ later end. visit_plan later end (record { 0 = line }) put) lines up.lines' lines'
-          (shown_of cycles shape ic plb put walked.accesses)
-          (shown_all cycles shape ic plb put walked.chip.counters changes)
+          (shown_of cycles shape ic plb put lines walked.accesses)
+          (shown_all cycles shape ic plb up.lines' put walked.chip.counters changes)
           (front cycles shape ic plb up.roots' up.later) now up.end seen up.goes visited.goes);
       shows = subst (λ (w : Walked). Shows now lines' w.chip) (sym whole) (record {
         front = record {
@@ -238,7 +240,7 @@ request_goes cycles state asked line put lines chip below shown =
 pub walks_over : (cycles asked line : ℕ) (state : FrontState) (put : Purpose) (lines : Lines) (chip : OnChip)
     → line < state.shape.lines → Shows state lines chip
     → let played = play (memory cycles) (request_plan state asked (record { 0 = line }) put) lines in
-    (bare played.records ≡ flat_map (shown_by (sizes_of state) put) (walk (sizes_of state) chip line).accesses)
+    (bare played.records ≡ flat_map (shown_by (sizes_of state) lines put) (walk (sizes_of state) chip line).accesses)
     × Shows ((played.outcome).0) played.held (walk (sizes_of state) chip line).chip
     × (((played.outcome).1).line ≡ lines line)
 walks_over cycles asked line state put lines chip below shown =
@@ -256,7 +258,7 @@ walks_over cycles asked line state put lines chip below shown =
 pub fetch_over : (cycles asked line : ℕ) (state : FrontState) (lines : Lines) (chip : OnChip)
     → line < state.shape.lines → Shows state lines chip
     → let played = play (memory cycles) (fetch_plan state asked line) lines in
-    (bare played.records ≡ flat_map (shown_by (sizes_of state) Keep) (walk (sizes_of state) chip line).accesses)
+    (bare played.records ≡ flat_map (shown_by (sizes_of state) lines Keep) (walk (sizes_of state) chip line).accesses)
     × Shows ((played.outcome).0) played.held (walk (sizes_of state) chip line).chip
     × (((played.outcome).1).line ≡ lines line)
 fetch_over cycles asked line state lines chip below shown =
@@ -277,7 +279,7 @@ pub store_over : (cycles asked line : ℕ) (value : Line) (state : FrontState) (
     → line < state.shape.lines → Shows state lines chip
     → let played = play (memory cycles) (store_plan state asked line value) lines in
     (bare played.records
-    ≡ flat_map (shown_by (sizes_of state) (Replace value)) (walk (sizes_of state) chip line).accesses)
+    ≡ flat_map (shown_by (sizes_of state) lines (Replace value)) (walk (sizes_of state) chip line).accesses)
     × Shows ((played.outcome).0) played.held (walk (sizes_of state) chip line).chip
 store_over cycles asked line value state lines chip below shown =
     let plan = store_plan state asked line value in

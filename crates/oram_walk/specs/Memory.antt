@@ -8,10 +8,10 @@ use Rattle.oram_walk.specs.declared.slots.Purpose.{Purpose}
 use Rattle.oram_walk.specs.declared.slots.Purpose.TheVariants.{Refill, Keep, Replace}
 use Rattle.oram_walk.specs.declared.slots.Seen.{Seen}
 
--- An access to a block under a counter, the counter under which it is put back or held, and its purpose; or a displaced
--- block, its counter and its line.
+-- An access to a block under a counter, the counter under which it is put back or held, its purpose, and the line that
+-- is found; or a displaced block, its counter and its line.
 pub data Shown : Type 0 where
-  Accessed : ℕ → Counter → Counter → Purpose → Shown
+  Accessed : ℕ → Counter → Counter → Purpose → Line → Shown
   Displaced : ℕ → Counter → Line → Shown
 
 -- the lines with that of one block changed
@@ -27,7 +27,8 @@ put_back lines address (Replace value) = put_line lines address value
 -- The memory, in which an access takes so many cycles from when it is asked for. It doesn't look at counters.
 abbrev pub memory : ℕ → (ℕ → Line) → Request → Turn Shown (ℕ → Line) Seen
 memory cycles lines (Slot access) = record {
-  records = Accessed access.address.0 access.counter access.next access.purpose ∷ [];
+  records =
+      Accessed access.address.0 access.counter access.next access.purpose (lines access.address.0) ∷ [];
   held = put_back lines access.address.0 access.purpose;
   answer = record { line = lines access.address.0; end = access.asked + cycles };
 }

@@ -51,7 +51,7 @@ zeros address = record { 0 = replicate 64 0 }
 
 -- an access is 1, its block and its counter; a displaced block is 0, its address and its counter
 abbrev pub counted : Shown → ℕ × ℕ × ℕ × ℕ
-counted (Accessed address counter next purpose) = (1, address, counter.group, counter.own)
+counted (Accessed address counter next purpose line) = (1, address, counter.group, counter.own)
 counted (Displaced address counter line) = (0, address, counter.group, counter.own)
 
 -- requests for lines, one after another, each asked for at the end of the one before, where an access takes 752 cycles:

@@ -51,8 +51,17 @@ displaced_by sizes count last =
     Displaced last (count last)
     (record { 0 = option_map_or (family_line count) (children_of sizes.lines sizes.layers last) [] })
 
--- What an access of a walk shows: the block under its counters before and after, and then the displaced block.
-abbrev pub shown_by : WalkSizes → Purpose → WalkAccess → List Shown
-shown_by sizes put access =
+-- the line that is found of a block: a position-map block's is that of its family's counters, a data line's is the one
+-- of these
+abbrev pub found_line : WalkSizes → (ℕ → Counter) → (ℕ → Line) → ℕ → Line
+found_line sizes count lines address =
+    option_map_or (λ family. let line : Line = record { 0 = family_line count family } in line)
+    (children_of sizes.lines sizes.layers address) (lines address)
+
+-- What an access of a walk shows of a memory that has these lines when the walk starts: the block under its counters
+-- before and after, with the line that is found, and then the displaced block.
+abbrev pub shown_by : WalkSizes → (ℕ → Line) → Purpose → WalkAccess → List Shown
+shown_by sizes lines put access =
     Accessed access.address access.counter (counter_at access.counters access.address) (put_of put access.purpose)
+    (found_line sizes (counter_at access.counters) lines access.address)
     ∷ option_map_or (λ last. displaced_by sizes (counter_at access.counters) last ∷ []) access.displaced []

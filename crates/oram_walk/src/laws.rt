@@ -16,10 +16,10 @@ ghost use Rattle.posmap_lookaside.specs.declared.held.Held.{Held};
 ghost use Rattle.posmap_lookaside.specs.Rows.{row, default_sizes, small_sizes, in_turn};
 ghost use Rattle.posmap_lookaside.specs.Walk.{OnChip, chip_at_start, walk};
 ghost use Rattle.oram_walk.specs.Front.{FrontState, IsFront, IsAfter, first_front, sizes_of};
-ghost use Rattle.oram_walk.specs.Memory.{Displaced, memory};
+ghost use Rattle.oram_walk.specs.Memory.{memory};
 ghost use Rattle.oram_walk.specs.Plans.{visit_plan, hold_plan, request_plan, fetch_plan, store_plan};
 ghost use Rattle.oram_walk.specs.declared.slots.Purpose.{Purpose};
-ghost use Rattle.oram_walk.specs.Shadows.{ShowsAlways, visit_shown, IsVisited};
+ghost use Rattle.oram_walk.specs.Shadows.{Displaced, ShowsAlways, visit_shown, IsVisited};
 ghost use Rattle.oram_walk.specs.Shows.{Shows, shown_by};
 ghost use Rattle.oram_walk.specs.Rows.{requests, start, zeros, default_shape, flat_shape, rooted_shape};
 ghost use Rattle.oram_walk.specs.declared.slots.Purpose.TheVariants.{Keep, Replace};
@@ -54,37 +54,38 @@ pub fn accesses_follow_the_groups()
 {}
 
 /// A request over a memory that shows the counters shows exactly its walk: its accesses in order, each under its
-/// counters before and after and with its purpose, and after a refill the block that it displaces, under its counter
-/// and with the line of its children's counters. The memory and the front end then show the counters after the walk,
+/// counters before and after and with its purpose, and with the line that is found, that of its children's counters or
+/// a data line as it is in memory; and after a refill the block that it displaces, under its counter and with the line
+/// of its children's counters. The memory and the front end then show the counters after the walk,
 /// and the line that is seen is the one in memory. At the start a memory of zeros shows the counters.
 pub fn requests_show_the_walk()
     ensures request { (cycles asked line : ℕ) (state : FrontState) (put : Purpose) (lines : ℕ → Line) (chip : OnChip)
         → line < state.shape.lines → Shows state lines chip
         → let walked = walk (sizes_of state) chip line in
         let played = play (memory cycles) (request_plan state asked (record { 0 = line }) put) lines in
-        (bare (played.records) ≡ flat_map (shown_by (sizes_of state) put) (walked.accesses))
+        (bare (played.records) ≡ flat_map (shown_by (sizes_of state) lines put) (walked.accesses))
         × Shows ((played.outcome).0) (played.held) (walked.chip)
         × (((played.outcome).1).line ≡ lines line) }
     ensures fetch { (cycles asked line : ℕ) (state : FrontState) (lines : ℕ → Line) (chip : OnChip)
         → line < state.shape.lines → Shows state lines chip
         → let walked = walk (sizes_of state) chip line in
         let played = play (memory cycles) (fetch_plan state asked line) lines in
-        (bare (played.records) ≡ flat_map (shown_by (sizes_of state) Keep) (walked.accesses))
+        (bare (played.records) ≡ flat_map (shown_by (sizes_of state) lines Keep) (walked.accesses))
         × Shows ((played.outcome).0) (played.held) (walked.chip)
         × (((played.outcome).1).line ≡ lines line) }
     ensures store { (cycles asked line : ℕ) (value : Line) (state : FrontState) (lines : ℕ → Line) (chip : OnChip)
         → line < state.shape.lines → Shows state lines chip
         → let walked = walk (sizes_of state) chip line in
         let played = play (memory cycles) (store_plan state asked line value) lines in
-        (bare (played.records) ≡ flat_map (shown_by (sizes_of state) (Replace value)) (walked.accesses))
+        (bare (played.records) ≡ flat_map (shown_by (sizes_of state) lines (Replace value)) (walked.accesses))
         × Shows ((played.outcome).0) (played.held) (walked.chip) }
     ensures start { (config : Config) → IsConfig config → Shows (first_front config) zeros chip_at_start }
 {}
 
 /// The plans on rows: over a memory of zeros they access and append what the walk does. On the default shape lines 0,
 /// 32 and 0 take 9 accesses where one block is held, and 6 where 32 are. With own counts of two bits four stores
-/// of line 0 of 64 take 37 accesses, the last of which moves a group. Under one root with two held blocks lines 0, 32, 0,
-/// 32, 0, 32 and 0 take 48, of which the last moves two groups; in the first of these a block is held.
+/// of line 0 of 64 take 37 accesses, the last of which moves a group. Under one root with two held blocks lines 0, 32,
+/// 0, 32, 0, 32 and 0 take 48, of which the last moves two groups; in the first of these a block is held.
 pub fn plans_have_rows()
     ensures nine { (requests (start default_shape 16 14 1) 0 zeros Keep (0 ∷ 32 ∷ 0 ∷ [])).0
         ≡ row (default_sizes 1) (0 ∷ 32 ∷ 0 ∷ []) }
