@@ -20,3 +20,4 @@ pub mod Inside
 pub mod Found
 pub mod Stands
 pub mod StopNotes
+pub mod FoundInStops

@@ -19,5 +19,6 @@ pub use laws::{
     walked_accesses_take_play_slots,
 };
 pub use stops::{
-    stopped_accesses_are_cut, stopped_requests_take_slots_in_turn, stopped_walks_cut_plays,
+    lines_found_before_stops_are_right, stopped_accesses_are_cut,
+    stopped_requests_take_slots_in_turn, stopped_walks_cut_plays,
 };

@@ -1,19 +1,22 @@
 //! Laws of what a stop leaves of the slots of a play. The functions do nothing: each states laws in its contract.
 
-ghost use Rattle.std.specs.Prelude.{◌≡◌, ◌+◌, ◌⊎◌, ℕ, List, [], ◌∷◌, ◌++◌, None, Err};
+ghost use Rattle.std.specs.Prelude.{◌≡◌, ◌+◌, ◌⊎◌, ℕ, List, [], ◌∷◌, ◌++◌, None, Some, Err};
 ghost use Rattle.asc_base.specs.declared.block.Line.{Line};
 ghost use Rattle.asc_base.specs.declared.block.Message.{Message};
 ghost use Rattle.asc_base.specs.declared.settings.Config.{Config};
 ghost use Rattle.asc_base.specs.declared.stop.Stop.{Stop};
 ghost use Rattle.data_cache.specs.Lines.{LineRequest};
-ghost use Rattle.oram_contents.specs.Entries.{Keys};
+ghost use Rattle.oram_contents.specs.Counts.{Ghost, line_at};
+ghost use Rattle.oram_contents.specs.Entries.{Keys, AreKeys};
 ghost use Rattle.oram_contents.specs.Forgery.{Forgery};
+ghost use Rattle.oram_contents.specs.Slots.{MayRise};
 ghost use Rattle.oram_frontend.specs.Access.{SlotStep};
 ghost use Rattle.oram_frontend.specs.Oram.{OramState, OramStep, Fetch, Store, Wait};
 ghost use Rattle.oram_frontend.specs.Slots.{FitKeys};
 ghost use Rattle.oram_play.specs.OnPlay.{IsOnPlay};
 ghost use Rattle.oram_play.specs.Playing.{LeavesOf};
-ghost use Rattle.oram_play.specs.Stopped.{AccessLeaves, AppendLeaves, WaitLeaves};
+ghost use Rattle.oram_lines.specs.Standing.{IsKnown};
+ghost use Rattle.oram_play.specs.Stopped.{AccessLeaves, AppendLeaves, WaitLeaves, WasFound};
 ghost use Rattle.oram_play.specs.StopsInTurn.{StopsInTurn, IsStopped};
 ghost use Rattle.oram_play.specs.Taken.{HasTaken};
 ghost use Rattle.oram_walk.specs.Plans.{fetch_plan, store_plan};
@@ -69,4 +72,13 @@ pub fn stopped_walks_cut_plays()
         → (stops : StopsInTurn keys levels config now.numbers now.clock slots now.pace stop new)
         → IsOnPlay keys config now request stops.accesses stops.mid new stops.next
         → Forgery keys new.tap.log ⊎ LeavesOf levels slots (request_slots config now request) stop new }
+{}
+
+/// A line that was found in the slot of an access that stopped later is the block's, where this is known of the port
+/// before it, or the log shows a forgery.
+pub fn lines_found_before_stops_are_right()
+    ensures { (keys : Keys) → AreKeys keys → (g : Ghost) (access : Access) (line : Line) (old new : PortState)
+        → IsKnown keys g old → WasFound keys access line old new → g.pend ≡ Some access.address.0
+        → access.counter ≡ g.count access.address.0 → MayRise keys g access.address.0 access.next
+        → Forgery keys new.tap.log ⊎ (line.0 ≡ line_at keys.shape g access.address.0) }
 {}
