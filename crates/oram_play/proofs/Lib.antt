@@ -21,3 +21,4 @@ pub mod Found
 pub mod Stands
 pub mod StopNotes
 pub mod FoundInStops
+pub mod OnPlays

@@ -1,6 +1,6 @@
 //! Laws of what a stop leaves of the slots of a play. The functions do nothing: each states laws in its contract.
 
-ghost use Rattle.std.specs.Prelude.{◌≡◌, ◌+◌, ◌⊎◌, ℕ, List, [], ◌∷◌, ◌++◌, None, Some, Err};
+ghost use Rattle.std.specs.Prelude.{◌≡◌, ◌<◌, ◌≤◌, ◌+◌, ◌⊎◌, ℕ, List, [], ◌∷◌, ◌++◌, None, Some, Err};
 ghost use Rattle.asc_base.specs.declared.block.Line.{Line};
 ghost use Rattle.asc_base.specs.declared.block.Message.{Message};
 ghost use Rattle.asc_base.specs.declared.settings.Config.{Config};
@@ -13,18 +13,21 @@ ghost use Rattle.oram_contents.specs.Slots.{MayRise};
 ghost use Rattle.oram_frontend.specs.Access.{SlotStep};
 ghost use Rattle.oram_frontend.specs.Oram.{OramState, OramStep, Fetch, Store, Wait};
 ghost use Rattle.oram_frontend.specs.Slots.{FitKeys};
-ghost use Rattle.oram_play.specs.OnPlay.{IsOnPlay};
+ghost use Rattle.oram_play.specs.InTurn.{AnsweredAccess};
+ghost use Rattle.oram_play.specs.OnPlay.{IsOnPlay, FindsLine};
 ghost use Rattle.oram_play.specs.Playing.{LeavesOf};
 ghost use Rattle.oram_lines.specs.Standing.{IsKnown};
 ghost use Rattle.oram_play.specs.Stopped.{AccessLeaves, AppendLeaves, WaitLeaves, WasFound};
-ghost use Rattle.oram_play.specs.StopsInTurn.{StopsInTurn, IsStopped};
+ghost use Rattle.oram_play.specs.StopsInTurn.{StopsInTurn, StopsNext, IsOnWalk, IsStopped};
 ghost use Rattle.oram_play.specs.Taken.{HasTaken};
+ghost use Rattle.oram_play.specs.Walked.{put_for};
 ghost use Rattle.oram_walk.specs.Plans.{fetch_plan, store_plan};
 ghost use Rattle.oram_walk.specs.Request.{Slot as AccessSlot, Append};
 ghost use Rattle.oram_walk.specs.declared.slots.Access.{Access};
 ghost use Rattle.oram_walk.specs.declared.slots.Purpose.TheVariants.{Keep, Replace};
+ghost use Rattle.posmap_lookaside.specs.Walk.{IsHeldList, walk};
 ghost use Rattle.rate_enforcer.specs.PortStep.{PortState, Resting};
-ghost use Rattle.run_play.specs.Requests.{Standing, request_slots};
+ghost use Rattle.run_play.specs.Requests.{Standing, request_slots, requested, walk_sizes, data_line};
 ghost use Rattle.run_play.specs.Slots.{Pace, Numbers, Slot};
 
 /// An access that is stopped leaves a part of the slots that it would take: the log says the slots before the one that
@@ -81,4 +84,20 @@ pub fn lines_found_before_stops_are_right()
         → IsKnown keys g old → WasFound keys access line old new → g.pend ≡ Some access.address.0
         → access.counter ≡ g.count access.address.0 → MayRise keys g access.address.0 access.next
         → Forgery keys new.tap.log ⊎ (line.0 ≡ line_at keys.shape g access.address.0) }
+{}
+
+/// What was stopped on a request's walk over a memory with the data lines as last stored is on the walk of the play's
+/// request, where any other line than the walk's that was found in it is forged.
+pub fn stopped_walks_are_on_plays()
+    ensures { (config : Config) (now : Standing) (request : LineRequest) (lines : ℕ → Line)
+        → 1 ≤ config.shape.layers → IsHeldList (walk_sizes config) now.chip.held
+        → requested request < config.shape.lines
+        → ((a : ℕ) → a < config.shape.lines → (lines a).0 ≡ data_line now.data_lines a)
+        → (levels : ℕ) (numbers : Numbers) (asked : ℕ) (slots : List Slot) (pace : Pace) (stop : Stop) (keys : Keys)
+        (accesses : List AnsweredAccess) (old new : PortState)
+        (next : StopsNext keys levels numbers asked slots pace stop old new)
+        → let walked = (walk (walk_sizes config) now.chip (requested request)).accesses in
+        (on : IsOnWalk (walk_sizes config) lines (put_for request) walked accesses next)
+        → FindsLine keys (walk_sizes config) lines (put_for request) walked accesses old new next on
+        → IsOnPlay keys config now request accesses old new next }
 {}
