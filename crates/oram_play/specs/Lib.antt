@@ -6,3 +6,4 @@ pub mod Answered
 pub mod Playing
 pub mod Stopped
 pub mod StopsInTurn
+pub mod OnPlay

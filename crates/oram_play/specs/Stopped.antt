@@ -1,5 +1,5 @@
 -- What a stop leaves in the log of a port of an access, an append or a wait: which part of which slot was done.
-use Rattle.std.specs.Prelude.{◌≡◌, ◌<◌, ◌≤◌, ◌⊎◌, ℕ, List, [], ◌∷◌, ◌++◌, Option, None}
+use Rattle.std.specs.Prelude.{◌≡◌, ◌<◌, ◌≤◌, ◌⊎◌, ℕ, List, [], ◌∷◌, ◌++◌, Option}
 use Rattle.asc_base.specs.declared.block.Entry.{Entry}
 use Rattle.asc_base.specs.declared.block.Line.{Line}
 use Rattle.asc_base.specs.declared.block.Message.{Message}
@@ -40,14 +40,14 @@ pub record WasFound (keys : Keys) (access : Access) (line : Line) (old new : Por
 
 module _ (keys : Keys) (levels : ℕ) (numbers : Numbers) (slots : List Slot) (pace : Pace) where
   -- The own slot of an access was cut, which starts before the time of the settings: before its block was put back, so
-  -- that any line will do; or after it, with the line that was found.
+  -- that any line will do; or after it, with the line that was found. Whatever would be appended behind it will do.
   abbrev pub IsOwnCut : Access → PortState → cut.Stop → PortState → Type 0
   IsOwnCut access old stop new =
       (asked_start old.clock.config numbers pace access < old.clock.config.time)
-      × (((line : Line)
-      → IsCut levels slots (asked_slots old.clock.config numbers pace access line None).slots stop new)
-      ⊎ ((line : Line) × WasFound keys access line old new
-      × IsCut levels slots (asked_slots old.clock.config numbers pace access line None).slots stop new))
+      × (((line : Line) (appended : Option Message)
+      → IsCut levels slots (asked_slots old.clock.config numbers pace access line appended).slots stop new)
+      ⊎ ((line : Line) × WasFound keys access line old new × ((appended : Option Message)
+      → IsCut levels slots (asked_slots old.clock.config numbers pace access line appended).slots stop new)))
 
   -- one of the dummies before an access was cut, or its own slot
   abbrev pub IsAccessCut : Access → PortState → cut.Stop → PortState → Type 0

@@ -4,7 +4,8 @@
 //! `specs/Taken.antt` has the slots that an answered access takes, `specs/InTurn.antt` those of accesses one after
 //! another, `specs/Shown.antt` what these show of a walk, `specs/Answered.antt` what an answered request comes to,
 //! `specs/Walked.antt` when accesses are a walk's, and `specs/Playing.antt` when an encrypted memory stands where a
-//! play stands between two requests. `specs/Stopped.antt` has what a stop leaves of the slots that would be taken.
+//! play stands between two requests. `specs/Stopped.antt` has what a stop leaves of the slots of an access, and
+//! `specs/StopsInTurn.antt` what it leaves of those of a request.
 //!
 //! The crate has laws alone; the calls do nothing.
 #![tactic(auto)]
@@ -17,4 +18,7 @@ pub use laws::{
     ports_keep_the_pace, requests_stand_as_plays, shown_accesses_are_walked,
     walked_accesses_take_play_slots,
 };
-pub use stops::{stopped_accesses_are_cut, stopped_requests_take_slots_in_turn};
+pub use stops::{
+    lines_found_before_stops_are_right, stopped_accesses_are_cut,
+    stopped_requests_take_slots_in_turn, stopped_walks_are_on_plays, stopped_walks_cut_plays,
+};

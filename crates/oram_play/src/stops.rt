@@ -1,20 +1,33 @@
 //! Laws of what a stop leaves of the slots of a play. The functions do nothing: each states laws in its contract.
 
-ghost use Rattle.std.specs.Prelude.{◌≡◌, ◌+◌, ℕ, List, [], ◌∷◌, ◌++◌, None, Err};
+ghost use Rattle.std.specs.Prelude.{◌≡◌, ◌<◌, ◌≤◌, ◌+◌, ◌⊎◌, ℕ, List, [], ◌∷◌, ◌++◌, None, Some, Err};
 ghost use Rattle.asc_base.specs.declared.block.Line.{Line};
 ghost use Rattle.asc_base.specs.declared.block.Message.{Message};
+ghost use Rattle.asc_base.specs.declared.settings.Config.{Config};
 ghost use Rattle.asc_base.specs.declared.stop.Stop.{Stop};
-ghost use Rattle.oram_contents.specs.Entries.{Keys};
+ghost use Rattle.data_cache.specs.Lines.{LineRequest};
+ghost use Rattle.oram_contents.specs.Counts.{Ghost, line_at};
+ghost use Rattle.oram_contents.specs.Entries.{Keys, AreKeys};
+ghost use Rattle.oram_contents.specs.Forgery.{Forgery};
+ghost use Rattle.oram_contents.specs.Slots.{MayRise};
 ghost use Rattle.oram_frontend.specs.Access.{SlotStep};
 ghost use Rattle.oram_frontend.specs.Oram.{OramState, OramStep, Fetch, Store, Wait};
 ghost use Rattle.oram_frontend.specs.Slots.{FitKeys};
-ghost use Rattle.oram_play.specs.Stopped.{AccessLeaves, AppendLeaves, WaitLeaves};
-ghost use Rattle.oram_play.specs.StopsInTurn.{StopsInTurn, ShowsWalkTo};
+ghost use Rattle.oram_play.specs.InTurn.{AnsweredAccess};
+ghost use Rattle.oram_play.specs.OnPlay.{IsOnPlay, FindsLine};
+ghost use Rattle.oram_play.specs.Playing.{LeavesOf};
+ghost use Rattle.oram_lines.specs.Standing.{IsKnown};
+ghost use Rattle.oram_play.specs.Stopped.{AccessLeaves, AppendLeaves, WaitLeaves, WasFound};
+ghost use Rattle.oram_play.specs.StopsInTurn.{StopsInTurn, StopsNext, IsOnWalk, IsStopped};
 ghost use Rattle.oram_play.specs.Taken.{HasTaken};
+ghost use Rattle.oram_play.specs.Walked.{put_for};
+ghost use Rattle.oram_walk.specs.Plans.{fetch_plan, store_plan};
 ghost use Rattle.oram_walk.specs.Request.{Slot as AccessSlot, Append};
 ghost use Rattle.oram_walk.specs.declared.slots.Access.{Access};
 ghost use Rattle.oram_walk.specs.declared.slots.Purpose.TheVariants.{Keep, Replace};
+ghost use Rattle.posmap_lookaside.specs.Walk.{IsHeldList, walk};
 ghost use Rattle.rate_enforcer.specs.PortStep.{PortState, Resting};
+ghost use Rattle.run_play.specs.Requests.{Standing, request_slots, requested, walk_sizes, data_line};
 ghost use Rattle.run_play.specs.Slots.{Pace, Numbers, Slot};
 
 /// An access that is stopped leaves a part of the slots that it would take: the log says the slots before the one that
@@ -39,17 +52,52 @@ pub fn stopped_accesses_are_cut()
 /// A fetch or a store that is stopped took slots access by access up to there, as an answered one does: then an access
 /// was stopped, which is asked for at the end of the last answered one, or an append behind it, or room was wanting. If
 /// each answered access had the line of a memory that shows the counters, they are the first of the walk, and what was
-/// stopped is the next access of it, or the append behind the last one.
+/// stopped is the next access of it, or the append behind the last one. The run can be noted answer by answer: where
+/// these are the lines of a memory, so are those of the accesses.
 pub fn stopped_requests_take_slots_in_turn()
     ensures fetch { (keys : Keys) (levels notes asked line : ℕ) (stop : Stop) (old new : OramState)
         (slots : List Slot) (pace : Pace) (numbers : Numbers) → FitKeys keys old.port → Resting notes levels old.port
         → old.stop ≡ None → HasTaken old.port slots pace → OramStep keys levels old (Fetch asked line) (Err stop) new
-        → (stops : StopsInTurn keys levels old.port.clock.config numbers asked slots pace stop new.port)
-        × ShowsWalkTo old.front line Keep stops.accesses stops.next }
+        → IsStopped keys levels numbers asked line Keep (fetch_plan old.front asked line) slots pace stop old new }
     ensures store { (keys : Keys) (levels notes asked line : ℕ) (value : Line) (stop : Stop) (old new : OramState)
         (slots : List Slot) (pace : Pace) (numbers : Numbers) → FitKeys keys old.port → Resting notes levels old.port
         → old.stop ≡ None → HasTaken old.port slots pace
         → OramStep keys levels old (Store asked line value) (Err stop) new
-        → (stops : StopsInTurn keys levels old.port.clock.config numbers asked slots pace stop new.port)
-        × ShowsWalkTo old.front line (Replace value) stops.accesses stops.next }
+        → IsStopped keys levels numbers asked line (Replace value) (store_plan old.front asked line value) slots pace
+        stop old new }
+{}
+
+/// Where a stopped request is on the walk of the play's request, up to lines that are forged, it leaves a cut of the
+/// play: a slot of it was stopped, or all its slots were taken before one that is too late.
+pub fn stopped_walks_cut_plays()
+    ensures { (keys : Keys) (levels : ℕ) (config : Config) (now : Standing) (request : LineRequest)
+        (slots : List Slot) (stop : Stop) (new : PortState) → now.late ≡ None
+        → (stops : StopsInTurn keys levels config now.numbers now.clock slots now.pace stop new)
+        → IsOnPlay keys config now request stops.accesses stops.mid new stops.next
+        → Forgery keys new.tap.log ⊎ LeavesOf levels slots (request_slots config now request) stop new }
+{}
+
+/// A line that was found in the slot of an access that stopped later is the block's, where this is known of the port
+/// before it, or the log shows a forgery.
+pub fn lines_found_before_stops_are_right()
+    ensures { (keys : Keys) → AreKeys keys → (g : Ghost) (access : Access) (line : Line) (old new : PortState)
+        → IsKnown keys g old → WasFound keys access line old new → g.pend ≡ Some access.address.0
+        → access.counter ≡ g.count access.address.0 → MayRise keys g access.address.0 access.next
+        → Forgery keys new.tap.log ⊎ (line.0 ≡ line_at keys.shape g access.address.0) }
+{}
+
+/// What was stopped on a request's walk over a memory with the data lines as last stored is on the walk of the play's
+/// request, where any other line than the walk's that was found in it is forged.
+pub fn stopped_walks_are_on_plays()
+    ensures { (config : Config) (now : Standing) (request : LineRequest) (lines : ℕ → Line)
+        → 1 ≤ config.shape.layers → IsHeldList (walk_sizes config) now.chip.held
+        → requested request < config.shape.lines
+        → ((a : ℕ) → a < config.shape.lines → (lines a).0 ≡ data_line now.data_lines a)
+        → (levels : ℕ) (numbers : Numbers) (asked : ℕ) (slots : List Slot) (pace : Pace) (stop : Stop) (keys : Keys)
+        (accesses : List AnsweredAccess) (old new : PortState)
+        (next : StopsNext keys levels numbers asked slots pace stop old new)
+        → let walked = (walk (walk_sizes config) now.chip (requested request)).accesses in
+        (on : IsOnWalk (walk_sizes config) lines (put_for request) walked accesses next)
+        → FindsLine keys (walk_sizes config) lines (put_for request) walked accesses old new next on
+        → IsOnPlay keys config now request accesses old new next }
 {}
