@@ -26,3 +26,4 @@ pub mod Stands
 pub mod StopNotes
 pub mod FoundInStops
 pub mod OnPlays
+pub mod StopsStand

@@ -85,22 +85,22 @@ same_sizes old now line after =
 module _ (keys : Keys) (lawful : AreKeys keys) (levels : ℕ) where
   module _ (config : Config) (slots : List Slot) (now : Standing) (old : OramState)
       (x : PlaysAs keys levels config slots now old) where
-    lines_are : old.front.shape.lines ≡ config.shape.lines
+    pub lines_are : old.front.shape.lines ≡ config.shape.lines
     lines_are = ap (λ (s : WalkSizes). s.lines) x.sizes
 
     layers_are : old.front.shape.layers ≡ config.shape.layers
     layers_are = ap (λ (s : WalkSizes). s.layers) x.sizes
 
-    keys_lines : config.shape.lines ≡ keys.shape.lines
+    pub keys_lines : config.shape.lines ≡ keys.shape.lines
     keys_lines = sym lines_are ∙ ap (λ (s : Shape). s.lines) x.stands.shown.shape
 
-    layered : 1 ≤ config.shape.layers
+    pub layered : 1 ≤ config.shape.layers
     layered =
         let facts : IsLayered old.front.shape = shape_layered old.front.shape x.shows.front.shape in
         omega (arith, facts.layers_from, layers_are)
 
     -- the data lines of the memory are those that were stored
-    data_lines : (a : ℕ) → a < config.shape.lines → (x.lines a).0 ≡ data_line now.data_lines a
+    pub data_lines : (a : ℕ) → a < config.shape.lines → (x.lines a).0 ≡ data_line now.data_lines a
     data_lines a below =
         let inside : a < keys.shape.lines = omega (arith, keys_lines) in
         let leaf = data_leaf keys lawful levels a inside in

@@ -7,3 +7,4 @@ pub mod Playing
 pub mod Stopped
 pub mod StopsInTurn
 pub mod OnPlay
+pub mod CutPlays

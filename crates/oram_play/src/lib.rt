@@ -19,6 +19,6 @@ pub use laws::{
     walked_accesses_take_play_slots,
 };
 pub use stops::{
-    lines_found_before_stops_are_right, stopped_accesses_are_cut,
+    lines_found_before_stops_are_right, stopped_accesses_are_cut, stopped_requests_cut_plays,
     stopped_requests_take_slots_in_turn, stopped_walks_are_on_plays, stopped_walks_cut_plays,
 };

@@ -15,7 +15,9 @@ ghost use Rattle.oram_frontend.specs.Oram.{OramState, OramStep, Fetch, Store, Wa
 ghost use Rattle.oram_frontend.specs.Slots.{FitKeys};
 ghost use Rattle.oram_play.specs.InTurn.{AnsweredAccess};
 ghost use Rattle.oram_play.specs.OnPlay.{IsOnPlay, FindsLine};
-ghost use Rattle.oram_play.specs.Playing.{LeavesOf};
+ghost use Rattle.oram_play.specs.CutPlays.{CutsPlay};
+ghost use Rattle.oram_play.specs.Playing.{PlaysAs, LeavesOf, called};
+ghost use Rattle.oram_lines.specs.Lines.{IsRequest};
 ghost use Rattle.oram_lines.specs.Standing.{IsKnown};
 ghost use Rattle.oram_play.specs.Stopped.{AccessLeaves, AppendLeaves, WaitLeaves, WasFound};
 ghost use Rattle.oram_play.specs.StopsInTurn.{StopsInTurn, StopsNext, IsOnWalk, IsStopped};
@@ -100,4 +102,15 @@ pub fn stopped_walks_are_on_plays()
         (on : IsOnWalk (walk_sizes config) lines (put_for request) walked accesses next)
         → FindsLine keys (walk_sizes config) lines (put_for request) walked accesses old new next on
         → IsOnPlay keys config now request accesses old new next }
+{}
+
+/// Where an encrypted memory stands where a play stands, a request that is stopped took slots along the walk of the
+/// play's request, or its log shows a forgery; and where any other line than the walk's that was found where it was
+/// stopped is forged, it leaves a cut of the play.
+pub fn stopped_requests_cut_plays()
+    ensures { (keys : Keys) → AreKeys keys → (levels : ℕ) (config : Config) (slots : List Slot) (now : Standing)
+        (old : OramState) → (x : PlaysAs keys levels config slots now old) → (stop : Stop) (new : OramState)
+        (request : LineRequest) → IsRequest config.shape.lines (called now.clock request) → old.stop ≡ None
+        → OramStep keys levels old (called now.clock request) (Err stop) new
+        → Forgery keys new.port.tap.log ⊎ CutsPlay keys levels config slots now request x.lines stop new.port }
 {}
