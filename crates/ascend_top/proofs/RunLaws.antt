@@ -4,6 +4,7 @@ use Rattle.std.proofs.Common.{◌<◌, ◌≤◌, ◌+◌, ◌^◌, ◌⊎◌, I
 use Rattle.std.specs.Prelude.{IfOk}
 use Rattle.std.specs.List.{count_by}
 use Rattle.asc_base.specs.Settings.{IsConfig}
+use Rattle.asc_base.specs.TreeShape.{olat_of}
 use Rattle.asc_base.specs.declared.settings.Config.{Config}
 use Rattle.asc_base.specs.declared.settings.Settings.{Settings}
 use Rattle.asc_base.specs.declared.stop.Evidence.{Evidence}
@@ -16,7 +17,7 @@ use Rattle.epoch_learner.specs.Stands.{KeepsPace}
 use Rattle.oram_contents.specs.Forgery.{Forgery}
 use Rattle.rate_enforcer.specs.Counts.{is_answered, is_dummy, is_real}
 use Rattle.secure_machine.specs.Finish.{IsRightEnding}
-use Rattle.secure_machine.specs.Run.{IsFlatReport, IsInBudget, IsTiedButLast, IsTiedOr, IsUnprepared}
+use Rattle.secure_machine.specs.Run.{DrawsLeaves, IsFlatReport, IsInBudget, IsTiedButLast, IsTiedOr, IsUnprepared}
 use Rattle.secure_machine.specs.declared.report.Ending.TheVariants.{Device, Integrity}
 use Rattle.secure_machine.specs.declared.report.Report.{Report as RunReport}
 use Rattle.elf_loader.specs.Elf.{entry_of}
@@ -115,6 +116,7 @@ pub wanting : (config : Config) (image : Image) (input key : List ℕ) (lent : L
 wanting config image input key lent report is = record {
   end = report.last;
   pace = is.pace;
+  leaves = is.leaves;
   bits = is.bits;
   tied = tied is.tied;
   faults = is.faults;
@@ -166,40 +168,44 @@ module _ (config : Config) (image : Image) (input key : List ℕ) (lent : Lent) 
     lent.tap'.log < 2 ^ config.leak) (faults : lent.memory.faults ≤ lent.memory'.faults)
     (budget : IsInBudget config lent.tap'.log)
     (asked : lent.memory'.moved ≡ lent.memory.moved + length lent.tap'.log.moves)
-    (unaltered : IsSome lent.memory.told → lent.tap'.log.altered ≡ []) where
-  pub ran_of : {E : Type 0} (result : Result RunReport E) → IfOk result (λ r. KeepsPace config r.last lent.tap'.log)
-      → IfOk result (λ r. r.real ≡ count_by is_real lent.tap'.log.events)
-      → IfOk result (λ r. r.dummies ≡ count_by is_dummy lent.tap'.log.events)
-      → IfOk result (λ r. IsTiedOr config (IsUnprepared r lent.tap lent.tap') lent.memory lent.memory' lent.tap')
-      → IfOk result (λ r. r.ending ≡ Device → Rose lent.memory.faults lent.memory'.faults)
-      → IfOk result (λ r. IsRightEnding config.budget config.time r.instructions r.cycles r.last r.ending)
-      → IfOk result (λ r. r.choices ≡ length (indices_of lent.tap'.log.events))
-      → IfOk result (λ r. r.code ≡ log_code (public_of config) lent.tap'.log)
-      → IfOk result (λ r. r.fetches ≡ count_by is_answered lent.tap'.log.events)
-      → (lent.tap'.log.altered ≡ [] → IfOk result (IsFlatReport config image input))
-      → (lent.tap'.log.altered ≡ [] → IfOk result (λ r. (evidence : Evidence) → r.ending ≡ Integrity evidence → ⊥))
-      → IfOk result (λ r. Forgery (keys_from config key) lent.tap'.log ⊎ IsFlatReport config image input r)
-      → IfOk result (IsRunOf config image input key lent)
-  ran_of (Err none) pace real dummies tied device right choices code fetches flat honest refines = tt
-  ran_of (Ok report) pace real dummies tied device right choices code fetches flat honest refines = record {
-    pace = pace;
-    bits = bits;
-    real = real;
-    dummies = dummies;
-    tied = tied;
-    faults = faults;
-    device = device;
-    right = right;
-    choices = choices;
-    code = code;
-    fetches = fetches;
-    budget = budget;
-    asked = asked;
-    unaltered = unaltered;
-    flat = flat;
-    honest = honest;
-    refines = refines;
-  }
+    (unaltered : IsSome lent.memory.told → lent.tap'.log.altered ≡ []) (leaves : DrawsLeaves config lent.tap'.log)
+  where
+    pub ran_of : {E : Type 0} (result : Result RunReport E) → IfOk result (λ r. KeepsPace config r.last lent.tap'.log)
+        → IfOk result (λ r. r.last < config.time + olat_of config.shape.levels)
+        → IfOk result (λ r. r.real ≡ count_by is_real lent.tap'.log.events)
+        → IfOk result (λ r. r.dummies ≡ count_by is_dummy lent.tap'.log.events)
+        → IfOk result (λ r. IsTiedOr config (IsUnprepared r lent.tap lent.tap') lent.memory lent.memory' lent.tap')
+        → IfOk result (λ r. r.ending ≡ Device → Rose lent.memory.faults lent.memory'.faults)
+        → IfOk result (λ r. IsRightEnding config.budget config.time r.instructions r.cycles r.last r.ending)
+        → IfOk result (λ r. r.choices ≡ length (indices_of lent.tap'.log.events))
+        → IfOk result (λ r. r.code ≡ log_code (public_of config) lent.tap'.log)
+        → IfOk result (λ r. r.fetches ≡ count_by is_answered lent.tap'.log.events)
+        → (lent.tap'.log.altered ≡ [] → IfOk result (IsFlatReport config image input))
+        → (lent.tap'.log.altered ≡ [] → IfOk result (λ r. (evidence : Evidence) → r.ending ≡ Integrity evidence → ⊥))
+        → IfOk result (λ r. Forgery (keys_from config key) lent.tap'.log ⊎ IsFlatReport config image input r)
+        → IfOk result (IsRunOf config image input key lent)
+    ran_of (Err none) pace in_time real dummies tied device right choices code fetches flat honest refines = tt
+    ran_of (Ok report) pace in_time real dummies tied device right choices code fetches flat honest refines = record {
+      pace = pace;
+      in_time = in_time;
+      leaves = leaves;
+      bits = bits;
+      real = real;
+      dummies = dummies;
+      tied = tied;
+      faults = faults;
+      device = device;
+      right = right;
+      choices = choices;
+      code = code;
+      fetches = fetches;
+      budget = budget;
+      asked = asked;
+      unaltered = unaltered;
+      flat = flat;
+      honest = honest;
+      refines = refines;
+    }
 
 -- Where the steps of `run` or `gen` before its run were done, and it began so, its run and the steps after it end its
 -- work.

@@ -1,4 +1,5 @@
--- The trace of a log that is scheduled by a configuration is in the ranges of traces, where its end and its leaves are.
+-- The trace of a log that is scheduled by a configuration is in the ranges of traces, where its end is less than a slot's
+-- cycles after the time of the settings, and its leaves are those of the tree.
 use Rattle.std.proofs.Common.{◌≡◌, ℕ, zero, suc, ◌+◌, ◌*◌, ◌^◌, ◌<◌, ◌≤◌, Bool, true, false, cond, List, [], ◌∷◌, ◌++◌}
 use Rattle.std.proofs.Common.{get_or, length, take, map, refl, sym, ap, subst, ◌∙◌, arith}
 use Rattle.std.specs.Prelude.{◌&&◌, nat_lt, zip, fold, max, All, IsTrue}
@@ -27,7 +28,7 @@ use Rattle.bus_trace.specs.OfLog.{seen_of, seen_in, trace_of}
 use Rattle.bus_trace.specs.declared.trace.Seen.{Seen}
 use Rattle.trace_checker.specs.Checker.{moves_by, shown, slot_by}
 use Rattle.trace_checker.proofs.OfLog.{scheduled_fits}
-use Rattle.ascend_top.specs.Parts.{draws_below}
+use Rattle.secure_machine.specs.Run.{DrawsLeaves}
 
 -- the header of a configuration
 module _ (config : Config) (is : IsConfig config) where
@@ -119,11 +120,12 @@ early_starts p code end =
     (to_each _ _ (filter_passes (λ start. nat_lt start end) (starts_up_to p code (slots_within p end))))
 
 pub ranges_are : (config : Config) (log : LogLists) (end : ℕ) → IsConfig config
-    → IsScheduled (public_of config) end log → end ≤ 536870912
-    → All (λ leaf. leaf < 2 ^ config.shape.levels) (leaves_of log.events)
-    → IsTrace (trace_of (public_of config) log end)
-ranges_are config log end is scheduled short below =
+    → IsScheduled (public_of config) end log → end < config.time + olat_of config.shape.levels
+    → DrawsLeaves config log → IsTrace (trace_of (public_of config) log end)
+ranges_are config log end is scheduled in_time below =
     let p = public_of config in
+    let few = (shape_layered config.shape is.is_shape).levels_to in
+    let short : end ≤ 536870912 = omega (arith, in_time, is.time.1, few) in
     let code = log_code p log in
     let fits = scheduled_fits p end log scheduled in
     record {
@@ -140,55 +142,6 @@ ranges_are config log end is scheduled short below =
 pub drawn_are : (p : Public) (log : LogLists) (end : ℕ) → IsScheduled p end log
     → length (starts_of log.events) ≤ length (leaves_of log.events)
 drawn_are p log end scheduled = omega (arith, ap length scheduled.starts, scheduled.leaves)
-
--- the leaves of events are in a range where those of each are
-each_append : (P : ℕ → Type 0) (xs ys : List ℕ) → AllByRecursion P xs → AllByRecursion P ys
-    → AllByRecursion P (xs ++ ys)
-each_append P [] ys ax ay = ay
-each_append P (x ∷ xs) ys ax ay = (ax.0, each_append P xs ys ax.1 ay)
-
-leaves_each : (P : ℕ → Type 0) (events : List Event) → AllByRecursion (λ event. All P (leaf_of event)) events
-    → AllByRecursion P (leaves_of events)
-leaves_each P [] all = tt
-leaves_each P (event ∷ events) all =
-    each_append P (leaf_of event) (leaves_of events) (to_each P (leaf_of event) all.0) (leaves_each P events all.1)
-
--- the leaves of events that all draw below a bound
-drawn_below : (levels : ℕ) (event : Event) → draws_below levels event ≡ true
-    → All (λ leaf. leaf < 2 ^ levels) (leaf_of event)
-drawn_below levels (Access start asked) is k d inside = absurd (omega arith)
-drawn_below levels (Drawn point leaf) is k d inside =
-    to_first k d inside (below_end leaf.0 (2 ^ levels) is)
-  where
-    to_first : (k d : ℕ) → k < 1 → leaf.0 < 2 ^ levels → get_or (leaf.0 ∷ []) k d < 2 ^ levels
-    to_first zero d few below = below
-    to_first (suc k) d few below = absurd (omega arith)
-drawn_below levels (Tagged message) is k d inside = absurd (omega arith)
-drawn_below levels (Accepted message tag) is k d inside = absurd (omega arith)
-drawn_below levels (Chosen index) is k d inside = absurd (omega arith)
-drawn_below levels (Answered line value) is k d inside = absurd (omega arith)
-
-both_true : (a b : Bool) → (a && b) ≡ true → (a ≡ true) × (b ≡ true)
-both_true true true e = (refl, refl)
-both_true true false e = absurd (let no : ⊥ = cc in no)
-both_true false b e = absurd (let no : ⊥ = cc in no)
-
-all_drawn : (levels : ℕ) (events : List Event) → list_all (draws_below levels) events ≡ true
-    → AllByRecursion (λ event. All (λ leaf. leaf < 2 ^ levels) (leaf_of event)) events
-all_drawn levels [] e = tt
-all_drawn levels (event ∷ events) e =
-    let both = both_true (draws_below levels event) (list_all (draws_below levels) events) e in
-    (drawn_below levels event both.0, all_drawn levels events both.1)
-
-is_true : (b : Bool) → IsTrue b → b ≡ true
-is_true true h = refl
-is_true false h = absurd (let no : ⊥ = cc in no)
-
-pub leaves_below : (levels : ℕ) (events : List Event) → IsTrue (list_all (draws_below levels) events)
-    → All (λ leaf. leaf < 2 ^ levels) (leaves_of events)
-leaves_below levels events e =
-    of_each (λ leaf. leaf < 2 ^ levels) (leaves_of events)
-    (leaves_each (λ leaf. leaf < 2 ^ levels) events (all_drawn levels events (is_true _ e)))
 
 pub levels_few : (config : Config) → IsConfig config → (1 ≤ config.shape.levels) × (config.shape.levels ≤ 20)
 levels_few config is = (header_is config is).levels

@@ -1,6 +1,7 @@
 -- What a run over encrypted memory leaves of the memory and the tap that it was lent.
 use Rattle.std.specs.Prelude.{◌≡◌, ◌<◌, ◌≤◌, ◌+◌, ◌^◌, ◌⊎◌, ℕ, List, [], IsSome, length}
 use Rattle.std.specs.List.{count_by}
+use Rattle.asc_base.specs.TreeShape.{olat_of}
 use Rattle.asc_base.specs.declared.settings.Config.{Config}
 use Rattle.asc_base.specs.declared.stop.Evidence.{Evidence}
 use Rattle.asc_outside.specs.Memory.{MemoryState}
@@ -19,7 +20,8 @@ use Rattle.pmmac_tags.specs.Tag.{tag_key}
 use Rattle.rate_enforcer.specs.Counts.{is_answered, is_dummy, is_real}
 use Rattle.secure_machine.specs.Finish.{IsRightEnding}
 use Rattle.secure_machine.specs.LastMove.{EndsWithMove}
-use Rattle.secure_machine.specs.Run.{IsFlatReport, IsInBudget, IsTiedButLast, IsTiedOr, IsUnprepared, chip_keys}
+use Rattle.secure_machine.specs.Run.{DrawsLeaves, IsFlatReport, IsInBudget, IsTiedButLast, IsTiedOr, IsUnprepared}
+use Rattle.secure_machine.specs.Run.{chip_keys}
 use Rattle.secure_machine.specs.declared.report.Ending.TheVariants.{Device, Integrity}
 use Rattle.secure_machine.specs.declared.report.Report.{Report}
 
@@ -44,13 +46,16 @@ keys_from config master =
     chip_keys config (pad_key master) (tag_key master) (leaf (leaf_key master) config.shape.levels)
 
 -- A run of a program over its input, with the keys of a master key, leaves this of memory and tap, and is reported so.
--- It refines the flat run, or its log shows a forgery. Its log keeps the pace up to the reported end, and its choices
--- tell no more bits than the settings allow; slots, choices, their code and answered lines are as reported; it is tied
--- to what the memory was asked, and over a memory that told its buckets no reply was altered; where none was, the report
--- is the flat run's, and the run doesn't end by evidence; a failure has its cause; and the ending is right.
+-- It refines the flat run, or its log shows a forgery. Its log keeps the pace up to the reported end, which comes less
+-- than a slot's cycles after the time of the settings, and draws leaves of the tree; its choices tell no more bits than
+-- the settings allow; slots, choices, their code and answered lines are as reported; it is tied to what the memory was
+-- asked, and over a memory that told its buckets no reply was altered; where none was, the report is the flat run's, and
+-- the run doesn't end by evidence; a failure has its cause; and the ending is right.
 pub record IsRunOf (config : Config) (image : Image) (input key : List ℕ) (lent : Lent) (report : Report)
     : Type 0 where
   pub pace : KeepsPace config report.last lent.tap'.log
+  pub in_time : report.last < config.time + olat_of config.shape.levels
+  pub leaves : DrawsLeaves config lent.tap'.log
   pub bits : log_code (public_of config) lent.tap'.log < 2 ^ config.leak
   pub real : report.real ≡ count_by is_real lent.tap'.log.events
   pub dummies : report.dummies ≡ count_by is_dummy lent.tap'.log.events
@@ -73,6 +78,7 @@ pub record IsRunOf (config : Config) (image : Image) (input key : List ℕ) (len
 pub record IsWantOf (config : Config) (image : Image) (input key : List ℕ) (lent : Lent) : Type 0 where
   pub end : ℕ
   pub pace : KeepsPace config end lent.tap'.log
+  pub leaves : DrawsLeaves config lent.tap'.log
   pub bits : log_code (public_of config) lent.tap'.log < 2 ^ config.leak
   pub tied : IsTiedButLast config lent.memory lent.memory' lent.tap lent.tap'
   pub faults : lent.memory.faults ≤ lent.memory'.faults

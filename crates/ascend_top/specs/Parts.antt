@@ -1,5 +1,5 @@
 -- What the parts of a command say.
-use Rattle.std.specs.Prelude.{◌≡◌, ◌⊎◌, ℕ, ◌^◌, ◌≤◌, nat_lt, Bool, true}
+use Rattle.std.specs.Prelude.{◌≡◌, ◌⊎◌, ℕ, ◌≤◌}
 use Rattle.std.specs.Prelude.{List, [], ◌∷◌, length, Some, IfSome, Result, Ok, Err}
 use Rattle.asc_base.specs.Memory.{IsMemory}
 use Rattle.asc_base.specs.Settings.{AreAllowed, IsConfig, config_of}
@@ -9,8 +9,6 @@ use Rattle.asc_outside.specs.Host.{HostState, Files, Reads as ReadsFile}
 use Rattle.asc_outside.specs.declared.host.HostFault.{HostFault}
 use Rattle.asc_outside.specs.declared.host.HostFault.TheVariants.{Failed, TooLong as TooLongFile}
 use Rattle.asc_outside.specs.declared.host.HostFault.TheVariants.{NoMemory as OutOfMemory}
-use Rattle.bus_watch.specs.declared.log.Event.{Event}
-use Rattle.bus_watch.specs.declared.log.Event.TheVariants.{Access, Drawn, Tagged, Accepted, Chosen, Answered}
 use Rattle.elf_loader.specs.Elf.{entry_of}
 use Rattle.elf_loader.specs.Layout.{image_bytes, first_break, marked_lines}
 use Rattle.elf_loader.specs.Memory.{IsImage}
@@ -75,15 +73,6 @@ pub record CanRun (program : Program) : Type 0 where
 pub record IsProgramOf (given : List Pair) (files : Files) (program : Program) : Type 0 where
   pub image : IsImageOf program.config.base program.config.size (bytes_in files (file_in given Elf)) program.image
   pub input : program.input.items ≡ input_in files given
-
--- an event draws no leaf, or one of a tree of so many levels
-abbrev pub draws_below : ℕ → Event → Bool
-draws_below levels (Access start asked) = true
-draws_below levels (Drawn point leaf) = nat_lt leaf.0 (2 ^ levels)
-draws_below levels (Tagged message) = true
-draws_below levels (Accepted message tag) = true
-draws_below levels (Chosen index) = true
-draws_below levels (Answered line value) = true
 
 -- the report of a program's flat run
 abbrev pub program_report : Program → Report

@@ -33,7 +33,7 @@ returns-clause-ran g c =
     subst (λ (input : List ℕ). IfOk c.run.result (IsRunOf program.config program.image input key lent))
     c.as_slice.ensures.value
     (ran_of program.config program.image c.as_slice.result.now key lent c.run.ensures.bits c.run.ensures.faults
-    c.run.ensures.budget c.run.ensures.asked c.run.ensures.unaltered c.run.result c.run.ensures.pace
+    c.run.ensures.budget c.run.ensures.asked c.run.ensures.unaltered c.run.ensures.leaves c.run.result c.run.ensures.pace c.run.ensures.last
     c.run.ensures.real c.run.ensures.dummies c.run.ensures.tied c.run.ensures.device c.run.ensures.right
     c.run.ensures.choices c.run.ensures.code c.run.ensures.fetches c.run.ensures.flat_unaltered c.run.ensures.honest
     (IfOk-weaker c.run.result _ _ (λ report known. elim known [
