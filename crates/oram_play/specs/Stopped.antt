@@ -49,6 +49,14 @@ module _ (keys : Keys) (levels : ℕ) (numbers : Numbers) (slots : List Slot) (p
       ⊎ ((line : Line) × WasFound keys access line old new × ((appended : Option Message)
       → IsCut levels slots (asked_slots old.clock.config numbers pace access line appended).slots stop new)))
 
+  -- one of the dummies before an access was cut, or its own slot before its block was put back
+  abbrev pub IsReadCut : Access → PortState → cut.Stop → PortState → Type 0
+  IsReadCut access old stop new =
+      IsCut levels slots (before_asked old.clock.config numbers pace access).slots stop new
+      ⊎ ((asked_start old.clock.config numbers pace access < old.clock.config.time)
+      × ((line : Line) (appended : Option Message)
+      → IsCut levels slots (asked_slots old.clock.config numbers pace access line appended).slots stop new))
+
   -- one of the dummies before an access was cut, or its own slot
   abbrev pub IsAccessCut : Access → PortState → cut.Stop → PortState → Type 0
   IsAccessCut access old stop new =
@@ -59,7 +67,7 @@ module _ (keys : Keys) (levels : ℕ) (numbers : Numbers) (slots : List Slot) (p
   -- and its writes; a move of one fails; or all dummies are taken, behind which no slot starts before the time of the
   -- settings. Of want of memory nothing is said.
   abbrev pub AccessLeaves : Access → PortState → Stop → PortState → Type 0
-  AccessLeaves access old (Integrity evidence) new = IsAccessCut access old (Refused evidence) new
+  AccessLeaves access old (Integrity evidence) new = IsReadCut access old (Refused evidence) new
   AccessLeaves access old (StashFull held) new = IsAccessCut access old (Overfull held) new
   AccessLeaves access old (TimeUp at) new =
       let before = before_asked old.clock.config numbers pace access in
