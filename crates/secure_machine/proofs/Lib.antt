@@ -12,3 +12,5 @@ pub mod LastMoves
 pub mod ReportLaws
 pub mod Refining
 pub mod FlatLaws
+pub mod Playing
+pub mod PlayedLaws

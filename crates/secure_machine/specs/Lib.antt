@@ -6,3 +6,4 @@ pub mod Run
 pub mod Refines
 pub mod FlatEnds
 pub mod LastMove
+pub mod Plays

@@ -4,6 +4,7 @@ use Rattle.secure_machine.specs.Refines.{Knows}
 use Rattle.secure_machine.proofs.Refining.{stop_forged, stop_unblamed, line_known, lines_in, spent_is, ForgedBy, StandBy}
 use Rattle.data_cache.specs.Contents.{write_line_plan}
 use Rattle.secure_machine.proofs.LineChains.{chain_goes, chain_breaks, spent_on}
+use Rattle.secure_machine.proofs.Playing.{line_in_play, line_stopped}
 use Rattle.secure_machine.proofs.machine.load_line.Goals as goal
 
 pub returns-in-Err-clause-breaks : goal.returns-in-Err-clause-breaks
@@ -48,3 +49,24 @@ returns-in-Err-clause-honest g c memory lawful known =
     stop_unblamed g.M.UntrustedMemory.state g.W.Watch.state g.L.LeafFn.leaf_of g.L.LeafFn.levels
     (write_line_plan c.args.cache.now c.args.line c.line_of.result) c.args.lines.now c.write_line.new.store
     c.in-Err.stop c.write_line.new.self c.args.cache.now memory lawful c.requires.ready known c.in-Err.ensures.err
+
+pub returns-in-Err-clause-plays : goal.returns-in-Err-clause-plays
+returns-in-Err-clause-plays g c config whole machine marked limit lawful calls far small known =
+    line_stopped g.M.UntrustedMemory.state g.W.Watch.state g.L.LeafFn.leaf_of g.L.LeafFn.levels config whole
+    limit c.args.line c.args.image.now.bytes.items machine marked c.line_of.result c.args.cache.now
+    c.write_line.new.self c.args.lines.now c.write_line.new.store c.in-Err.stop lawful calls c.requires.ready
+    c.requires.line c.line_of.ensures.whole known c.in-Err.ensures.err
+
+pub returns-clause-plays : goal.returns-clause-plays
+returns-clause-plays g c config whole machine marked limit lawful calls far small known =
+    line_in_play g.M.UntrustedMemory.state g.W.Watch.state g.L.LeafFn.leaf_of g.L.LeafFn.levels config whole
+    limit c.args.line c.args.image.now.bytes.items machine marked c.line_of.result c.args.cache.now
+    c.write_line.new.self c.args.lines.now c.write_line.new.store c.spend.new.self lawful calls c.requires.ready
+    c.requires.line c.line_of.ensures.whole c.line_of.ensures.bytes far small known c.in-Ok.ensures.ok (record {
+      same = c.spend.ensures.same;
+      memory = c.spend.ensures.memory;
+      tap = c.spend.ensures.tap;
+      oram = c.spend.ensures.oram;
+      fetches = c.spend.ensures.fetches;
+      clock = c.spend.ensures.spent;
+    })

@@ -8,6 +8,12 @@ use Rattle.secure_machine.specs.declared.machine.Halted.{Halted}
 use Rattle.secure_machine.proofs.FlatLaws.{reaches_none, reaches_more, halts_run}
 use Rattle.secure_machine.proofs.LineChains.{onwards_then, halts_later}
 use Rattle.secure_machine.proofs.Refining.{keys_same}
+use Rattle.std.proofs.Common.{ℕ, suc, ◌+◌, ◌-◌}
+use Rattle.play_run.specs.Given.{CallsPlay}
+use Rattle.secure_machine.specs.Plays.{HaltsInPlay, CauseInPlay, InRun}
+use Rattle.secure_machine.specs.declared.machine.Cause.TheVariants.{Ends as EndsBy}
+use Rattle.secure_machine.specs.declared.report.Ending.TheVariants.{Budget}
+use Rattle.secure_machine.proofs.Playing.{at_same, none_left}
 use Rattle.secure_machine.proofs.machine.play.Goals as goal
 
 pub returns-in-Err-instruction : goal.returns-in-Err-instruction
@@ -41,6 +47,17 @@ returns-in-Err-instruction g c =
             | inr (now, reaches, stands) ↦ c.in-Err-instruction.ensures.honest now lawful_now
                 (c.loop-before.invariant.core core) (inr stands)
           ];
+      plays = λ config whole lawful calls is_config core budget known.
+          let lawful_now = subst AreKeys (sym (keys_same g.M.UntrustedMemory.state g.W.Watch.state g.L.LeafFn.leaf_of
+          g.L.LeafFn.levels c.args.lines.now c.loop-before.lines c.loop-before.invariant.onwards.same)) lawful in
+          let calls_now = at_same g.M.UntrustedMemory.state g.W.Watch.state g.L.LeafFn.leaf_of g.L.LeafFn.levels
+          (λ z n. CallsPlay z n config) c.args.lines.now c.loop-before.lines c.loop-before.invariant.onwards.same calls
+          in
+          let left : ℕ = c.args.budget - c.loop-before.before - 1 in
+          let sum : c.loop-before.before + suc left ≡ c.args.budget = omega (arith, c.loop-before-test.true) in
+          c.in-Err-instruction.ensures.plays config whole left lawful_now calls_now is_config
+          (c.loop-before.invariant.core core)
+          (c.loop-before.invariant.plays config whole (suc left) lawful calls is_config core budget known sum);
     }
 
 pub loop-before-preserved : goal.loop-before-preserved
@@ -73,6 +90,16 @@ loop-before-preserved g c =
                   )
                 ]
           ];
+      plays = λ config whole left lawful calls is_config core budget known sum.
+          let lawful_now = subst AreKeys (sym (keys_same g.M.UntrustedMemory.state g.W.Watch.state g.L.LeafFn.leaf_of
+          g.L.LeafFn.levels c.args.lines.now c.loop-before.lines c.loop-before.invariant.onwards.same)) lawful in
+          let calls_now = at_same g.M.UntrustedMemory.state g.W.Watch.state g.L.LeafFn.leaf_of g.L.LeafFn.levels
+          (λ z n. CallsPlay z n config) c.args.lines.now c.loop-before.lines c.loop-before.invariant.onwards.same calls
+          in
+          let before : c.loop-before.before + suc left ≡ c.args.budget = omega (arith, sum) in
+          c.in-Ok-instruction.ensures.plays config whole left lawful_now calls_now is_config
+          (c.loop-before.invariant.core core)
+          (c.loop-before.invariant.plays config whole (suc left) lawful calls is_config core budget known before);
     }
 
 pub returns-in-Err-clause-refines : goal.returns-in-Err-clause-refines
@@ -97,6 +124,12 @@ loop-before-init g c =
             | inl forged ↦ inl forged
             | inr stands ↦ inr (bytes, reaches_none machine bytes, stands)
           ];
+      plays = λ config whole left lawful calls is_config core budget known sum.
+          let e : config.budget ≡ left = omega (arith, sum, budget) in
+          subst (λ n. InRun g.M.UntrustedMemory.state g.W.Watch.state g.L.LeafFn.leaf_of g.L.LeafFn.levels config whole
+          0 n
+          machine c.load.new.cache c.load.new.lines) e
+          (c.in-Ok.ensures.plays config whole machine lawful calls is_config known);
     }
 
 pub returns-clause-refines : goal.returns-clause-refines
@@ -125,3 +158,22 @@ returns-clause-honest g c memory lawful core known =
       | inl forged ↦ (c.loop-before.cache, memory, inl forged)
       | inr (now, reaches, stands) ↦ (c.loop-before.cache, now, inr stands)
     ])
+
+pub returns-in-Err-clause-plays : goal.returns-in-Err-clause-plays
+returns-in-Err-clause-plays g c config whole lawful calls is_config core budget known =
+    c.in-Err.ensures.plays config whole (machine_of c.args.core.now c.args.files.now) lawful calls is_config known
+
+pub returns-clause-plays : goal.returns-clause-plays
+returns-clause-plays g c config whole lawful calls is_config core budget known =
+    let e : c.args.budget ≡ c.loop-before.before =
+    omega (arith, c.loop-before-test.false, c.loop-before.auto.before-end) in
+    let sum : c.loop-before.before + 0 ≡ c.args.budget = omega (arith, e) in
+    let next = machine_of c.loop-before.core c.loop-before.files in
+    subst (λ (h : Halted). HaltsInPlay g.M.UntrustedMemory.state g.W.Watch.state g.L.LeafFn.leaf_of g.L.LeafFn.levels
+    config whole h c.loop-before.lines) (sym c.ended.ensures)
+    (subst (λ n. CauseInPlay g.M.UntrustedMemory.state g.W.Watch.state g.L.LeafFn.leaf_of g.L.LeafFn.levels config whole
+    n
+    c.loop-before.lines.clock (EndsBy Budget c.min.result) c.loop-before.lines) (sym e)
+    (none_left g.M.UntrustedMemory.state g.W.Watch.state g.L.LeafFn.leaf_of g.L.LeafFn.levels config whole
+    c.loop-before.before next c.loop-before.cache c.loop-before.lines c.min.result c.time.result c.time.ensures
+    c.min.ensures (c.loop-before.invariant.plays config whole 0 lawful calls is_config core budget known sum)))

@@ -8,6 +8,7 @@ use Rattle.rv32_core.specs.declared.outcome.Done.{Done}
 use Rattle.rv32_core.specs.StepPlan.{machine_of, step_plan}
 use Rattle.data_cache.specs.Cached.{cache_access}
 use Rattle.secure_machine.proofs.LineChains.{LinesStep, chain_goes, chain_breaks, spent_on}
+use Rattle.secure_machine.proofs.Playing.{instruction_in_play, instruction_stopped}
 use Rattle.secure_machine.proofs.machine.step.Goals as goal
 
 pub returns-in-Err-clause-breaks : goal.returns-in-Err-clause-breaks
@@ -88,3 +89,26 @@ returns-in-Err-clause-honest g c memory lawful known =
     c.args.cache.now) c.args.lines.now c.step_cached.new.store c.in-Err.stop
     (c.step_cached.new.cache, machine_of c.step_cached.new.core c.step_cached.new.files) c.args.cache.now memory lawful
     c.requires.ready known c.in-Err.ensures.err
+
+pub returns-in-Err-clause-plays : goal.returns-in-Err-clause-plays
+returns-in-Err-clause-plays g c config whole before left lawful calls is_config core early known =
+    instruction_stopped g.M.UntrustedMemory.state g.W.Watch.state g.L.LeafFn.leaf_of g.L.LeafFn.levels config
+    whole before left (machine_of c.args.core.now c.args.files.now) c.args.cache.now c.args.lines.now
+    c.step_cached.new.store c.in-Err.stop
+    (c.step_cached.new.cache, machine_of c.step_cached.new.core c.step_cached.new.files) lawful calls c.requires.ready
+    core c.requires.size early known c.in-Err.ensures.err
+
+pub returns-clause-plays : goal.returns-clause-plays
+returns-clause-plays g c config whole before left lawful calls is_config core early known =
+    instruction_in_play g.M.UntrustedMemory.state g.W.Watch.state g.L.LeafFn.leaf_of g.L.LeafFn.levels config
+    whole before left (machine_of c.args.core.now c.args.files.now) c.args.cache.now c.step_cached.new.cache
+    (machine_of c.step_cached.new.core c.step_cached.new.files, c.in-Ok.done) c.args.lines.now
+    c.step_cached.new.store c.spend.new.self lawful calls is_config c.requires.ready core c.requires.size early known
+    c.in-Ok.ensures.ok (record {
+      same = c.spend.ensures.same;
+      memory = c.spend.ensures.memory;
+      tap = c.spend.ensures.tap;
+      oram = c.spend.ensures.oram;
+      fetches = c.spend.ensures.fetches;
+      clock = c.spend.ensures.spent;
+    })
