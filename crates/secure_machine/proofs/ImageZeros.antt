@@ -56,6 +56,10 @@ module _ (base count : ℕ) (image : Image) (is : IsImage base (64 * count) imag
         contains)))))
   ]
 
+  pub image_zeros : (n : ℕ) → n < count → Has n image.marked.items ⊎ (line_in image.bytes.items n ≡ replicate 64 0)
+  unfolding zero_line
+  image_zeros n below = marked_or_zeros n below
+
   -- the marked lines, written whole into zeros, make the image
   pub loaded_image : loaded image.bytes.items image.marked.items (replicate (64 * count) 0) ≡ image.bytes.items
   loaded_image = loaded_is image.bytes.items count long image.marked.items inside marked_or_zeros

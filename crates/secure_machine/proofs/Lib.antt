@@ -15,3 +15,5 @@ pub mod FlatLaws
 pub mod FedLaws
 pub mod FedChains
 pub mod FedReports
+pub mod Playing
+pub mod PlayedLaws

@@ -8,3 +8,4 @@ pub mod FlatEnds
 pub mod LastMove
 pub mod Answered
 pub mod Fed
+pub mod Plays

@@ -48,6 +48,9 @@ ghost use Rattle.rate_enforcer.specs.Served.{keys_of};
 ghost use Rattle.rate_enforcer.specs.Counts.{IsCounted, is_dummy, is_real, is_answered};
 ghost use Rattle.secure_machine.specs.Answered.{answered_lines};
 ghost use Rattle.secure_machine.specs.Fed.{IsFed};
+ghost use Rattle.play_run.specs.Given.{CallsPlay};
+ghost use Rattle.play_run.specs.Shows.{IsPlayed};
+ghost use Rattle.secure_machine.specs.Plays.{play_report, play_with};
 ghost use Rattle.secure_machine.specs.Finish.{IsRightEnding};
 ghost use Rattle.secure_machine.specs.Run.{Reported, Wanting, IsFlatReport, IsUnprepared, IsTiedOr, IsTiedButLast, chip_keys, start_of, IsInBudget, DrawsLeaves};
 ghost use Rattle.secure_machine.specs.LastMove.{EndsWithMove};
@@ -189,6 +192,13 @@ fn run_prepared<M: UntrustedMemory, W: Watch, L: LeafFn>(
         → IfOk result (λ report. (evidence : Evidence) → report.ending ≡ Ending.Integrity evidence → ⊥) }
     ensures fed { IfOk result (λ report.
         IsFed config.now image.now files.input report (answered_lines (W.state bus.new.tap.now).log.events)) }
+    ensures plays { AreKeys (keys_of oram.port.tree oram.tagger (L.leaf_of oram.port.leaves))
+        → CallsPlay (keys_of oram.port.tree oram.tagger (L.leaf_of oram.port.leaves)) (L.levels oram.port.leaves)
+        config.now
+        → IfOk result (λ report.
+        Forgery (keys_of oram.port.tree oram.tagger (L.leaf_of oram.port.leaves)) (W.state bus.new.tap.now).log
+        ⊎ IsPlayed config.now (play_with config.now image.now files.input) (play_report report)
+        (W.state bus.new.tap.now).log) }
     ensures reported { IfOk result (λ report. Reported config.now report (M.state bus.old.memory.now)
         (M.state bus.new.memory.now) (W.state bus.old.tap.now) (W.state bus.new.tap.now)) }
     ensures wanting { OnErr result (Wanting config.now (M.state bus.old.memory.now)
@@ -268,8 +278,23 @@ pub fn run<M: UntrustedMemory, W: Watch, L: LeafFn>(
     ensures refines { IfOk result (λ report.
         Forgery (chip_keys config.now codec tagger (L.leaf_of leaf)) (W.state bus.new.tap.now).log
         ⊎ IsFlatReport config.now image.now input.now report) }
+    ensures plays { CallsPlay (chip_keys config.now codec tagger (L.leaf_of leaf)) config.now.shape.levels config.now
+        → IfOk result (λ report.
+        Forgery (chip_keys config.now codec tagger (L.leaf_of leaf)) (W.state bus.new.tap.now).log
+        ⊎ IsPlayed config.now (play_with config.now image.now input.now) (play_report report)
+        (W.state bus.new.tap.now).log) }
     ensures flat_unaltered { (W.state bus.new.tap.now).log.altered ≡ []
         → IfOk result (IsFlatReport config.now image.now input.now) }
+    ensures plays_unaltered { CallsPlay (chip_keys config.now codec tagger (L.leaf_of leaf)) config.now.shape.levels
+        config.now
+        → (W.state bus.new.tap.now).log.altered ≡ []
+        → IfOk result (λ report. IsPlayed config.now (play_with config.now image.now input.now) (play_report report)
+        (W.state bus.new.tap.now).log) }
+    ensures plays_told { CallsPlay (chip_keys config.now codec tagger (L.leaf_of leaf)) config.now.shape.levels
+        config.now
+        → IsSome (M.state bus.old.memory.now).told
+        → IfOk result (λ report. IsPlayed config.now (play_with config.now image.now input.now) (play_report report)
+        (W.state bus.new.tap.now).log) }
     ensures honest { (W.state bus.new.tap.now).log.altered ≡ []
         → IfOk result (λ report. (evidence : Evidence) → report.ending ≡ Ending.Integrity evidence → ⊥) }
     ensures fed { IfOk result (λ report.

@@ -1,8 +1,16 @@
 //! The run's parts: image lines, instructions, and the end.
 
-ghost use Rattle.std.specs.Prelude.{◌⊎◌, List, [], ◌++◌};
+ghost use Rattle.std.specs.Prelude.{◌⊎◌, List, [], ◌++◌, ◌∷◌, suc, ◌+◌, ◌≤◌, ◌^◌};
 ghost use Rattle.data_cache.specs.CacheLists.{Sets, Lines, line_in, sets_after};
 ghost use Rattle.data_cache.specs.Cached.{StandsAs};
+ghost use Rattle.asc_base.specs.Settings.{IsConfig};
+ghost use Rattle.asc_base.specs.TreeShape.{olat_of};
+ghost use Rattle.asc_base.specs.declared.settings.Config.{Config};
+ghost use Rattle.play_run.specs.Given.{CallsPlay};
+ghost use Rattle.play_run.specs.Shows.{RunShows};
+ghost use Rattle.play_run.specs.Stands.{numbers_of, StandsInImage};
+ghost use Rattle.run_play.specs.Play.{Play};
+ghost use Rattle.secure_machine.specs.Plays.{CallsInPlay, InImage, InRun, LeavesInPlay, StoppedInPlay, HaltsInPlay, EndedInPlay, play_ending};
 ghost use Rattle.encrypted_run.specs.Refined.{Computes, loaded};
 ghost use Rattle.fed_run.specs.Answered.{feed_of};
 ghost use Rattle.fed_run.specs.Fed.{Feed};
@@ -136,6 +144,15 @@ fn load_line<M: UntrustedMemory, W: Watch, L: LeafFn>(
         → (noted W.state lines.new ≡ noted W.state lines.old)
         × OnOk result (StandsAs lines.new.count ways cache.new (over_image image.now
         (sets_after ways sets (record { line = line; kind = WholeWrite })))) }
+    ensures plays { (config : Config) (whole : Play) (machine : Machine) (marked : List ℕ) (limit : ℕ)
+        → AreKeys (keys_in L.leaf_of lines.old) → CallsInPlay M.state W.state L.leaf_of L.levels config lines.old
+        → config.time + olat_of config.shape.levels ≤ limit → limit + 1 < 2 ^ 64
+        → InImage M.state W.state L.leaf_of L.levels config whole limit image.now.bytes.items machine
+        (line ∷ marked) cache.old lines.old
+        → MatchResult result
+        (λ _. InImage M.state W.state L.leaf_of L.levels config whole (limit + 1) image.now.bytes.items machine marked
+        cache.new lines.new)
+        (λ stop. StoppedInPlay M.state W.state L.leaf_of L.levels config whole 0 lines.old.clock stop lines.new) }
 {
     match cache.write_line(lines, line, &line_of(image, line)) {
         Ok(()) => {}
@@ -175,6 +192,13 @@ fn load<M: UntrustedMemory, W: Watch, L: LeafFn>(
         (λ _. StandsAs lines.new.count ways cache.new started)
         (λ halted. (machine : Machine)
         → CauseFed ways halted.instructions machine (feed_of started []) halted.cause machine) }
+    ensures plays { (config : Config) (whole : Play) (machine : Machine) → AreKeys (keys_in L.leaf_of lines.old)
+        → CallsInPlay M.state W.state L.leaf_of L.levels config lines.old → IsConfig config
+        → InImage M.state W.state L.leaf_of L.levels config whole 0 image.now.bytes.items machine
+        image.now.marked.items cache.old lines.old
+        → MatchResult result
+        (λ _. InRun M.state W.state L.leaf_of L.levels config whole 0 config.budget machine cache.new lines.new)
+        (λ halted. HaltsInPlay M.state W.state L.leaf_of L.levels config whole halted lines.new) }
 {
     for at in 0..image.marked.len() {
         let start = lines.clock;
@@ -226,6 +250,16 @@ fn step<M: UntrustedMemory, W: Watch, L: LeafFn>(
         (machine_of core.new files.new) done)
         (λ _. IsStarvedStep W.state ways (machine_of core.old files.old) lists lines.old lines.new
         × (machine_of core.new files.new ≡ machine_of core.old files.old)) }
+    ensures plays { (config : Config) (whole : Play) (before left : ℕ) → AreKeys (keys_in L.leaf_of lines.old)
+        → CallsInPlay M.state W.state L.leaf_of L.levels config lines.old → IsConfig config → IsCore core.old
+        → lines.old.clock < lines.old.oram.now.port.clock.config.time
+        → InRun M.state W.state L.leaf_of L.levels config whole before (suc left) (machine_of core.old files.old)
+        cache.old
+        lines.old
+        → MatchResult result
+        (λ done. LeavesInPlay M.state W.state L.leaf_of L.levels config whole before left lines.old.clock
+        (machine_of core.new files.new) cache.new done.ended lines.new)
+        (λ stop. StoppedInPlay M.state W.state L.leaf_of L.levels config whole before lines.old.clock stop lines.new) }
 {
     let done = match step_cached(core, files, base, cache, lines) {
         Ok(done) => done,
@@ -278,6 +312,15 @@ fn instruction<M: UntrustedMemory, W: Watch, L: LeafFn>(
         lines.old lines.new cache.new (machine_of core.new files.new) done)
         (λ halted. HaltsFed W.state ways before (machine_of core.old files.old) lists lines.old lines.new halted
         (machine_of core.new files.new)) }
+    ensures plays { (config : Config) (whole : Play) (left : ℕ) → AreKeys (keys_in L.leaf_of lines.old)
+        → CallsInPlay M.state W.state L.leaf_of L.levels config lines.old → IsConfig config → IsCore core.old
+        → InRun M.state W.state L.leaf_of L.levels config whole before (suc left) (machine_of core.old files.old)
+        cache.old
+        lines.old
+        → MatchResult result
+        (λ _. InRun M.state W.state L.leaf_of L.levels config whole (before + 1) left (machine_of core.new files.new)
+        cache.new lines.new)
+        (λ halted. HaltsInPlay M.state W.state L.leaf_of L.levels config whole halted lines.new) }
 {
     let time = lines.time();
     let start = lines.clock;
@@ -332,6 +375,12 @@ fn play<M: UntrustedMemory, W: Watch, L: LeafFn>(
         → StandsAs lines.old.count ways cache.old (over_image image.now sets)
         → HaltsFed W.state ways 0 (machine_of core.old files.old) (over_loaded ways image.now sets) lines.old lines.new
         result (machine_of core.new files.new) }
+    ensures plays { (config : Config) (whole : Play) → AreKeys (keys_in L.leaf_of lines.old)
+        → CallsInPlay M.state W.state L.leaf_of L.levels config lines.old → IsConfig config → IsCore core.old
+        → config.budget ≡ budget
+        → InImage M.state W.state L.leaf_of L.levels config whole 0 image.now.bytes.items
+        (machine_of core.old files.old) image.now.marked.items cache.old lines.old
+        → HaltsInPlay M.state W.state L.leaf_of L.levels config whole result lines.new }
 {
     match load(image, cache, lines, base, budget) {
         Ok(()) => {}
@@ -359,6 +408,11 @@ fn ending_of<M: UntrustedMemory, W: Watch, L: LeafFn>(
         (λ (ending, last). Settled budget instructions cycles ending last old (timed_of M.state W.state
         lines.now).oram.port)
         (λ _. Short old (timed_of M.state W.state lines.now).oram.port) }
+    ensures plays { (config : Config) (whole : Play) (instructions cycles : ℕ)
+        → lines.now.oram.now.port.clock.config ≡ config
+        → StoppedInPlay M.state W.state L.leaf_of L.levels config whole instructions cycles stop lines.now
+        → IfOk result (λ (ending, last). EndedInPlay M.state W.state L.leaf_of L.levels config whole instructions cycles
+        ending last lines.now) }
 {
     let last = lines.oram.last();
     match stop {
@@ -397,6 +451,12 @@ fn finish<M: UntrustedMemory, W: Watch, L: LeafFn>(
     ensures fed { (ways : ℕ) (machine last : Machine) (feed : Feed)
         → CauseFed ways halted.instructions machine feed halted.cause last
         → IfOk result (λ (ending, end). IsFedRun ways halted.instructions machine feed ending last) }
+    ensures plays { (config : Config) (whole : Play) → AreKeys (keys_in L.leaf_of lines.old)
+        → CallsInPlay M.state W.state L.leaf_of L.levels config lines.old → lines.old.oram.now.port.clock.config ≡
+        config
+        → HaltsInPlay M.state W.state L.leaf_of L.levels config whole halted lines.old
+        → IfOk result (λ (ending, last). EndedInPlay M.state W.state L.leaf_of L.levels config whole halted.instructions
+        halted.cycles ending last lines.new) }
 {
     match halted.cause {
         Cause::Ends { ending, until } => match lines.idle_until(until) {
@@ -457,6 +517,22 @@ pub(crate) fn drive<M: UntrustedMemory, W: Watch, L: LeafFn>(
         ≡ answered_lines (W.state bus.old.tap.now).log.events ++ lines)
         × IsFedRun ways course.instructions (machine_of core.old files.old)
         (feed_of (over_loaded ways image.now sets) lines) course.ending (machine_of core.new files.new)) }
+    ensures plays { (config : Config) (whole : Play)
+        → AreKeys (keys_of oram.old.port.tree oram.old.tagger (L.leaf_of oram.old.port.leaves))
+        → CallsPlay (keys_of oram.old.port.tree oram.old.tagger (L.leaf_of oram.old.port.leaves))
+        (L.levels oram.old.port.leaves) config
+        → IsConfig config → IsCore core.old → config.budget ≡ budget → oram.old.port.clock.config ≡ config
+        → StandsInImage (keys_of oram.old.port.tree oram.old.tagger (L.leaf_of oram.old.port.leaves))
+        (L.levels oram.old.port.leaves) config whole image.now.bytes.items (machine_of core.old files.old)
+        image.now.marked.items cache.old (record {
+          oram = oram_over M.state W.state oram.old bus.old.memory.now bus.old.tap.now;
+          clock = 0;
+          fetches = 0;
+        })
+        → IfOk result (λ course. Forgery
+        (keys_of oram.old.port.tree oram.old.tagger (L.leaf_of oram.old.port.leaves)) (W.state bus.new.tap.now).log
+        ⊎ RunShows (L.levels oram.old.port.leaves) whole (play_ending course.ending)
+        (numbers_of course.instructions course.cycles course.fetches) course.last (W.state bus.new.tap.now).log) }
 {
     let mut lines = TimedLines::new(bus.memory, bus.tap, oram);
     let halted = play(image, base, budget, core, files, cache, &mut lines);

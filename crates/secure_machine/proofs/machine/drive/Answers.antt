@@ -8,6 +8,8 @@ use Rattle.secure_machine.specs.Answered.{answered_lines}
 use Rattle.secure_machine.specs.Fed.{over_image, over_loaded, CauseFed}
 use Rattle.secure_machine.proofs.LineChains.{same_then}
 use Rattle.secure_machine.proofs.Refining.{keys_same, at_parts, keys_by, forged_first, StandBy}
+use Rattle.play_run.specs.Given.{CallsPlay}
+use Rattle.secure_machine.proofs.Playing.{at_same, begins, halts_config, ended_first}
 use Rattle.secure_machine.proofs.machine.drive.Goals as goal
 
 pub returns-clause-refines : goal.returns-clause-refines
@@ -60,3 +62,32 @@ returns-clause-fed g c ways sets core stands =
       c.in_ok-ending.ensures.fed ways machine last (feed_of started lines)
           (subst (λ n. CauseFed ways n machine (feed_of started lines) c.play-halted.result.cause last) all cause),
     )
+
+pub returns-clause-plays : goal.returns-clause-plays
+returns-clause-plays g c config whole lawful calls is_config core budget port stands =
+    let keys = keys_by g.M.UntrustedMemory.state g.W.Watch.state g.L.LeafFn.leaf_of g.L.LeafFn.levels in
+    let lines = c.new-lines.result in
+    let played = c.play-halted.new.lines in
+    let same = c.play-halted.ensures.halts.same in
+    let lawful_first = subst (λ o. AreKeys (keys o)) (sym c.new-lines.ensures.oram) lawful in
+    let calls_first = subst (λ o. CallsPlay (keys o) (g.L.LeafFn.levels o.port.leaves) config)
+    (sym c.new-lines.ensures.oram) calls in
+    let begun = begins g.M.UntrustedMemory.state g.W.Watch.state g.L.LeafFn.leaf_of g.L.LeafFn.levels config whole
+    c.args.image.now.bytes.items (machine_of c.args.core.now c.args.files.now) c.args.image.now.marked.items
+    c.args.cache.now lines c.args.oram.now c.args.bus.now.memory.now c.args.bus.now.tap.now
+    c.new-lines.ensures.memory c.new-lines.ensures.tap c.new-lines.ensures.oram c.new-lines.ensures.clock
+    c.new-lines.ensures.fetches stands in
+    let halted = c.play-halted.ensures.plays config whole lawful_first calls_first is_config core budget begun in
+    let settings = halts_config g.M.UntrustedMemory.state g.W.Watch.state g.L.LeafFn.leaf_of g.L.LeafFn.levels
+    c.args.budget
+    c.play-halted.result lines played c.args.oram.now c.new-lines.ensures.oram c.play-halted.ensures.halts ∙ port in
+    ended_first g.M.UntrustedMemory.state g.W.Watch.state g.L.LeafFn.leaf_of g.L.LeafFn.levels config whole _ _ _ _
+    lines
+    c.finish.new.lines c.args.oram.now c.new-lines.ensures.oram (same_then same c.finish.ensures.same)
+    (c.in_ok-ending.ensures.plays config whole
+    (subst AreKeys (sym (keys_same g.M.UntrustedMemory.state g.W.Watch.state g.L.LeafFn.leaf_of g.L.LeafFn.levels lines
+    played
+    same)) lawful_first)
+    (at_same g.M.UntrustedMemory.state g.W.Watch.state g.L.LeafFn.leaf_of g.L.LeafFn.levels (λ z n. CallsPlay z n
+    config)
+    lines played same calls_first) settings halted)

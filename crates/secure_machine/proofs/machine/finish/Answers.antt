@@ -18,6 +18,8 @@ use Rattle.secure_machine.specs.Fed.{CauseFed}
 use Rattle.secure_machine.proofs.FedLaws.{stop_ends, ended_stop_ends}
 use Rattle.secure_machine.proofs.PortGoes.{breaks_then}
 use Rattle.secure_machine.proofs.Settles.{idle_settles}
+use Rattle.secure_machine.specs.Plays.{CauseInPlay, play_ending}
+use Rattle.secure_machine.proofs.Playing.{wait_in_play, wait_stopped}
 use Rattle.secure_machine.proofs.machine.finish.Goals as goal
 
 pub returns-in-Ok-clause-settled : goal.returns-in-Ok-clause-settled
@@ -186,3 +188,40 @@ returns-in-Stops-clause-fed g c ways machine last feed fed =
     stop_ends ways c.args.halted.instructions machine last feed c.in-Stops.stop ending named
     (subst (λ (cause : Cause). CauseFed ways c.args.halted.instructions machine feed cause last) c.in-Stops.is fed))
     c.ending_of-in-Stops.ensures.named
+
+pub returns-in-Ok-clause-plays : goal.returns-in-Ok-clause-plays
+returns-in-Ok-clause-plays g c config whole lawful calls same known =
+    wait_in_play g.M.UntrustedMemory.state g.W.Watch.state g.L.LeafFn.leaf_of g.L.LeafFn.levels config whole
+    (play_ending c.in-Ends.ending) c.args.halted.instructions c.args.halted.cycles c.in-Ends.until _
+    c.args.lines.now c.idle_until.new.self lawful calls c.idle_until.ensures.same c.idle_until.ensures.fetches
+    (subst (λ (cause : Cause). CauseInPlay g.M.UntrustedMemory.state g.W.Watch.state g.L.LeafFn.leaf_of
+    g.L.LeafFn.levels
+    config whole c.args.halted.instructions c.args.halted.cycles cause c.args.lines.now) c.in-Ends.is known)
+    c.in-Ok.ensures.step
+
+pub returns-in-Err-clause-plays : goal.returns-in-Err-clause-plays
+returns-in-Err-clause-plays g c config whole lawful calls same known =
+    let levels = g.L.LeafFn.levels c.args.lines.now.oram.now.port.leaves in
+    let keys = keys_in g.L.LeafFn.leaf_of c.args.lines.now in
+    let old = (timed_of g.M.UntrustedMemory.state g.W.Watch.state c.args.lines.now).oram in
+    let new = (timed_of g.M.UntrustedMemory.state g.W.Watch.state c.idle_until.new.self).oram in
+    let by = subst (λ (cause : Cause). HaltsBy c.args.budget levels c.args.halted.instructions
+    c.args.halted.cycles cause c.requires.halts.0 old) c.in-Ends.is c.requires.halts.1 in
+    let fits : FitKeys keys old.port = record { shape = refl; pads = refl } in
+    let broke = oram_breaks keys levels old new fits by.1 (Wait c.in-Ends.until) c.in-Err.stop c.in-Err.ensures.step in
+    c.ending_of.ensures.plays config whole c.args.halted.instructions c.args.halted.cycles (broke.config ∙ same)
+    (wait_stopped g.M.UntrustedMemory.state g.W.Watch.state g.L.LeafFn.leaf_of g.L.LeafFn.levels config whole
+    (play_ending c.in-Ends.ending) c.args.halted.instructions c.args.halted.cycles c.in-Ends.until c.in-Err.stop
+    c.args.lines.now c.idle_until.new.self lawful calls c.idle_until.ensures.same c.idle_until.ensures.fetches
+    by.1.going
+    (subst (λ (cause : Cause). CauseInPlay g.M.UntrustedMemory.state g.W.Watch.state g.L.LeafFn.leaf_of
+    g.L.LeafFn.levels
+    config whole c.args.halted.instructions c.args.halted.cycles cause c.args.lines.now) c.in-Ends.is known)
+    c.in-Err.ensures.step)
+
+pub returns-in-Stops-clause-plays : goal.returns-in-Stops-clause-plays
+returns-in-Stops-clause-plays g c config whole lawful calls same known =
+    c.ending_of-in-Stops.ensures.plays config whole c.args.halted.instructions c.args.halted.cycles same
+    (subst (λ (cause : Cause). CauseInPlay g.M.UntrustedMemory.state g.W.Watch.state g.L.LeafFn.leaf_of
+    g.L.LeafFn.levels
+    config whole c.args.halted.instructions c.args.halted.cycles cause c.args.lines.now) c.in-Stops.is known)

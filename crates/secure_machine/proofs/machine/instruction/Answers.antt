@@ -10,6 +10,8 @@ use Rattle.secure_machine.specs.declared.report.Ending.TheVariants.{Exit, Trap}
 use Rattle.secure_machine.proofs.LineChains.{ends_after}
 use Rattle.secure_machine.specs.Fed.{HaltsFed}
 use Rattle.secure_machine.proofs.FedChains.{exit_halts, trap_halts, stop_halts, time_halts}
+use Rattle.secure_machine.specs.Plays.{HaltsInPlay}
+use Rattle.secure_machine.proofs.Playing.{no_time_left, went_on, exited, trapped}
 use Rattle.secure_machine.proofs.machine.instruction.Goals as goal
 
 pub returns-in-No-clause-refines : goal.returns-in-No-clause-refines
@@ -130,3 +132,50 @@ returns-in-Trap-clause-fed g c ways lists core stands =
     (trap_halts g.W.Watch.state ways c.args.before start c.in-Trap.pc start c.in-Trap.kind machine next lists
     c.args.lines.now c.step.new.lines c.step.new.cache c.in-Ok.done c.in-Trap.is
     (c.in-Ok.ensures.fed ways lists core stands))
+
+pub returns-then-start-time-clause-plays : goal.returns-then-start-time-clause-plays
+returns-then-start-time-clause-plays g c config whole left lawful calls is_config core known =
+    subst (λ (h : Halted). HaltsInPlay g.M.UntrustedMemory.state g.W.Watch.state g.L.LeafFn.leaf_of g.L.LeafFn.levels
+    config whole h c.args.lines.now) (sym c.ended.ensures)
+    (no_time_left g.M.UntrustedMemory.state g.W.Watch.state g.L.LeafFn.leaf_of g.L.LeafFn.levels config whole
+    c.args.before left (machine_of c.args.core.now c.args.files.now) c.args.cache.now c.args.lines.now
+    c.time-time.result c.time-time.ensures c.if-start-time.true known)
+
+pub returns-in-Err-clause-plays : goal.returns-in-Err-clause-plays
+returns-in-Err-clause-plays g c config whole left lawful calls is_config core known =
+    subst (λ (h : Halted). HaltsInPlay g.M.UntrustedMemory.state g.W.Watch.state g.L.LeafFn.leaf_of g.L.LeafFn.levels
+    config whole h c.step.new.lines) (sym c.stopped.ensures)
+    (c.in-Err.ensures.plays config whole c.args.before left lawful calls is_config core
+    (omega (arith, c.if-start-time.false, c.time-time.ensures)) known)
+
+pub returns-in-No-clause-plays : goal.returns-in-No-clause-plays
+returns-in-No-clause-plays g c config whole left lawful calls is_config core known =
+    went_on g.M.UntrustedMemory.state g.W.Watch.state g.L.LeafFn.leaf_of g.L.LeafFn.levels config whole c.args.before
+    left c.args.lines.now.clock (machine_of c.step.new.core c.step.new.files) c.step.new.cache c.in-Ok.done.ended
+    c.step.new.lines c.in-No.is
+    (c.in-Ok.ensures.plays config whole c.args.before left lawful calls is_config core
+    (omega (arith, c.if-start-time.false, c.time-time.ensures)) known)
+
+pub returns-in-Exit-clause-plays : goal.returns-in-Exit-clause-plays
+returns-in-Exit-clause-plays g c config whole left lawful calls is_config core known =
+    let same = ap (λ (config : Config). config.time) c.in-Ok.ensures.onwards.goes.config in
+    subst (λ (h : Halted). HaltsInPlay g.M.UntrustedMemory.state g.W.Watch.state g.L.LeafFn.leaf_of g.L.LeafFn.levels
+    config whole h c.step.new.lines) (sym c.ended-in-Exit.ensures)
+    (exited g.M.UntrustedMemory.state g.W.Watch.state g.L.LeafFn.leaf_of g.L.LeafFn.levels config whole c.args.before
+    left c.args.lines.now.clock (machine_of c.step.new.core c.step.new.files) c.step.new.cache c.in-Ok.done.ended
+    c.step.new.lines c.in-Exit.status c.min.result c.time-time.result c.in-Exit.is c.min.ensures
+    (c.time-time.ensures ∙ sym same)
+    (c.in-Ok.ensures.plays config whole c.args.before left lawful calls is_config core
+    (omega (arith, c.if-start-time.false, c.time-time.ensures)) known))
+
+pub returns-in-Trap-clause-plays : goal.returns-in-Trap-clause-plays
+returns-in-Trap-clause-plays g c config whole left lawful calls is_config core known =
+    let same = ap (λ (config : Config). config.time) c.in-Ok.ensures.onwards.goes.config in
+    subst (λ (h : Halted). HaltsInPlay g.M.UntrustedMemory.state g.W.Watch.state g.L.LeafFn.leaf_of g.L.LeafFn.levels
+    config whole h c.step.new.lines) (sym c.ended-in-Trap.ensures)
+    (trapped g.M.UntrustedMemory.state g.W.Watch.state g.L.LeafFn.leaf_of g.L.LeafFn.levels config whole c.args.before
+    left c.args.lines.now.clock (machine_of c.step.new.core c.step.new.files) c.step.new.cache c.in-Ok.done.ended
+    c.step.new.lines c.in-Trap.kind c.in-Trap.pc c.time-time.result c.in-Trap.is c.if-start-time.false
+    (c.time-time.ensures ∙ sym same)
+    (c.in-Ok.ensures.plays config whole c.args.before left lawful calls is_config core
+    (omega (arith, c.if-start-time.false, c.time-time.ensures)) known))

@@ -1,4 +1,4 @@
-use Rattle.std.proofs.Common.{ℕ, List, [], ◌∙◌, refl, sym, subst, arith, take}
+use Rattle.std.proofs.Common.{ℕ, List, [], ◌∙◌, refl, sym, subst, arith, take, ◌+◌, ◌<◌, drop, length}
 use Rattle.std.proofs.lemmas.List.{take_all}
 use Rattle.data_cache.specs.Cached.{StandsAs}
 use Rattle.data_cache.specs.CacheLists.{Sets}
@@ -15,7 +15,11 @@ use Rattle.secure_machine.specs.Refines.{Knows, CauseUnblamed}
 use Rattle.secure_machine.proofs.Refining.{keys_same, loaded_more}
 use Rattle.secure_machine.specs.Runs.{HaltsOver}
 use Rattle.secure_machine.specs.declared.machine.Halted.{Halted}
-use Rattle.secure_machine.proofs.LineChains.{onwards_then, breaks_later}
+use Rattle.secure_machine.proofs.LineChains.{onwards_then, breaks_later, onwards_none}
+use Rattle.asc_base.specs.TreeShape.{olat_of}
+use Rattle.play_run.specs.Given.{CallsPlay}
+use Rattle.secure_machine.specs.Plays.{HaltsInPlay}
+use Rattle.secure_machine.proofs.Playing.{at_same, image_first, image_next, image_stops, image_all}
 use Rattle.secure_machine.proofs.machine.load.Goals as goal
 
 pub returns-in-Err-clause-halts : goal.returns-in-Err-clause-halts
@@ -52,6 +56,25 @@ loop-at-preserved g c = record {
             (over_image c.args.image.now l)) (sym (along_more ways sets marked c.loop-at.at c.index.result.now
             (omega (arith, c.loop-at-test.true, c.len-at-end.ensures)) c.index.ensures)) after,
       );
+  plays = λ config whole machine lawful calls is_config known.
+      let lines = c.args.lines.now in
+      let marked = c.args.image.now.marked.items in
+      let same = c.loop-at.invariant.onwards.same in
+      let below : c.loop-at.at < length marked = omega (arith, c.loop-at-test.true, c.len-at-end.ensures) in
+      let inside = c.requires.image.marked_below c.loop-at.at 0 below in
+      image_next g.M.UntrustedMemory.state g.W.Watch.state g.L.LeafFn.leaf_of g.L.LeafFn.levels config whole
+      c.loop-at.at
+      c.index.result.now c.args.image.now.bytes.items machine marked c.loop-at.cache c.load_line.new.cache
+      c.loop-at.lines
+      c.load_line.new.lines below c.index.ensures c.requires.image.marked_rise
+      (omega (arith, inside, same.count)) c.loop-at.invariant.onwards.ready is_config
+      (λ limit. c.in-Ok.ensures.plays config whole machine (drop (c.loop-at.at + 1) marked) limit
+      (subst AreKeys (sym (keys_same g.M.UntrustedMemory.state g.W.Watch.state g.L.LeafFn.leaf_of g.L.LeafFn.levels
+      lines
+      c.loop-at.lines same)) lawful)
+      (at_same g.M.UntrustedMemory.state g.W.Watch.state g.L.LeafFn.leaf_of g.L.LeafFn.levels
+      (λ z n. CallsPlay z n config) lines c.loop-at.lines same calls))
+      (c.loop-at.invariant.plays config whole machine lawful calls is_config known);
 }
 
 pub returns-in-Err-clause-none : goal.returns-in-Err-clause-none
@@ -90,3 +113,44 @@ returns-clause-fed g c ways sets stands =
           (over_image c.args.image.now (sets_along ways sets (used WholeWrite l))))
           (take_all c.loop-at.at marked (omega (arith, c.loop-at-test.false, c.len-at-end.ensures))) standing,
     )
+
+pub loop-at-init : goal.loop-at-init
+loop-at-init g c = record {
+  onwards = onwards_none g.M.UntrustedMemory.state g.W.Watch.state g.L.LeafFn.leaf_of g.L.LeafFn.levels c.args.lines.now
+      c.requires.ready;
+  below = c.requires.below;
+  refines = λ memory lawful known. known;
+  plays = λ config whole machine lawful calls is_config known.
+      image_first g.M.UntrustedMemory.state g.W.Watch.state g.L.LeafFn.leaf_of g.L.LeafFn.levels config whole 0
+      (config.time + olat_of config.shape.levels + 0) c.args.image.now.bytes.items machine
+      c.args.image.now.marked.items c.args.cache.now c.args.lines.now (omega arith) known;
+}
+
+pub returns-in-Err-clause-plays : goal.returns-in-Err-clause-plays
+returns-in-Err-clause-plays g c config whole machine lawful calls is_config known =
+    let lines = c.args.lines.now in
+    let marked = c.args.image.now.marked.items in
+    let same = c.loop-at.invariant.onwards.same in
+    let below : c.loop-at.at < length marked = omega (arith, c.loop-at-test.true, c.len-at-end.ensures) in
+    let inside = c.requires.image.marked_below c.loop-at.at 0 below in
+    subst (λ (h : Halted). HaltsInPlay g.M.UntrustedMemory.state g.W.Watch.state g.L.LeafFn.leaf_of g.L.LeafFn.levels
+    config whole h c.load_line.new.lines) (sym c.stopped.ensures)
+    (image_stops g.M.UntrustedMemory.state g.W.Watch.state g.L.LeafFn.leaf_of g.L.LeafFn.levels config whole
+    c.loop-at.at
+    c.index.result.now c.args.image.now.bytes.items machine marked c.loop-at.cache c.loop-at.lines
+    c.load_line.new.lines c.in-Err.stop below c.index.ensures c.requires.image.marked_rise
+    (omega (arith, inside, same.count)) c.loop-at.invariant.onwards.ready is_config
+    (λ limit. c.in-Err.ensures.plays config whole machine (drop (c.loop-at.at + 1) marked) limit
+    (subst AreKeys (sym (keys_same g.M.UntrustedMemory.state g.W.Watch.state g.L.LeafFn.leaf_of g.L.LeafFn.levels lines
+    c.loop-at.lines same)) lawful)
+    (at_same g.M.UntrustedMemory.state g.W.Watch.state g.L.LeafFn.leaf_of g.L.LeafFn.levels
+    (λ z n. CallsPlay z n config) lines c.loop-at.lines same calls))
+    (c.loop-at.invariant.plays config whole machine lawful calls is_config known))
+
+pub returns-clause-plays : goal.returns-clause-plays
+returns-clause-plays g c config whole machine lawful calls is_config known =
+    image_all g.M.UntrustedMemory.state g.W.Watch.state g.L.LeafFn.leaf_of g.L.LeafFn.levels config whole
+    (config.time + olat_of config.shape.levels + c.loop-at.at) c.loop-at.at c.args.image.now.bytes.items machine
+    c.args.image.now.marked.items c.loop-at.cache c.loop-at.lines
+    (omega (arith, c.loop-at-test.false, c.loop-at.auto.at-end, c.len-at-end.ensures))
+    (c.loop-at.invariant.plays config whole machine lawful calls is_config known)

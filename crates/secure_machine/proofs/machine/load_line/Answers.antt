@@ -1,7 +1,8 @@
 use Rattle.std.proofs.Common.{◌⊎◌, ◌*◌, ◌∙◌, ℕ, List, sym, ap, subst, arith}
 use Rattle.rv32_core.specs.Access.{spliced}
 use Rattle.secure_machine.specs.Refines.{Knows}
-use Rattle.secure_machine.proofs.Refining.{stop_forged, stop_unblamed, line_known, lines_in, spent_is, ForgedBy, StandBy}
+use Rattle.secure_machine.proofs.Refining.{stop_forged, stop_unblamed, line_known, lines_in, spent_is, ForgedBy}
+use Rattle.secure_machine.proofs.Refining.{StandBy}
 use Rattle.data_cache.specs.Contents.{write_line_plan}
 use Rattle.secure_machine.proofs.LineChains.{chain_goes, chain_breaks, spent_on}
 use Rattle.data_cache.specs.Cached.{StandsAs}
@@ -10,6 +11,7 @@ use Rattle.rv32_core.specs.LineList.{WholeWrite}
 use Rattle.secure_machine.specs.Answered.{answered_lines}
 use Rattle.secure_machine.specs.Fed.{over_image}
 use Rattle.secure_machine.proofs.FedChains.{line_fed, line_fed_stop}
+use Rattle.secure_machine.proofs.Playing.{line_in_play, line_stopped}
 use Rattle.secure_machine.proofs.machine.load_line.Goals as goal
 
 pub returns-in-Err-clause-breaks : goal.returns-in-Err-clause-breaks
@@ -73,3 +75,24 @@ returns-clause-fed g c ways sets stands =
           (sets_after ways sets (record { line = c.args.line; kind = WholeWrite })))) (sym c.spend.ensures.same.count)
           after,
     )
+
+pub returns-in-Err-clause-plays : goal.returns-in-Err-clause-plays
+returns-in-Err-clause-plays g c config whole machine marked limit lawful calls far small known =
+    line_stopped g.M.UntrustedMemory.state g.W.Watch.state g.L.LeafFn.leaf_of g.L.LeafFn.levels config whole
+    limit c.args.line c.args.image.now.bytes.items machine marked c.line_of.result c.args.cache.now
+    c.write_line.new.self c.args.lines.now c.write_line.new.store c.in-Err.stop lawful calls c.requires.ready
+    c.requires.line c.line_of.ensures.whole known c.in-Err.ensures.err
+
+pub returns-clause-plays : goal.returns-clause-plays
+returns-clause-plays g c config whole machine marked limit lawful calls far small known =
+    line_in_play g.M.UntrustedMemory.state g.W.Watch.state g.L.LeafFn.leaf_of g.L.LeafFn.levels config whole
+    limit c.args.line c.args.image.now.bytes.items machine marked c.line_of.result c.args.cache.now
+    c.write_line.new.self c.args.lines.now c.write_line.new.store c.spend.new.self lawful calls c.requires.ready
+    c.requires.line c.line_of.ensures.whole c.line_of.ensures.bytes far small known c.in-Ok.ensures.ok (record {
+      same = c.spend.ensures.same;
+      memory = c.spend.ensures.memory;
+      tap = c.spend.ensures.tap;
+      oram = c.spend.ensures.oram;
+      fetches = c.spend.ensures.fetches;
+      clock = c.spend.ensures.spent;
+    })

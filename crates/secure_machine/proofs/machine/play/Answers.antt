@@ -1,4 +1,4 @@
-use Rattle.std.proofs.Common.{◌≡◌, ◌≤◌, ◌∙◌, ◌*◌, inl, inr, min, refl, sym, ap, subst, arith}
+use Rattle.std.proofs.Common.{◌≡◌, ◌≤◌, ◌∙◌, ◌*◌, inl, inr, min, refl, sym, ap, subst, arith, ℕ, suc, ◌+◌, ◌-◌}
 use Rattle.asc_base.specs.declared.settings.Config.{Config}
 use Rattle.encrypted_run.specs.Refined.{loaded}
 use Rattle.oram_contents.specs.Entries.{AreKeys}
@@ -12,9 +12,11 @@ use Rattle.secure_machine.proofs.FlatLaws.{reaches_none, reaches_more, halts_run
 use Rattle.secure_machine.proofs.LineChains.{onwards_then, halts_later, ends_after}
 use Rattle.secure_machine.proofs.Refining.{keys_same}
 use Rattle.secure_machine.specs.Fed.{over_loaded, HaltsFed}
-use Rattle.secure_machine.specs.declared.machine.Cause.TheVariants.{Ends}
-use Rattle.secure_machine.specs.declared.report.Ending.TheVariants.{Budget}
+use Rattle.secure_machine.specs.declared.machine.Cause.TheVariants.{Ends, Ends as EndsBy}
 use Rattle.secure_machine.proofs.FedChains.{fed_none, fed_more, fed_halts, load_halts, budget_halts}
+use Rattle.play_run.specs.Given.{CallsPlay}
+use Rattle.secure_machine.specs.Plays.{HaltsInPlay, CauseInPlay, InRun}
+use Rattle.secure_machine.proofs.Playing.{at_same, none_left}
 use Rattle.secure_machine.proofs.machine.play.Goals as goal
 
 pub returns-in-Err-instruction : goal.returns-in-Err-instruction
@@ -56,6 +58,17 @@ returns-in-Err-instruction g c =
           (machine_of c.instruction.new.core c.instruction.new.files) started c.args.lines.now c.loop-before.lines
           c.instruction.new.lines c.loop-before.cache c.in-Err-instruction.halted first
           (c.in-Err-instruction.ensures.fed ways (first.1) (c.loop-before.invariant.core core) (first.3));
+      plays = λ config whole lawful calls is_config core budget known.
+          let lawful_now = subst AreKeys (sym (keys_same g.M.UntrustedMemory.state g.W.Watch.state g.L.LeafFn.leaf_of
+          g.L.LeafFn.levels c.args.lines.now c.loop-before.lines c.loop-before.invariant.onwards.same)) lawful in
+          let calls_now = at_same g.M.UntrustedMemory.state g.W.Watch.state g.L.LeafFn.leaf_of g.L.LeafFn.levels
+          (λ z n. CallsPlay z n config) c.args.lines.now c.loop-before.lines c.loop-before.invariant.onwards.same calls
+          in
+          let left : ℕ = c.args.budget - c.loop-before.before - 1 in
+          let sum : c.loop-before.before + suc left ≡ c.args.budget = omega (arith, c.loop-before-test.true) in
+          c.in-Err-instruction.ensures.plays config whole left lawful_now calls_now is_config
+          (c.loop-before.invariant.core core)
+          (c.loop-before.invariant.plays config whole (suc left) lawful calls is_config core budget known sum);
     }
 
 pub loop-before-preserved : goal.loop-before-preserved
@@ -96,6 +109,16 @@ loop-before-preserved g c =
           fed_more g.W.Watch.state ways c.loop-before.before machine (machine_of c.loop-before.core c.loop-before.files)
           (machine_of c.instruction.new.core c.instruction.new.files) started c.args.lines.now c.loop-before.lines
           c.instruction.new.lines c.loop-before.cache c.instruction.new.cache done going first step;
+      plays = λ config whole left lawful calls is_config core budget known sum.
+          let lawful_now = subst AreKeys (sym (keys_same g.M.UntrustedMemory.state g.W.Watch.state g.L.LeafFn.leaf_of
+          g.L.LeafFn.levels c.args.lines.now c.loop-before.lines c.loop-before.invariant.onwards.same)) lawful in
+          let calls_now = at_same g.M.UntrustedMemory.state g.W.Watch.state g.L.LeafFn.leaf_of g.L.LeafFn.levels
+          (λ z n. CallsPlay z n config) c.args.lines.now c.loop-before.lines c.loop-before.invariant.onwards.same calls
+          in
+          let before : c.loop-before.before + suc left ≡ c.args.budget = omega (arith, sum) in
+          c.in-Ok-instruction.ensures.plays config whole left lawful_now calls_now is_config
+          (c.loop-before.invariant.core core)
+          (c.loop-before.invariant.plays config whole (suc left) lawful calls is_config core budget known before);
     }
 
 pub returns-in-Err-clause-refines : goal.returns-in-Err-clause-refines
@@ -125,6 +148,12 @@ loop-before-init g c =
           let (none, standing) = c.in-Ok.ensures.fed ways sets stands in
           fed_none g.W.Watch.state ways machine started c.args.lines.now c.load.new.lines c.load.new.cache none
           standing;
+      plays = λ config whole left lawful calls is_config core budget known sum.
+          let e : config.budget ≡ left = omega (arith, sum, budget) in
+          subst (λ n. InRun g.M.UntrustedMemory.state g.W.Watch.state g.L.LeafFn.leaf_of g.L.LeafFn.levels config whole
+          0 n
+          machine c.load.new.cache c.load.new.lines) e
+          (c.in-Ok.ensures.plays config whole machine lawful calls is_config known);
     }
 
 pub returns-clause-halts : goal.returns-clause-halts
@@ -193,3 +222,22 @@ returns-clause-fed g c ways sets core stands =
     }) next) all
     (budget_halts g.W.Watch.state ways c.loop-before.before c.loop-before.lines.clock c.min.result next (first.1)
     c.loop-before.lines)))
+
+pub returns-in-Err-clause-plays : goal.returns-in-Err-clause-plays
+returns-in-Err-clause-plays g c config whole lawful calls is_config core budget known =
+    c.in-Err.ensures.plays config whole (machine_of c.args.core.now c.args.files.now) lawful calls is_config known
+
+pub returns-clause-plays : goal.returns-clause-plays
+returns-clause-plays g c config whole lawful calls is_config core budget known =
+    let e : c.args.budget ≡ c.loop-before.before =
+    omega (arith, c.loop-before-test.false, c.loop-before.auto.before-end) in
+    let sum : c.loop-before.before + 0 ≡ c.args.budget = omega (arith, e) in
+    let next = machine_of c.loop-before.core c.loop-before.files in
+    subst (λ (h : Halted). HaltsInPlay g.M.UntrustedMemory.state g.W.Watch.state g.L.LeafFn.leaf_of g.L.LeafFn.levels
+    config whole h c.loop-before.lines) (sym c.ended.ensures)
+    (subst (λ n. CauseInPlay g.M.UntrustedMemory.state g.W.Watch.state g.L.LeafFn.leaf_of g.L.LeafFn.levels config whole
+    n
+    c.loop-before.lines.clock (EndsBy Budget c.min.result) c.loop-before.lines) (sym e)
+    (none_left g.M.UntrustedMemory.state g.W.Watch.state g.L.LeafFn.leaf_of g.L.LeafFn.levels config whole
+    c.loop-before.before next c.loop-before.cache c.loop-before.lines c.min.result c.time.result c.time.ensures
+    c.min.ensures (c.loop-before.invariant.plays config whole 0 lawful calls is_config core budget known sum)))

@@ -9,6 +9,7 @@ use Rattle.rv32_core.specs.StepPlan.{machine_of, step_plan}
 use Rattle.data_cache.specs.Cached.{cache_access}
 use Rattle.secure_machine.proofs.LineChains.{LinesStep, chain_goes, chain_breaks, spent_on}
 use Rattle.secure_machine.proofs.FedChains.{instruction_fed, instruction_starved, spent_fed}
+use Rattle.secure_machine.proofs.Playing.{instruction_in_play, instruction_stopped}
 use Rattle.secure_machine.proofs.machine.step.Goals as goal
 
 pub returns-in-Err-clause-breaks : goal.returns-in-Err-clause-breaks
@@ -111,3 +112,26 @@ returns-clause-fed g c ways lists core stands =
     (instruction_fed g.M.UntrustedMemory.state g.W.Watch.state g.L.LeafFn.leaf_of g.L.LeafFn.levels ways machine
     c.args.lines.now c.step_cached.new.store c.args.cache.now c.step_cached.new.cache lists (next, c.in-Ok.done) core
     c.requires.size stands c.in-Ok.ensures.ok)
+
+pub returns-in-Err-clause-plays : goal.returns-in-Err-clause-plays
+returns-in-Err-clause-plays g c config whole before left lawful calls is_config core early known =
+    instruction_stopped g.M.UntrustedMemory.state g.W.Watch.state g.L.LeafFn.leaf_of g.L.LeafFn.levels config
+    whole before left (machine_of c.args.core.now c.args.files.now) c.args.cache.now c.args.lines.now
+    c.step_cached.new.store c.in-Err.stop
+    (c.step_cached.new.cache, machine_of c.step_cached.new.core c.step_cached.new.files) lawful calls c.requires.ready
+    core c.requires.size early known c.in-Err.ensures.err
+
+pub returns-clause-plays : goal.returns-clause-plays
+returns-clause-plays g c config whole before left lawful calls is_config core early known =
+    instruction_in_play g.M.UntrustedMemory.state g.W.Watch.state g.L.LeafFn.leaf_of g.L.LeafFn.levels config
+    whole before left (machine_of c.args.core.now c.args.files.now) c.args.cache.now c.step_cached.new.cache
+    (machine_of c.step_cached.new.core c.step_cached.new.files, c.in-Ok.done) c.args.lines.now
+    c.step_cached.new.store c.spend.new.self lawful calls is_config c.requires.ready core c.requires.size early known
+    c.in-Ok.ensures.ok (record {
+      same = c.spend.ensures.same;
+      memory = c.spend.ensures.memory;
+      tap = c.spend.ensures.tap;
+      oram = c.spend.ensures.oram;
+      fetches = c.spend.ensures.fetches;
+      clock = c.spend.ensures.spent;
+    })
