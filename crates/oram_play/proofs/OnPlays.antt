@@ -19,7 +19,7 @@ use Rattle.rate_enforcer.specs.PortStep.{PortState}
 use Rattle.run_play.specs.Requests.{StoredLines, Standing, requested, value_of, walk_sizes, data_line}
 use Rattle.run_play.specs.Slots.{Pace, Numbers, Slot}
 use Rattle.oram_play.specs.InTurn.{AnsweredAccess}
-use Rattle.oram_play.specs.OnPlay.{IsOnPlay, FindsLine}
+use Rattle.oram_play.specs.OnPlay.{IsOnPlay}
 use Rattle.oram_play.specs.Shown.{appended_shown, answered_shown, AreShownAs}
 use Rattle.oram_play.specs.StopsInTurn.{StopsNext, AtAccess, AtAppend, NoRoom, IsOnWalk}
 use Rattle.oram_play.specs.Walked.{IsWalked, AreWalked, put_for}
@@ -118,13 +118,11 @@ module _ (config : Config) (now : Standing) (request : LineRequest) (lines : ℕ
       (parts.0, parts.1.0)
 
   -- So what was stopped is on the walk of the play's request.
-  pub on-play : {levels : ℕ} {numbers : Numbers} {asked : ℕ} {slots : List Slot} {pace : Pace} {stop : Stop}
-      (keys : Keys) (accesses : List AnsweredAccess) (old new : PortState)
+  pub on-play : {keys : Keys} {levels : ℕ} {numbers : Numbers} {asked : ℕ} {slots : List Slot} {pace : Pace}
+      {stop : Stop} {old new : PortState} (accesses : List AnsweredAccess)
       (next : StopsNext keys levels numbers asked slots pace stop old new)
-      → (on : IsOnWalk sizes lines (put_for request) walked accesses next)
-      → FindsLine keys sizes lines (put_for request) walked accesses old new next on
-      → IsOnPlay keys config now request accesses old new next
-  on-play keys accesses old new (AtAccess x) on found =
+      → IsOnWalk sizes lines (put_for request) walked accesses next → IsOnPlay config now request accesses next
+  on-play accesses (AtAccess x) on =
       let one : AnsweredAccess = record {
         access = x.access;
         line = on.line;
@@ -142,9 +140,8 @@ module _ (config : Config) (now : Standing) (request : LineRequest) (lines : ℕ
         counter = both.1.counter;
         line = on.line;
         put = both.1.put;
-        found = found;
       }
-  on-play keys accesses old new (AtAppend x) on found =
+  on-play accesses (AtAppend x) on =
       let both = prefix-walked on.before on.later on.next on.first (record on.last { appended = Some x.message }) on.are
       on.shown on.is in
       record {
@@ -158,4 +155,4 @@ module _ (config : Config) (now : Standing) (request : LineRequest) (lines : ℕ
         walked = both.0;
         is = both.1;
       }
-  on-play keys accesses old new (NoRoom none) on found = tt
+  on-play accesses (NoRoom none) on = tt

@@ -13,10 +13,9 @@ use Rattle.oram_lines.proofs.HonestTriples.{fetch_stopped, store_stopped}
 use Rattle.oram_walk.specs.Front.{sizes_of}
 use Rattle.oram_walk.specs.Plans.{FrontPlan, fetch_plan, store_plan}
 use Rattle.posmap_lookaside.specs.Walk.{WalkSizes, IsHeldList, walk}
-use Rattle.run_play.specs.Requests.{Standing, requested, walk_sizes}
+use Rattle.run_play.specs.Requests.{Standing, requested, request_slots, walk_sizes}
 use Rattle.run_play.specs.Slots.{Slot}
-use Rattle.oram_play.specs.CutPlays.{CutsPlay}
-use Rattle.oram_play.specs.Playing.{PlaysAs, called}
+use Rattle.oram_play.specs.Playing.{PlaysAs, LeavesOf, called}
 use Rattle.oram_play.specs.StopsInTurn.{StopsInTurn, IsOnWalk, IsStopped}
 use Rattle.oram_play.specs.Walked.{put_for}
 use Rattle.oram_play.proofs.CutRequests.{request-left}
@@ -47,22 +46,17 @@ module _ (keys : Keys) (lawful : AreKeys keys) (levels : ℕ) (config : Config) 
 
   cuts : (request : LineRequest) → requested request < config.shape.lines
       → IsCutOn request config (walk_sizes config)
-      → CutsPlay keys levels config slots now request x.lines stop new.port
-  cuts request below c = record {
-    stops = c.stops;
-    on = c.on;
-    leaves = λ found.
-        let held : IsHeldList (walk_sizes config) now.chip.held =
-        subst (λ (s : WalkSizes). IsHeldList s now.chip.held) x.sizes x.shows.list in
-        request-left keys levels config now request slots stop new.port x.in_time c.stops
-        (on-play config now request x.lines (layered keys lawful levels config slots now old x) held below
-        (data_lines keys lawful levels config slots now old x) keys c.stops.accesses c.stops.mid new.port c.stops.next
-        c.on found);
-  }
+      → LeavesOf levels slots (request_slots config now request) stop new.port
+  cuts request below c =
+      let held : IsHeldList (walk_sizes config) now.chip.held =
+      subst (λ (s : WalkSizes). IsHeldList s now.chip.held) x.sizes x.shows.list in
+      request-left keys levels config now request slots stop new.port x.in_time c.stops
+      (on-play config now request x.lines (layered keys lawful levels config slots now old x) held below
+      (data_lines keys lawful levels config slots now old x) c.stops.accesses c.stops.next c.on)
 
   pub request-cuts : (request : LineRequest) → IsRequest config.shape.lines (called now.clock request)
       → old.stop ≡ None → OramStep keys levels old (called now.clock request) (Err stop) new
-      → Forgery keys new.port.tap.log ⊎ CutsPlay keys levels config slots now request x.lines stop new.port
+      → Forgery keys new.port.tap.log ⊎ LeavesOf levels slots (request_slots config now request) stop new.port
   request-cuts (Fetch line) below serves step =
       let inside : line < keys.shape.lines =
       (let same = keys_lines keys lawful levels config slots now old x in omega (arith, same, below)) in

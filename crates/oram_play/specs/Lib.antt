@@ -7,4 +7,3 @@ pub mod Playing
 pub mod Stopped
 pub mod StopsInTurn
 pub mod OnPlay
-pub mod CutPlays

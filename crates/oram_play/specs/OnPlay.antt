@@ -1,28 +1,25 @@
 -- When what was stopped is the next access of a play's request, or the append behind the last one.
-use Rattle.std.specs.Prelude.{◌≡◌, ◌⊎◌, ℕ, List, [], ◌∷◌, ◌++◌, Some}
+use Rattle.std.specs.Prelude.{◌≡◌, ℕ, List, [], ◌∷◌, ◌++◌, Some}
 use Rattle.asc_base.specs.declared.block.Line.{Line}
 use Rattle.asc_base.specs.declared.block.Message.{Message}
 use Rattle.asc_base.specs.declared.settings.Config.{Config}
 use Rattle.asc_base.specs.declared.stop.Stop.{Stop}
 use Rattle.data_cache.specs.Lines.{LineRequest}
 use Rattle.oram_contents.specs.Entries.{Keys}
-use Rattle.oram_contents.specs.Forgery.{Forgery}
 use Rattle.oram_walk.specs.declared.slots.Access.{Access}
-use Rattle.oram_walk.specs.declared.slots.Purpose.{Purpose}
-use Rattle.posmap_lookaside.specs.Walk.{WalkAccess, WalkSizes, walk}
+use Rattle.posmap_lookaside.specs.Walk.{WalkAccess, walk}
 use Rattle.rate_enforcer.specs.PortStep.{PortState}
 use Rattle.run_play.specs.Requests.{Standing, requested, value_of, walk_sizes, put_back}
 use Rattle.run_play.specs.Slots.{Pace, Numbers, Slot}
 use Rattle.oram_play.specs.InTurn.{AnsweredAccess}
-use Rattle.oram_play.specs.Stopped.{WasFound}
-use Rattle.oram_play.specs.StopsInTurn.{StopsNext, AtAccess, AtAppend, NoRoom, IsOnWalk}
+use Rattle.oram_play.specs.StopsInTurn.{StopsNext, AtAccess, AtAppend, NoRoom}
 use Rattle.oram_play.specs.Taken.{put_in}
 use Rattle.oram_play.specs.Walked.{IsWalked, AreWalked}
 
 -- The answered accesses are the first of a request's walk, and this one is to the next one's block under its counter.
--- It puts the play's message back with a line; any other line that was found in it is forged.
-pub record IsAccessOnPlay (keys : Keys) (config : Config) (now : Standing) (request : LineRequest)
-    (accesses : List AnsweredAccess) (access : Access) (old new : PortState) : Type 0 where
+-- It puts the play's message back with a line.
+pub record IsAccessOnPlay (config : Config) (now : Standing) (request : LineRequest)
+    (accesses : List AnsweredAccess) (access : Access) : Type 0 where
   pub before : List WalkAccess
   pub next : WalkAccess
   pub later : List WalkAccess
@@ -32,7 +29,6 @@ pub record IsAccessOnPlay (keys : Keys) (config : Config) (now : Standing) (requ
   pub counter : next.counter ≡ access.counter
   pub line : Line
   pub put : put_back config now.data_lines (value_of request) next next.purpose ≡ put_in access line access.purpose
-  pub found : (other : Line) → WasFound keys access other old new → Forgery keys new.tap.log ⊎ (other ≡ line)
 
 -- The same where the last answered access is the next one, behind which the play's message is appended.
 pub record IsAppendOnPlay (config : Config) (now : Standing) (request : LineRequest) (accesses : List AnsweredAccess)
@@ -48,22 +44,9 @@ pub record IsAppendOnPlay (config : Config) (now : Standing) (request : LineRequ
   pub is : IsWalked config now.data_lines (value_of request) next (record last { appended = Some message })
 
 -- what was stopped is on the walk of a play's request
-abbrev pub IsOnPlay : {levels : ℕ} {numbers : Numbers} {asked : ℕ} {slots : List Slot} {pace : Pace} {stop : Stop}
-    (keys : Keys) (config : Config) (now : Standing) (request : LineRequest) (accesses : List AnsweredAccess)
-    (old new : PortState) → StopsNext keys levels numbers asked slots pace stop old new → Type 0
-IsOnPlay keys config now request accesses old new (AtAccess x) =
-    IsAccessOnPlay keys config now request accesses x.access old new
-IsOnPlay keys config now request accesses old new (AtAppend x) =
-    IsAppendOnPlay config now request accesses x.message
-IsOnPlay keys config now request accesses old new (NoRoom none) = Unit {0}
-
--- Any other line than the walk's that was found in the slot that was stopped is forged.
-abbrev pub FindsLine : {levels : ℕ} {numbers : Numbers} {asked : ℕ} {slots : List Slot} {pace : Pace} {stop : Stop}
-    (keys : Keys) (sizes : WalkSizes) (lines : ℕ → Line) (put : Purpose) (walked : List WalkAccess)
-    (accesses : List AnsweredAccess) (old new : PortState)
-    (next : StopsNext keys levels numbers asked slots pace stop old new)
-    → IsOnWalk sizes lines put walked accesses next → Type 0
-FindsLine keys sizes lines put walked accesses old new (AtAccess x) on =
-    (other : Line) → WasFound keys x.access other old new → Forgery keys new.tap.log ⊎ (other ≡ on.line)
-FindsLine keys sizes lines put walked accesses old new (AtAppend x) on = Unit {0}
-FindsLine keys sizes lines put walked accesses old new (NoRoom none) on = Unit {0}
+abbrev pub IsOnPlay : {keys : Keys} {levels : ℕ} {numbers : Numbers} {asked : ℕ} {slots : List Slot} {pace : Pace}
+    {stop : Stop} {old new : PortState} (config : Config) (now : Standing) (request : LineRequest)
+    (accesses : List AnsweredAccess) → StopsNext keys levels numbers asked slots pace stop old new → Type 0
+IsOnPlay config now request accesses (AtAccess x) = IsAccessOnPlay config now request accesses x.access
+IsOnPlay config now request accesses (AtAppend x) = IsAppendOnPlay config now request accesses x.message
+IsOnPlay config now request accesses (NoRoom none) = Unit {0}
