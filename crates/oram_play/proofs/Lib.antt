@@ -19,10 +19,6 @@ pub mod CutSteps
 pub mod PairsTo
 pub mod StopTurns
 pub mod CutRequests
-pub mod Notes
-pub mod Inside
-pub mod Found
-pub mod Stands
 pub mod StopNotes
 pub mod FoundInStops
 pub mod OnPlays
