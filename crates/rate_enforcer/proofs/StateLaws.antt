@@ -288,7 +288,8 @@ module _ {M W : Type 0} (memory_of : M → MemoryState) (tap_of : W → TapState
   pub read_stopped : (b c : Bus M W) {notes : ℕ} {clock : Clock} {asked : Option ℕ} (leaf : ℕ) (learner : Learner)
       (dummies real : ℕ) (stop : TreeStop) (tree tree' : TreeState) (clock' : Clock)
       → Begun notes clock asked leaf (memory_of b.memory.now) (tap_of b.tap.now) → clock.next < clock.config.time
-      → tree.shape ≡ clock.config.shape → IfRead (Err stop) (Ran memory_of tap_of Whole (reads tree.shape.levels clock.next leaf) [] b c)
+      → tree.shape ≡ clock.config.shape
+      → IfRead (Err stop) (Ran memory_of tap_of Whole (reads tree.shape.levels clock.next leaf) [] b c)
       (λ s. CutRead memory_of tap_of (end_at s) clock.next leaf tree tree' b c)
       → IfRead (Err stop) (tree'.ended ≡ reads_end tree.shape.levels clock.next)
       (λ _. tree'.ended ≤ reads_end tree.shape.levels clock.next)
@@ -335,7 +336,13 @@ module _ {M W : Type 0} (memory_of : M → MemoryState) (tap_of : W → TapState
           record { kept = refl; same = refl; ends = inl p.0; pace = p.1; in_time = omega (arith, p.0.1, p.0.2, early) }
       by tree.NoMemory read ended =
           let p = cut_pace leaf before after g shape_is read in
-          record { kept = refl; same = refl; ends = inr (inl p.0); pace = p.1; in_time = omega (arith, p.0.1, p.0.2, early) }
+          record {
+            kept = refl;
+            same = refl;
+            ends = inr (inl p.0);
+            pace = p.1;
+            in_time = omega (arith, p.0.1, p.0.2, early);
+          }
 
   -- the pace up to the cycle after a write
   cut_write_pace : {b c : Bus M W} {notes levels : ℕ} {clock : Clock} {cut : RunEnd} (slot : OpenSlot)

@@ -121,7 +121,8 @@ returns-in-Err-read_path-clause-stopped g c =
     (t c.read_path.new.bus.tap.now).log) (sym c.stop_of-stop.ensures)
     (read_stopped m t c.note-2.new.self c.read_path.new.bus c.leaf-leaf.result.0 c.saw.new.self d r
     c.in-Err-read_path.stop c.room.new.self c.read_path.new.self
-    c.stop_at-in-Err-read_path.new.self.clock b c.requires.early (c.room.ensures.same.shape ∙ c.requires.rests.is_for.shape)
+    c.stop_at-in-Err-read_path.new.self.clock b c.requires.early
+    (c.room.ensures.same.shape ∙ c.requires.rests.is_for.shape)
     c.in-Err-read_path.ensures.ran c.in-Err-read_path.ensures.ended is)
 
 pub returns-in-Ok-read_path-clause-noted : goal.returns-in-Ok-read_path-clause-noted
