@@ -1,9 +1,9 @@
--- The trace of a log that is scheduled by a configuration is in the ranges of traces, where its end is less than a slot's
--- cycles after the time of the settings, and its leaves are those of the tree.
-use Rattle.std.proofs.Common.{◌≡◌, ℕ, zero, suc, ◌+◌, ◌*◌, ◌^◌, ◌<◌, ◌≤◌, Bool, true, false, cond, List, [], ◌∷◌, ◌++◌}
-use Rattle.std.proofs.Common.{get_or, length, take, map, refl, sym, ap, subst, ◌∙◌, arith}
-use Rattle.std.specs.Prelude.{◌&&◌, nat_lt, zip, fold, max, All, IsTrue}
-use Rattle.std.specs.List.{AllByRecursion, filter, list_all}
+-- The trace of a log that is scheduled by a configuration is in the ranges of traces, where its end comes less than a
+-- slot's cycles after the time of the settings, and its leaves are those of the tree.
+use Rattle.std.proofs.Common.{◌≡◌, ℕ, zero, suc, ◌+◌, ◌*◌, ◌^◌, ◌<◌, ◌≤◌, Bool, true, false, cond, List, [], ◌∷◌}
+use Rattle.std.proofs.Common.{length, take, map, sym, ap, subst, ◌∙◌, arith}
+use Rattle.std.specs.Prelude.{nat_lt, zip, fold, max, All}
+use Rattle.std.specs.List.{AllByRecursion, filter}
 use Rattle.std.specs.List.Sorted.{IsStrictlyIncreasing}
 use Rattle.std.proofs.lemmas.Bool.Decides.{nat_tests}
 use Rattle.std.proofs.lemmas.List.{take_all}
@@ -13,13 +13,11 @@ use Rattle.asc_base.specs.TreeShape.{olat_of}
 use Rattle.asc_base.specs.declared.settings.Config.{Config}
 use Rattle.asc_base.proofs.RateLists.{power_count-le}
 use Rattle.asc_base.proofs.ShapeFacts.{shape_layered}
-use Rattle.bus_watch.specs.declared.log.Event.{Event}
-use Rattle.bus_watch.specs.declared.log.Event.TheVariants.{Access, Drawn, Tagged, Accepted, Chosen, Answered}
 use Rattle.bus_watch.specs.declared.log.Move.{Move}
 use Rattle.bus_watch.specs.Log.{LogLists}
 use Rattle.bus_watch.specs.Path.{slot_moves}
 use Rattle.bus_schedule.specs.Scheduled.{IsScheduled, log_code}
-use Rattle.bus_schedule.specs.Shown.{leaf_of, leaves_of, starts_of}
+use Rattle.bus_schedule.specs.Shown.{leaves_of, starts_of}
 use Rattle.bus_schedule.specs.Timetable.{Public, public_of, count_of, starts as starts_up_to, slots_within, timetable}
 use Rattle.bus_schedule.proofs.PublicParts.{count-power, first-among}
 use Rattle.bus_schedule.proofs.SlotMoves.{length-slot, slot-begun}

@@ -49,8 +49,8 @@ keys_from config master =
 -- It refines the flat run, or its log shows a forgery. Its log keeps the pace up to the reported end, which comes less
 -- than a slot's cycles after the time of the settings, and draws leaves of the tree; its choices tell no more bits than
 -- the settings allow; slots, choices, their code and answered lines are as reported; it is tied to what the memory was
--- asked, and over a memory that told its buckets no reply was altered; where none was, the report is the flat run's, and
--- the run doesn't end by evidence; a failure has its cause; and the ending is right.
+-- asked, and over a memory that told its buckets no reply was altered; where none was, the report is the flat run's,
+-- and the run doesn't end by evidence; a failure has its cause; and the ending is right.
 pub record IsRunOf (config : Config) (image : Image) (input key : List ℕ) (lent : Lent) (report : Report)
     : Type 0 where
   pub pace : KeepsPace config report.last lent.tap'.log

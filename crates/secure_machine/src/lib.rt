@@ -225,8 +225,8 @@ fn run_prepared<M: UntrustedMemory, W: Watch, L: LeafFn>(
 ///
 /// `NoMemory` is want of memory. All memory for output, log and stash is taken before the first slot; after it only the
 /// held blocks, a reply that the tap keeps, the mirror and the memory's own write can want any. Where the memory fails
-/// before the first slot the ending is `Device`, and all numbers are 0. The run's schedule ends less than a slot's cycles
-/// after the time of the settings.
+/// before the first slot the ending is `Device`, and all numbers are 0. The run's schedule ends less than a slot's
+/// cycles after the time of the settings.
 pub fn run<M: UntrustedMemory, W: Watch, L: LeafFn>(
     alloc: Global,
     config: &Config,
