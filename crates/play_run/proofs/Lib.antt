@@ -5,3 +5,4 @@ pub mod Ends
 pub mod Costs
 pub mod Runs
 pub mod Reports
+pub mod Calls
