@@ -3,6 +3,7 @@
 ghost use Rattle.std.specs.Prelude.{◌≡◌, ◌<◌, ◌≤◌, ◌+◌, ◌*◌, ◌⊎◌, ℕ, suc, min, List, [], ◌∷◌, ◌++◌, None, Ok, Err};
 ghost use Rattle.std.specs.Prelude.{length, replicate};
 ghost use Rattle.asc_base.specs.Has.{Has};
+ghost use Rattle.asc_base.specs.Settings.{IsConfig};
 ghost use Rattle.asc_base.specs.TreeShape.{olat_of};
 ghost use Rattle.asc_base.specs.declared.block.Line.{Line};
 ghost use Rattle.asc_base.specs.declared.settings.Config.{Config};
@@ -19,7 +20,7 @@ ghost use Rattle.oram_contents.specs.Forgery.{Forgery};
 ghost use Rattle.oram_frontend.specs.Oram.{OramState, OramStep, Told, Wait};
 ghost use Rattle.oram_play.specs.Playing.{PlaysAs};
 ghost use Rattle.play_run.specs.Follows.{Follows, with_fetches, StopLeaves};
-ghost use Rattle.play_run.specs.Given.{RequestPlays, RequestStops, WaitPlays, WaitStops};
+ghost use Rattle.play_run.specs.Given.{CallsPlay, RequestPlays, RequestStops, WaitPlays, WaitStops};
 ghost use Rattle.play_run.specs.Shows.{RunShows, StopShows, shown_report, IsPlayed};
 ghost use Rattle.play_run.specs.Stands.{spent, numbers_of, StandsInImage, StandsInRun, EndsIn, InstructionLeaves};
 ghost use Rattle.play_run.specs.Timed.{TimedState, TimedStep, CanAsk};
@@ -32,6 +33,14 @@ ghost use Rattle.run_play.specs.Turns.{line_slots};
 ghost use Rattle.rv32_core.specs.Machine.{Machine, IsCore};
 ghost use Rattle.rv32_core.specs.StepPlan.{step_plan};
 ghost use Rattle.rv32_core.specs.declared.outcome.Done.{Done};
+
+/// Each call of an encrypted memory that stands in a play takes the slots of the play's request, and where it is stopped
+/// leaves a cut of them; so does a wait with its dummies; and a new one stands where the play begins. Else the log shows
+/// a forgery. These are the premises of the laws below.
+pub fn calls_take_slots()
+    ensures { (keys : Keys) → AreKeys keys → (levels : ℕ) (config : Config) → IsConfig config
+        → CallsPlay keys levels config }
+{}
 
 /// A plan of requests for lines that an encrypted memory answers takes the slots of the play of that plan, answers what
 /// the play does, and stands where it stands; and one that is stopped leaves of all these slots what the stop says.

@@ -3,7 +3,7 @@
 //! `specs/Follows.antt` says when the lines of an encrypted memory with a clock stand where a play stands,
 //! `specs/Stands.antt` where a run over a cache stands in a whole play, and `specs/Shows.antt` what its report and its
 //! log show of the play: all of it, or the play cut by a stop. `specs/Given.antt` has what one call of an encrypted
-//! memory is to do.
+//! memory does.
 //!
 //! The crate has laws alone; the calls do nothing.
 #![tactic(auto)]
@@ -12,6 +12,7 @@ mod laws;
 mod rows;
 
 pub use laws::{
-    ends_show_the_play, image_lines_take_slots, instructions_stand_in_the_play, plans_take_slots,
+    calls_take_slots, ends_show_the_play, image_lines_take_slots, instructions_stand_in_the_play,
+    plans_take_slots,
 };
 pub use rows::reports_have_rows;
