@@ -1,5 +1,5 @@
 -- Each call of an encrypted memory takes the slots of the play that it stands in.
-use Rattle.std.proofs.Common.{◌≡◌, ◌<◌, ◌⊎◌, inl, inr, ℕ, List, Option, Err, refl, subst, arith}
+use Rattle.std.proofs.Common.{◌≡◌, ◌<◌, inl, inr, ℕ, List, Option, refl, subst, arith}
 use Rattle.asc_base.specs.Settings.{IsConfig}
 use Rattle.asc_base.specs.declared.block.Line.{Line}
 use Rattle.asc_base.specs.declared.settings.Config.{Config}
@@ -8,8 +8,7 @@ use Rattle.asc_base.specs.declared.stop.Stop.TheVariants.{Integrity, StashFull, 
 use Rattle.bus_schedule.specs.Timetable.{public_of}
 use Rattle.data_cache.specs.Lines.{LineRequest, Fetch, Store}
 use Rattle.oram_contents.specs.Entries.{Keys, AreKeys}
-use Rattle.oram_contents.specs.Forgery.{Forgery}
-use Rattle.oram_frontend.specs.Oram.{OramState, OramStep, Wait}
+use Rattle.oram_frontend.specs.Oram.{OramState}
 use Rattle.oram_lines.specs.Lines.{IsRequest}
 use Rattle.oram_play.specs.Playing.{PlaysAs, IsCut, IsTold, LeavesOf, called}
 use Rattle.oram_play.specs.Stopped.{WaitLeaves}

@@ -278,21 +278,16 @@ pub fn run<M: UntrustedMemory, W: Watch, L: LeafFn>(
     ensures refines { IfOk result (λ report.
         Forgery (chip_keys config.now codec tagger (L.leaf_of leaf)) (W.state bus.new.tap.now).log
         ⊎ IsFlatReport config.now image.now input.now report) }
-    ensures plays { CallsPlay (chip_keys config.now codec tagger (L.leaf_of leaf)) config.now.shape.levels config.now
-        → IfOk result (λ report.
+    ensures plays { IfOk result (λ report.
         Forgery (chip_keys config.now codec tagger (L.leaf_of leaf)) (W.state bus.new.tap.now).log
         ⊎ IsPlayed config.now (play_with config.now image.now input.now) (play_report report)
         (W.state bus.new.tap.now).log) }
     ensures flat_unaltered { (W.state bus.new.tap.now).log.altered ≡ []
         → IfOk result (IsFlatReport config.now image.now input.now) }
-    ensures plays_unaltered { CallsPlay (chip_keys config.now codec tagger (L.leaf_of leaf)) config.now.shape.levels
-        config.now
-        → (W.state bus.new.tap.now).log.altered ≡ []
+    ensures plays_unaltered { (W.state bus.new.tap.now).log.altered ≡ []
         → IfOk result (λ report. IsPlayed config.now (play_with config.now image.now input.now) (play_report report)
         (W.state bus.new.tap.now).log) }
-    ensures plays_told { CallsPlay (chip_keys config.now codec tagger (L.leaf_of leaf)) config.now.shape.levels
-        config.now
-        → IsSome (M.state bus.old.memory.now).told
+    ensures plays_told { IsSome (M.state bus.old.memory.now).told
         → IfOk result (λ report. IsPlayed config.now (play_with config.now image.now input.now) (play_report report)
         (W.state bus.new.tap.now).log) }
     ensures honest { (W.state bus.new.tap.now).log.altered ≡ []
