@@ -6,3 +6,4 @@ pub mod Costs
 pub mod Runs
 pub mod Reports
 pub mod Calls
+pub mod Whole

@@ -83,3 +83,18 @@ pub record IsPlayed (config : Config) (whole : Play) (report : PlayReport) (log 
   pub slots : AreShown run.ending shown run.slots
   pub events : said_of_all log.events ≡ play_events shown
   pub report_is : report ≡ report_of (public_of config) run
+
+-- So of the whole play.
+pub record IsWholePlay (config : Config) (whole : Play) (report : PlayReport) (log : LogLists) : Type 0 where
+  pub events : said_of_all log.events ≡ play_events whole.slots
+  pub report_is : report ≡ report_of (public_of config) whole
+
+-- an ending that is no stop of the memory's
+abbrev pub IsOwn : PlayEnding → Type 0
+IsOwn (how.Exited status) = Unit {0}
+IsOwn (how.Trapped kind pc) = Unit {0}
+IsOwn how.Budget = Unit {0}
+IsOwn (how.TimeUp at) = Unit {0}
+IsOwn (how.StashFull held) = ⊥
+IsOwn (how.Integrity evidence) = ⊥
+IsOwn how.Device = ⊥

@@ -21,12 +21,13 @@ ghost use Rattle.oram_frontend.specs.Oram.{OramState, OramStep, Told, Wait};
 ghost use Rattle.oram_play.specs.Playing.{PlaysAs};
 ghost use Rattle.play_run.specs.Follows.{Follows, with_fetches, StopLeaves};
 ghost use Rattle.play_run.specs.Given.{CallsPlay, RequestPlays, RequestStops, WaitPlays, WaitStops};
-ghost use Rattle.play_run.specs.Shows.{RunShows, StopShows, shown_report, IsPlayed};
+ghost use Rattle.play_run.specs.Shows.{RunShows, StopShows, shown_report, IsPlayed, IsWholePlay, IsOwn};
 ghost use Rattle.play_run.specs.Stands.{spent, numbers_of, StandsInImage, StandsInRun, EndsIn, InstructionLeaves};
 ghost use Rattle.play_run.specs.Timed.{TimedState, TimedStep, CanAsk};
 ghost use Rattle.request_plan.specs.Plan.{Plan, Ends, Stops, through};
 ghost use Rattle.request_plan.specs.Play.{play, bare};
 ghost use Rattle.run_play.specs.Play.{Play, PlayEnding, Budget, TimeUp, play_of};
+ghost use Rattle.run_play.specs.PlayEvents.{PlayReport};
 ghost use Rattle.run_play.specs.Requests.{Standing, standing_at_start};
 ghost use Rattle.run_play.specs.Slots.{Slot, Numbers};
 ghost use Rattle.run_play.specs.Turns.{line_slots};
@@ -96,8 +97,7 @@ pub fn image_lines_take_slots()
 
 /// Where a run stands in a whole play before an instruction, the real cache's requests take the slots of the play's
 /// instruction, and the core comes to its machine and ending: the run stands before the next one at the end of the
-/// cost,
-/// or ends with the exit or the trap. A request that is stopped shows the play cut by the stop, or its end where no
+/// cost, or ends with the exit or the trap. A request that is stopped shows the play cut by the stop, or its end where no
 /// time is left. Where no time or no instruction is left the run ends so.
 pub fn instructions_stand_in_the_play()
     ensures ends { (keys : Keys) (levels : ℕ) (config : Config) → AreKeys keys → RequestPlays keys levels config
@@ -147,4 +147,11 @@ pub fn ends_show_the_play()
     ensures reports { (config : Config) (whole : Play) (ending : PlayEnding) (numbers : Numbers) (last : ℕ)
         (log : LogLists) → RunShows config.shape.levels whole ending numbers last log
         → IsPlayed config whole (shown_report (public_of config) ending numbers last log) log }
+{}
+
+/// A run that is played and ends by no stop of its memory's is the whole play: its report is the play's, and the log's
+/// events are those of its slots, one by one.
+pub fn own_ends_show_the_whole_play()
+    ensures { (config : Config) (whole : Play) (report : PlayReport) (log : LogLists)
+        → IsPlayed config whole report log → IsOwn report.ending → IsWholePlay config whole report log }
 {}

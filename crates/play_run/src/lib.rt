@@ -13,6 +13,6 @@ mod rows;
 
 pub use laws::{
     calls_take_slots, ends_show_the_play, image_lines_take_slots, instructions_stand_in_the_play,
-    plans_take_slots,
+    own_ends_show_the_whole_play, plans_take_slots,
 };
 pub use rows::reports_have_rows;
