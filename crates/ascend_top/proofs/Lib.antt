@@ -9,3 +9,4 @@ pub mod RunLaws
 pub mod StepLaws
 pub mod TraceLaws
 pub mod HeadlineLaws
+pub mod PlayLaws

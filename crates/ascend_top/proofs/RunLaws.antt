@@ -16,7 +16,11 @@ use Rattle.bus_schedule.specs.Timetable.{public_of}
 use Rattle.epoch_learner.specs.Stands.{KeepsPace}
 use Rattle.oram_contents.specs.Forgery.{Forgery}
 use Rattle.rate_enforcer.specs.Counts.{is_answered, is_dummy, is_real}
+use Rattle.play_run.specs.Shows.{IsPlayed}
+use Rattle.secure_machine.specs.Answered.{answered_lines}
+use Rattle.secure_machine.specs.Fed.{IsFed}
 use Rattle.secure_machine.specs.Finish.{IsRightEnding}
+use Rattle.secure_machine.specs.Plays.{play_report, play_with}
 use Rattle.secure_machine.specs.Run.{DrawsLeaves, IsFlatReport, IsInBudget, IsTiedButLast, IsTiedOr, IsUnprepared}
 use Rattle.secure_machine.specs.declared.report.Ending.TheVariants.{Device, Integrity}
 use Rattle.secure_machine.specs.declared.report.Report.{Report as RunReport}
@@ -183,29 +187,39 @@ module _ (config : Config) (image : Image) (input key : List ℕ) (lent : Lent) 
         → (lent.tap'.log.altered ≡ [] → IfOk result (IsFlatReport config image input))
         → (lent.tap'.log.altered ≡ [] → IfOk result (λ r. (evidence : Evidence) → r.ending ≡ Integrity evidence → ⊥))
         → IfOk result (λ r. Forgery (keys_from config key) lent.tap'.log ⊎ IsFlatReport config image input r)
+        → IfOk result (λ r. Forgery (keys_from config key) lent.tap'.log
+        ⊎ IsPlayed config (play_with config image input) (play_report r) lent.tap'.log)
+        → (lent.tap'.log.altered ≡ []
+        → IfOk result (λ r. IsPlayed config (play_with config image input) (play_report r) lent.tap'.log))
+        → IfOk result (λ r. IsFed config image input r (answered_lines lent.tap'.log.events))
         → IfOk result (IsRunOf config image input key lent)
-    ran_of (Err none) pace in_time real dummies tied device right choices code fetches flat honest refines = tt
-    ran_of (Ok report) pace in_time real dummies tied device right choices code fetches flat honest refines = record {
-      pace = pace;
-      in_time = in_time;
-      leaves = leaves;
-      bits = bits;
-      real = real;
-      dummies = dummies;
-      tied = tied;
-      faults = faults;
-      device = device;
-      right = right;
-      choices = choices;
-      code = code;
-      fetches = fetches;
-      budget = budget;
-      asked = asked;
-      unaltered = unaltered;
-      flat = flat;
-      honest = honest;
-      refines = refines;
-    }
+    ran_of (Err none) pace in_time real dummies tied device right choices code fetches flat honest refines plays played
+        fed = tt
+    ran_of (Ok report) pace in_time real dummies tied device right choices code fetches flat honest refines plays played
+        fed = record {
+          pace = pace;
+          in_time = in_time;
+          leaves = leaves;
+          bits = bits;
+          real = real;
+          dummies = dummies;
+          tied = tied;
+          faults = faults;
+          device = device;
+          right = right;
+          choices = choices;
+          code = code;
+          fetches = fetches;
+          budget = budget;
+          asked = asked;
+          unaltered = unaltered;
+          flat = flat;
+          honest = honest;
+          refines = refines;
+          plays = plays;
+          played = played;
+          fed = fed;
+        }
 
 -- Where the steps of `run` or `gen` before its run were done, and it began so, its run and the steps after it end its
 -- work.

@@ -18,7 +18,11 @@ use Rattle.oram_contents.specs.Entries.{Keys}
 use Rattle.oram_contents.specs.Forgery.{Forgery}
 use Rattle.pmmac_tags.specs.Tag.{tag_key}
 use Rattle.rate_enforcer.specs.Counts.{is_answered, is_dummy, is_real}
+use Rattle.play_run.specs.Shows.{IsPlayed}
+use Rattle.secure_machine.specs.Answered.{answered_lines}
+use Rattle.secure_machine.specs.Fed.{IsFed}
 use Rattle.secure_machine.specs.Finish.{IsRightEnding}
+use Rattle.secure_machine.specs.Plays.{play_report, play_with}
 use Rattle.secure_machine.specs.LastMove.{EndsWithMove}
 use Rattle.secure_machine.specs.Run.{DrawsLeaves, IsFlatReport, IsInBudget, IsTiedButLast, IsTiedOr, IsUnprepared}
 use Rattle.secure_machine.specs.Run.{chip_keys}
@@ -50,7 +54,9 @@ keys_from config master =
 -- than a slot's cycles after the time of the settings, and draws leaves of the tree; its choices tell no more bits than
 -- the settings allow; slots, choices, their code and answered lines are as reported; it is tied to what the memory was
 -- asked, and over a memory that told its buckets no reply was altered; where none was, the report is the flat run's,
--- and the run doesn't end by evidence; a failure has its cause; and the ending is right.
+-- and the run doesn't end by evidence; a failure has its cause; and the ending is right. Report and log are those of
+-- the program's Play, or of the Play cut by a stop, or the log shows a forgery; and whatever was answered, the report is
+-- that of the machine that is fed with the answered lines.
 pub record IsRunOf (config : Config) (image : Image) (input key : List ℕ) (lent : Lent) (report : Report)
     : Type 0 where
   pub pace : KeepsPace config report.last lent.tap'.log
@@ -72,6 +78,11 @@ pub record IsRunOf (config : Config) (image : Image) (input key : List ℕ) (len
   pub flat : lent.tap'.log.altered ≡ [] → IsFlatReport config image input report
   pub honest : lent.tap'.log.altered ≡ [] → (evidence : Evidence) → report.ending ≡ Integrity evidence → ⊥
   pub refines : Forgery (keys_from config key) lent.tap'.log ⊎ IsFlatReport config image input report
+  pub plays : Forgery (keys_from config key) lent.tap'.log
+      ⊎ IsPlayed config (play_with config image input) (play_report report) lent.tap'.log
+  pub played : lent.tap'.log.altered ≡ []
+      → IsPlayed config (play_with config image input) (play_report report) lent.tap'.log
+  pub fed : IsFed config image input report (answered_lines lent.tap'.log.events)
 
 -- The same of a run that found no memory, in it or for the text of its trace: up to some time the log keeps the pace,
 -- and it is on time up to the cycle after its last move.

@@ -35,7 +35,10 @@ use crate::refusal::Refusal;
 use asc_outside::{Host, HostFault, UntrustedMemory};
 use ascend_words::{Command, WordFault, Words, read_words};
 use bus_watch::Recorder;
-pub use laws::{assembled_files_are_accepted, reported_runs_leave_their_files};
+pub use laws::{
+    assembled_files_are_accepted, reported_runs_leave_their_files,
+    runs_over_honest_memory_are_plays,
+};
 pub use status::{HOST_FAILED, NO_MEMORY};
 use std::alloc::Global;
 

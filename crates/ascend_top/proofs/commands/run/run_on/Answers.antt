@@ -33,10 +33,15 @@ returns-clause-ran g c =
     subst (λ (input : List ℕ). IfOk c.run.result (IsRunOf program.config program.image input key lent))
     c.as_slice.ensures.value
     (ran_of program.config program.image c.as_slice.result.now key lent c.run.ensures.bits c.run.ensures.faults
-    c.run.ensures.budget c.run.ensures.asked c.run.ensures.unaltered c.run.ensures.leaves c.run.result c.run.ensures.pace c.run.ensures.last
-    c.run.ensures.real c.run.ensures.dummies c.run.ensures.tied c.run.ensures.device c.run.ensures.right
+    c.run.ensures.budget c.run.ensures.asked c.run.ensures.unaltered c.run.ensures.leaves c.run.result
+    c.run.ensures.pace c.run.ensures.last c.run.ensures.real c.run.ensures.dummies c.run.ensures.tied c.run.ensures.device c.run.ensures.right
     c.run.ensures.choices c.run.ensures.code c.run.ensures.fetches c.run.ensures.flat_unaltered c.run.ensures.honest
     (IfOk-weaker c.run.result _ _ (λ report known. elim known [
       | inl forged ↦ inl (subst (λ (z : Keys). Forgery z lent.tap'.log) same forged)
       | inr flat ↦ inr flat
-    ]) c.run.ensures.refines))
+    ]) c.run.ensures.refines)
+    (IfOk-weaker c.run.result _ _ (λ report known. elim known [
+      | inl forged ↦ inl (subst (λ (z : Keys). Forgery z lent.tap'.log) same forged)
+      | inr played ↦ inr played
+    ]) c.run.ensures.plays)
+    c.run.ensures.plays_unaltered c.run.ensures.fed)
