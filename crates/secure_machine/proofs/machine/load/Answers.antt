@@ -1,4 +1,4 @@
-use Rattle.std.proofs.Common.{ℕ, List, [], ◌∙◌, refl, sym, subst, arith, take, ◌+◌, ◌<◌, drop, length}
+use Rattle.std.proofs.Common.{refl, ℕ, List, [], ◌∙◌, refl, sym, subst, arith, take, ◌+◌, ◌<◌, drop, length}
 use Rattle.std.proofs.lemmas.List.{take_all}
 use Rattle.data_cache.specs.Cached.{StandsAs}
 use Rattle.data_cache.specs.CacheLists.{Sets}
@@ -120,6 +120,7 @@ loop-at-init g c = record {
       c.requires.ready;
   below = c.requires.below;
   refines = λ memory lawful known. known;
+  fed = λ ways sets stands. (refl, stands);
   plays = λ config whole machine lawful calls is_config known.
       image_first g.M.UntrustedMemory.state g.W.Watch.state g.L.LeafFn.leaf_of g.L.LeafFn.levels config whole 0
       (config.time + olat_of config.shape.levels + 0) c.args.image.now.bytes.items machine
