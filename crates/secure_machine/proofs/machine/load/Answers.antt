@@ -1,4 +1,4 @@
-use Rattle.std.proofs.Common.{refl, ℕ, List, [], ◌∙◌, refl, sym, subst, arith, take, ◌+◌, ◌<◌, drop, length}
+use Rattle.std.proofs.Common.{ℕ, List, [], ◌∙◌, refl, sym, subst, arith, take, ◌+◌, ◌<◌, drop, length}
 use Rattle.std.proofs.lemmas.List.{take_all}
 use Rattle.data_cache.specs.Cached.{StandsAs}
 use Rattle.data_cache.specs.CacheLists.{Sets}
