@@ -1,5 +1,5 @@
 -- A run over an honest memory is the whole Play of its program.
-use Rattle.std.proofs.Common.{◌≡◌, ¬, ℕ, List, Option, IsSome, refl}
+use Rattle.std.proofs.Common.{◌≡◌, ℕ, List, Option, IsSome, refl}
 use Rattle.asc_base.specs.declared.stop.Evidence.{Evidence}
 use Rattle.asc_outside.specs.Host.{Files}
 use Rattle.asc_outside.specs.Rose.{Rose}
