@@ -14,7 +14,7 @@ use Rattle.run_play.specs.Halt as cut
 use Rattle.run_play.specs.Halt.{Refused, Overfull, MoveFails, AppendRefused, AppendOverfull, cut_at, part_of, ending_of}
 use Rattle.run_play.specs.Halt.{before_put, after_put}
 use Rattle.run_play.specs.Play as how
-use Rattle.run_play.specs.Play.{Play, PlayEnding, after_slots, ends, times_out}
+use Rattle.run_play.specs.Play.{Play, PlayEnding, after_slots, times_out}
 use Rattle.run_play.specs.PlayEvents.{play_events}
 use Rattle.run_play.specs.Requests.{Standing, Taken}
 use Rattle.run_play.specs.Slots.{Slot, Numbers, Passed}

@@ -15,7 +15,6 @@ use Rattle.rate_enforcer.specs.PortStep.{PortState}
 use Rattle.request_plan.specs.Plan.{Plan, Done, Ask, Ends, Stops}
 use Rattle.request_plan.specs.Play.{Played, play, bare, marked}
 use Rattle.run_play.specs.Halt as cut
-use Rattle.run_play.specs.Halt.{part_of, ending_of}
 use Rattle.run_play.specs.Requests.{Standing, Taken, data_line, requested, request_slots}
 use Rattle.run_play.specs.Slots.{Slot, Numbers}
 use Rattle.run_play.specs.Turns.{unless_late, answered, line_slots}

@@ -40,7 +40,7 @@ use Rattle.play_run.specs.Stands.{image_from, spent, numbers_of, StandsAt, Stand
 use Rattle.play_run.specs.Stands.{InstructionLeaves}
 use Rattle.play_run.specs.Timed.{TimedState, TimedStep, CanAsk}
 use Rattle.play_run.proofs.Cached as cached
-use Rattle.play_run.proofs.Cached.{line_taken, instruction_taken, line_lists}
+use Rattle.play_run.proofs.Cached.{line_taken, instruction_taken}
 use Rattle.play_run.proofs.Costs.{instruction-low}
 use Rattle.play_run.proofs.Ends.{stop-shows}
 use Rattle.play_run.proofs.Kept.{requests-cycles, requests-late, requests-clock}
