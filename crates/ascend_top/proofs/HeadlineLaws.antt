@@ -7,7 +7,7 @@ use Rattle.ascend_words.specs.declared.table.Command.{Command}
 use Rattle.ascend_words.specs.declared.table.Command.TheVariants.{Run, Flat, Asm, Disasm, Check, Gen}
 use Rattle.ascend_top.specs.Command.{CommandEnds, IsLost, IsMade, WorkEnds}
 use Rattle.ascend_top.specs.EncryptedRun.{IsRunOf, IsWantOf, Lent}
-use Rattle.ascend_top.specs.Headline.{CarriesHeadline, Headline, IsCutShort, IsFlatOrPrefix, IsForged, MadeByHeadline}
+use Rattle.ascend_top.specs.Headline.{CarriesHeadline, Headline, IsCutShort, IsForged, MadeByHeadline}
 use Rattle.ascend_top.specs.Headline.{RunsEncrypted}
 use Rattle.ascend_top.specs.Made.{Made, Encrypted, Ran, Assembled, Listed, Held}
 use Rattle.ascend_top.specs.Run.{IsRun}
@@ -21,6 +21,7 @@ headline_of : (program : Program) (key : List ℕ) (lent : Lent) (report : Repor
 headline_of program key lent report is = record {
   flat = turned is.refines;
   honest = λ told. is.flat (is.unaltered told);
+  play = turned is.plays;
   always = record {
     starts = is.pace.scheduled.starts;
     leaves = is.pace.scheduled.leaves;
@@ -30,10 +31,9 @@ headline_of program key lent report is = record {
   };
 }
   where
-    turned : IsForged program key lent.tap'.log ⊎ IsFlatOrPrefix program report
-        → IsFlatOrPrefix program report ⊎ IsForged program key lent.tap'.log
+    turned : {A : Type 0} → IsForged program key lent.tap'.log ⊎ A → A ⊎ IsForged program key lent.tap'.log
     turned (inl forged) = inr forged
-    turned (inr flat) = inl flat
+    turned (inr other) = inl other
 
 -- where memory ran out
 cut_short : (program : Program) (key : List ℕ) (lent : Lent)

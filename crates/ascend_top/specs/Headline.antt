@@ -13,7 +13,9 @@ use Rattle.bus_schedule.specs.Shown.{starts_of, leaves_of}
 use Rattle.bus_schedule.specs.Timetable.{public_of, timetable}
 use Rattle.bus_watch.specs.Log.{LogLists}
 use Rattle.oram_contents.specs.Forgery.{Forgery}
+use Rattle.play_run.specs.Shows.{IsPlayed}
 use Rattle.secure_machine.specs.LastMove.{IsAfter}
+use Rattle.secure_machine.specs.Plays.{play_report, play_with}
 use Rattle.secure_machine.specs.Run.{IsFlatReport}
 use Rattle.secure_machine.specs.declared.report.Report.{Report}
 use Rattle.ascend_words.specs.Grammar.{Pair}
@@ -35,6 +37,11 @@ IsForged program key log = Forgery (keys_from program.config key) log
 abbrev pub IsFlatOrPrefix : Program → Report → Type 0
 IsFlatOrPrefix program report = IsFlatReport program.config program.image program.input.items report
 
+-- Beside the sentence: report and log are those of the program's Play, or of the Play cut by a stop.
+abbrev pub IsPlayOrCut : Program → Report → LogLists → Type 0
+IsPlayOrCut program report log =
+    IsPlayed program.config (play_with program.config program.image program.input.items) (play_report report) log
+
 -- Always: the slots start when the timetable says, one leaf is drawn for each, and the bus's moves are the schedule of
 -- the drawn leaves, the rate code and the end time; and the rate code is below two to the leakage budget. No other move
 -- was asked of the memory.
@@ -49,10 +56,11 @@ pub record IsAlways (config : Config) (lent : Lent) (end : ℕ) : Type 0 where
   pub asked : lent.memory'.moved ≡ lent.memory.moved + length lent.tap'.log.moves
 
 -- The headline, of an accepted program with its input, a key, and a report. Over a memory that tells its buckets there
--- is no forgery.
+-- is no forgery. Which report it is, and which events the log has, the Play says.
 pub record Headline (program : Program) (key : List ℕ) (lent : Lent) (report : Report) : Type 0 where
   pub flat : IsFlatOrPrefix program report ⊎ IsForged program key lent.tap'.log
   pub honest : IsSome lent.memory.told → IsFlatOrPrefix program report
+  pub play : IsPlayOrCut program report lent.tap'.log ⊎ IsForged program key lent.tap'.log
   pub always : IsAlways program.config lent report.last
 
 -- What is left of it where memory runs out: the end time is the cycle after the last move, or 0 where there is none.
