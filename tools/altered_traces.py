@@ -2,7 +2,8 @@
 """Alters traces in many ways, and compares what `ascend check` says of each with what bus_traces.py says: words and
 status. It prints what differs, and how many were compared; the status is 1 where anything differs.
 
-The traces are files that the word trace= of a run named. The alterations are the same each time.
+The traces are files that the word trace= of a run named. The alterations are the same each time. With --prefixes the
+trace's beginnings are compared in their place, of each length from none of its bytes to all of them.
 """
 import argparse
 import os
@@ -41,6 +42,11 @@ def altered(text):
         yield "\n".join(lines)
 
 
+def beginnings(text):
+    """The beginnings of a trace's text, of each length."""
+    return (text[:length] for length in range(len(text) + 1))
+
+
 def said_by_check(ascend, path):
     """What `ascend check` prints, and its status."""
     done = subprocess.run([ascend, "check", f"trace={path}"], capture_output=True, text=True, check=False)
@@ -60,6 +66,7 @@ def main():
     """Compares, and answers the status."""
     parser = argparse.ArgumentParser(description=__doc__, formatter_class=argparse.RawDescriptionHelpFormatter)
     parser.add_argument("traces", nargs="+", metavar="TRACE")
+    parser.add_argument("--prefixes", action="store_true", help="compare the beginnings of each length")
     parser.add_argument("--ascend", default=ASCEND, metavar="FILE", help="the program (the one of this repository)")
     words = parser.parse_args()
     compared = differing = 0
@@ -68,7 +75,7 @@ def main():
         for name in words.traces:
             with open(name, encoding="latin-1", newline="") as file:
                 text = file.read()
-            for number, changed in enumerate(altered(text)):
+            for number, changed in enumerate(beginnings(text) if words.prefixes else altered(text)):
                 with open(path, "w", encoding="latin-1", newline="") as file:
                     file.write(changed)
                 check, here = said_by_check(words.ascend, path), said_here(path)

@@ -3,6 +3,10 @@ use Rattle.asc_base.proofs.ShapeFacts.{shape_layered}
 use Rattle.rate_enforcer.proofs.StateLaws.{opens_less}
 use Rattle.rate_enforcer.proofs.tests.swapped.Goals as goal
 
+pub take-requires : goal.take-requires
+take-requires g c =
+    record { is_open = (c.in-Ok.ensures.opens 0 (c.requires.rests c.in-Ok.ensures.step.1.going)).is_open }
+
 pub close-requires : goal.close-requires
 close-requires g c =
     let o = opens_less 0 (omega arith) (c.in-Ok.ensures.opens 0 (c.requires.rests c.in-Ok.ensures.step.1.going)) in
