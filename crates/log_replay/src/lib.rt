@@ -1,0 +1,12 @@
+//! That an encrypted memory is what its log says, whatever its replies were: what is at hand and in its buckets, what
+//! was noted in each slot, and which stop came.
+//!
+//! `specs/Order.antt` has the order of a log's events, `specs/Judged.antt` what a log shows of a stop and says of the
+//! buckets, and `specs/Replayed.antt` when an encrypted memory is what its log says.
+//!
+//! The crate has laws alone; the calls do nothing.
+#![tactic(auto)]
+
+mod laws;
+
+pub use laws::logs_say_all;
