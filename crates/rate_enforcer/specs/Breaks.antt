@@ -109,8 +109,8 @@ pub record PassesStop (keys : Keys) (stash : ℕ) (stop : Stop) (old new : LogLi
   pub stops : DummyStops keys stash stop mid new between after start (n + done)
 
 -- After so many dummies the slot that was asked for stops.
-pub record AskedStops (keys : Keys) (stash : ℕ) (stop : Stop) (old new : LogLists) (now after : Contents) (start n asked : ℕ)
-    (point : Point) : Type 0 where
+pub record AskedStops (keys : Keys) (stash : ℕ) (stop : Stop) (old new : LogLists) (now after : Contents)
+    (start n asked : ℕ) (point : Point) : Type 0 where
   pub done : ℕ
   pub mid : LogLists
   pub between : Contents

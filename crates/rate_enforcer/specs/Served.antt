@@ -25,10 +25,15 @@ AreFew keys stash zero old new now after n passed = Unit {0}
 AreFew keys stash (suc k) old new now after n (mid, between, start, passed, seeds, dummy) =
     AreFew keys stash k old mid now between n passed × (length after.hand ≤ stash)
 
+-- So many dummies, and few entries at hand after each.
+abbrev pub HavePassed : Keys → ℕ → ℕ → LogLists → LogLists → Contents → Contents → ℕ → Type 0
+HavePassed keys stash k old new now after n =
+    (passed : ArePasses keys k old new now after n) × AreFew keys stash k old new now after n passed
+
 -- Dummies from a number on, as many as the clock counts, and then the slot of a point that was asked for at a time: its
 -- path is read, and mirror and seed are as after the dummies.
-pub record IsServed (keys : Keys) (stash : ℕ) (old new : LogLists) (now after : Contents) (n : ℕ) (clock : Clock) (asked : ℕ)
-    (point : Point) : Type 0 where
+pub record IsServed (keys : Keys) (stash : ℕ) (old new : LogLists) (now after : Contents) (n : ℕ) (clock : Clock)
+    (asked : ℕ) (point : Point) : Type 0 where
   pub mid : LogLists
   pub between : Contents
   pub more : n + (clock.dummies - n) ≡ clock.dummies
