@@ -101,6 +101,11 @@ AreInOrder keys log before dummies (s ∷ later) =
     × (IsDone keys log before s ⊎ (IsBare s × (later ≡ [])))
     × AreInOrder keys log (before ++ events_of keys s) (next_dummy dummies s.point) later
 
+-- Each of these slots, behind some events, was done.
+abbrev pub AreDone : Keys → LogLists → List Event → List SlotNotes → Type 0
+AreDone keys log before [] = Unit {0}
+AreDone keys log before (s ∷ later) = IsDone keys log before s × AreDone keys log (before ++ events_of keys s) later
+
 -- The events of a log are those of slots in order: each slot's leaf is that of its point, dummies are numbered in turn,
 -- what is accepted is what the contents have, under the point's counter and with its tag, and a line that is answered
 -- is that of the block in whose slot it is answered, as it was found.

@@ -1,0 +1,6 @@
+pub mod Few
+pub mod Orders
+pub mod Rests
+pub mod OpenPaths
+pub mod ReplayedLogs
+pub mod SlotSteps
