@@ -4,3 +4,5 @@ pub mod Rests
 pub mod OpenPaths
 pub mod ReplayedLogs
 pub mod SlotSteps
+pub mod BlockSlots
+pub mod Behinds
