@@ -6,3 +6,4 @@ pub mod ReplayedLogs
 pub mod SlotSteps
 pub mod BlockSlots
 pub mod Behinds
+pub mod WholeSlots
