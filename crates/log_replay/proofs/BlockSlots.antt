@@ -79,18 +79,19 @@ found_whole keys joined a (Some e) of_shape is =
     (held_has joined (record { 0 = a }) e is).0 in
     range.0.line
 
+-- a slot that an access asked for at a time is asked for at that time
+pub asked_is : (keys : Keys) (old log : LogLists) (start a time : ℕ) (c : Counter) (asked : Option ℕ)
+    (more later : List Event) → log.events ≡ old.events ++ (drawn_events keys start asked (real a c) ++ more)
+    → log.events ≡ old.events ++ (drawn_events keys start (Some time) (real a c) ++ later) → asked ≡ Some time
+asked_is keys old log start a time c asked more later one other =
+    first_asked start asked (Some time) (Drawn (real a c) (record { 0 = keys.leaf_of (real a c) }) ∷ more)
+    (Drawn (real a c) (record { 0 = keys.leaf_of (real a c) }) ∷ later)
+    (append_cancel_left old.events (drawn_events keys start asked (real a c) ++ more)
+    (drawn_events keys start (Some time) (real a c) ++ later) (sym one ∙ other))
+
 module _ (keys : Keys) (lawful : AreKeys keys) (stash : ℕ) (old log new : LogLists) (now after : Contents)
     (start a time : ℕ) (c : Counter) (found : Option Entry) (ends : IsEnd log new) (n : ℕ) (seeds : HasSeeds now)
     (few : length after.hand ≤ stash) (y : IsReplayedLog keys stash old now n) where
-  pub asked_is : (asked : Option ℕ) (more later : List Event)
-      → log.events ≡ old.events ++ (drawn_events keys start asked (real a c) ++ more)
-      → log.events ≡ old.events ++ (drawn_events keys start (Some time) (real a c) ++ later) → asked ≡ Some time
-  asked_is asked more later one other =
-      first_asked start asked (Some time) (Drawn (real a c) (record { 0 = keys.leaf_of (real a c) }) ∷ more)
-      (Drawn (real a c) (record { 0 = keys.leaf_of (real a c) }) ∷ later)
-      (append_cancel_left old.events (drawn_events keys start asked (real a c) ++ more)
-      (drawn_events keys start (Some time) (real a c) ++ later) (sym one ∙ other))
-
   -- what is noted up to the choice at the slot's end
   noted_to_end : (asked : Option ℕ) (put : Option Message) → asked ≡ Some time
       → log.events ≡ old.events ++ (drawn_events keys start asked (real a c) ++ (accepted a c found ++ put_events put))

@@ -7,3 +7,5 @@ pub mod SlotSteps
 pub mod BlockSlots
 pub mod Behinds
 pub mod WholeSlots
+pub mod Ports
+pub mod PortStarts
