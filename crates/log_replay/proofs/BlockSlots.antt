@@ -1,5 +1,5 @@
 -- The slot of a block keeps what is known of a log, and nothing stands behind it yet.
-use Rattle.std.proofs.Common.{◌≡◌, ◌<◌, ◌≤◌, ◌+◌, ℕ, false, List, [], ◌∷◌, ◌++◌, length, Option, None, Some, refl, sym}
+use Rattle.std.proofs.Common.{◌≡◌, ◌<◌, ◌≤◌, ℕ, false, List, [], ◌∷◌, ◌++◌, length, Option, None, Some, refl, sym}
 use Rattle.std.proofs.Common.{◌∙◌, ap, subst, append-nil, append_assoc}
 use Rattle.std.proofs.lemmas.List.{append_cancel_left}
 use Rattle.asc_base.proofs.Members.{all_has}
@@ -62,8 +62,8 @@ block_notes start time a c found put chosen = record {
 abbrev pub counting : Counter → Ghost
 counting c = record first_ghost { count = λ b. c }
 
-first_asked : (start : ℕ) (asked other : Option ℕ) (xs ys : List Event) → Access start asked ∷ xs ≡ Access start other ∷ ys
-    → asked ≡ other
+first_asked : (start : ℕ) (asked other : Option ℕ) (xs ys : List Event)
+    → Access start asked ∷ xs ≡ Access start other ∷ ys → asked ≡ other
 first_asked start asked other xs ys is = cc
 
 zero_whole : length zero_line ≡ 64

@@ -1,25 +1,20 @@
 -- Between two slots a log's moves end with a whole slot, or there are none; so the log says the buckets.
-use Rattle.std.proofs.Common.{◌≡◌, ◌+◌, ◌++◌, inl, inr, ℕ, zero, suc, true, false, if◌then◌else◌, ◌==◌, Bool, List, []}
+use Rattle.std.proofs.Common.{◌≡◌, ◌+◌, ◌++◌, inl, inr, ℕ, false, if◌then◌else◌, ◌==◌, Bool, List, []}
 use Rattle.std.proofs.Common.{◌∷◌, length, refl, sym, ◌∙◌, ap, arith, append-nil, append_assoc}
-use Rattle.std.specs.List.{flat_map}
 use Rattle.std.proofs.lemmas.Bool.Decides.{eqb_tells}
-use Rattle.std.proofs.lemmas.List.Concat.{flat_map-append}
 use Rattle.bus_schedule.specs.Schedule.{moves_of}
-use Rattle.bus_schedule.specs.Shown.{leaf_of, leaves_of}
+use Rattle.bus_schedule.specs.Shown.{leaves_of}
 use Rattle.bus_watch.specs.Log.{LogLists}
 use Rattle.bus_watch.specs.Path.{slot_moves}
-use Rattle.bus_watch.specs.declared.log.Event.{Event}
 use Rattle.bus_watch.specs.declared.log.Move.{Move}
 use Rattle.oram_contents.specs.Contents.{Contents}
 use Rattle.oram_contents.specs.Entries.{Keys}
-use Rattle.oram_contents.specs.Fold.{Whole, settle, partly, fold_events, written_ok, contents_of_log, whole}
-use Rattle.oram_contents.specs.PathWritten.{sealed}
-use Rattle.oram_contents.specs.Provenance.{Always}
+use Rattle.oram_contents.specs.Fold.{Whole, settle, partly, fold_events, written_ok}
 use Rattle.oram_contents.specs.Starts.{empty_log, first_contents, first_fold}
 use Rattle.oram_contents.proofs.Cuts.{whole_contents}
 use Rattle.oram_contents.proofs.StartLaws.{start_always}
 use Rattle.log_replay.specs.Judged.{SaysMirror}
-use Rattle.log_replay.specs.Order.{SlotNotes, events_of}
+use Rattle.log_replay.specs.Order.{SlotNotes}
 use Rattle.log_replay.proofs.Orders.{all_events}
 use Rattle.log_replay.proofs.ReplayedLogs.{IsReplayedLog}
 
@@ -55,9 +50,6 @@ module _ (keys : Keys) (stash : ℕ) (log : LogLists) (now : Contents) (n : ℕ)
           let none : written_ok Whole log.moves ≡ 0 = ap (written_ok Whole) moves in
           elim (eqb_tells (written_ok Whole log.moves) (keys.shape.levels + 1))
           [ inl same ↦ absurd (omega (arith, same.1, none)) | inr other ↦ other.0 ]
-
-      none_sealed : (partly keys 0 (first_fold keys)).mirror ≡ (first_contents keys).mirror
-      none_sealed = refl
 
       by_slots : (slots : List SlotNotes) → log.events ≡ all_events keys slots → SaysMirror keys log Whole now.mirror
       by_slots [] none =
