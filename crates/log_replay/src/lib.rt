@@ -6,7 +6,3 @@
 //!
 //! The crate has laws alone; the calls do nothing.
 #![tactic(auto)]
-
-mod laws;
-
-pub use laws::logs_say_all;

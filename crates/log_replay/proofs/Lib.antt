@@ -1,0 +1,10 @@
+pub mod Orders
+pub mod Rests
+pub mod OpenPaths
+pub mod ReplayedLogs
+pub mod SlotSteps
+pub mod BlockSlots
+pub mod Behinds
+pub mod WholeSlots
+pub mod Ports
+pub mod PortStarts
