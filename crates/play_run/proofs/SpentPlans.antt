@@ -17,7 +17,7 @@ use Rattle.oram_play.specs.InTurn.{AnsweredAccess, slots_in_turn, AreInTurn, Tak
 use Rattle.oram_play.specs.StopsInTurn.{StopsNext, AtAccess, AtAppend, NoRoom, StopsInTurn}
 use Rattle.oram_play.specs.Taken.{before_asked, asked_start}
 use Rattle.oram_play.proofs.Between.{start-taken, pace-of}
-use Rattle.oram_play.proofs.StopTurns.{fetch-stops, store-stops}
+use Rattle.oram_play.proofs.StopWalks.{fetch-stops, store-stops}
 use Rattle.oram_play.proofs.Turns.{fetch-takes, store-takes}
 use Rattle.oram_walk.specs.Plans.{fetch_plan, store_plan}
 use Rattle.rate_enforcer.specs.PortStep.{PortState, PortStep, PortRequest, Said, Open, Take, Note, Put, Close, Abort}
