@@ -1,6 +1,6 @@
 -- A message that is appended behind a slot, or a line that is answered, keeps what is known of a log.
-use Rattle.std.proofs.Common.{◌≡◌, ◌<◌, inl, ℕ, false, List, [], ◌∷◌, ◌++◌, length, Option, None, Some, refl, sym}
-use Rattle.std.proofs.Common.{◌∙◌, ap, ap₂, subst, arith, append-nil, append_assoc}
+use Rattle.std.proofs.Common.{◌≡◌, ◌<◌, inl, ℕ, false, List, [], ◌∷◌, ◌++◌, length, Option, None, Some, refl, sym, ◌∙◌}
+use Rattle.std.proofs.Common.{ap, ap₂, subst, arith, append-nil, append_assoc}
 use Rattle.std.specs.List.{count_by, flat_map}
 use Rattle.std.proofs.lemmas.List.Concat.{flat_map-append}
 use Rattle.asc_base.specs.declared.block.Address.{Address}
@@ -30,11 +30,11 @@ use Rattle.oram_stash.specs.Entries.{held}
 use Rattle.rate_enforcer.specs.Counts.{is_dummy}
 use Rattle.rate_enforcer.proofs.Counted.{count_more}
 use Rattle.log_replay.specs.Judged.{verdict_on}
-use Rattle.log_replay.specs.Order.{Behind, Appends, Answers, SlotNotes, accepted_events, chosen_events}
-use Rattle.log_replay.specs.Order.{behind_events, events_of, MayStand, IsTaken, IsDone, AreInOrder, AreDone, LogOrder}
+use Rattle.log_replay.specs.Order.{Behind, Appends, Answers, SlotNotes, accepted_events, chosen_events, behind_events}
+use Rattle.log_replay.specs.Order.{events_of, MayStand, IsTaken, IsDone, AreInOrder, AreDone, LogOrder}
 use Rattle.log_replay.proofs.BlockSlots.{IsBehindBlock}
-use Rattle.log_replay.proofs.Orders.{all_events, behind_none, read_kept, order_kept, all_done_kept}
-use Rattle.log_replay.proofs.Orders.{order_more, done_more, order_front, order_last, done_front}
+use Rattle.log_replay.proofs.Orders.{all_events, behind_none, read_kept, order_kept, all_done_kept, order_more}
+use Rattle.log_replay.proofs.Orders.{done_more, order_front, order_last, done_front}
 use Rattle.log_replay.proofs.ReplayedLogs.{IsReplayedLog}
 
 -- where nothing is wrong with an append none of its address is at hand

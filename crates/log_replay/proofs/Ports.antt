@@ -1,7 +1,7 @@
 -- What answered requests of a port leave: its log goes on noting slots in order, and says its contents, whatever the
 -- replies were.
-use Rattle.std.proofs.Common.{◌≡◌, ◌<◌, ◌≤◌, ◌+◌, ◌-◌, ℕ, List, [], ◌∷◌, ◌++◌, length, Option, None, Some, Ok}
-use Rattle.std.proofs.Common.{refl, sym, ◌∙◌, ap, subst, arith}
+use Rattle.std.proofs.Common.{◌≡◌, ◌<◌, ◌≤◌, ◌+◌, ◌-◌, ℕ, List, [], ◌∷◌, ◌++◌, length, Option, None, Some, Ok, refl}
+use Rattle.std.proofs.Common.{sym, ◌∙◌, ap, subst, arith}
 use Rattle.asc_base.specs.declared.block.Line.{Line}
 use Rattle.asc_base.specs.declared.block.Message.{Message}
 use Rattle.asc_base.specs.declared.shape.Shape.{Shape}
