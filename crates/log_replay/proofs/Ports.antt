@@ -63,7 +63,7 @@ port_of_log keys s stash n fits same count x = record {
 }
 
 -- what is known of a port's log behind a slot, and back
-behind_of : (keys : Keys) (a : ℕ) (line : List ℕ) (s : PortState) → IsBehindSlot keys a line s
+pub behind_of : (keys : Keys) (a : ℕ) (line : List ℕ) (s : PortState) → IsBehindSlot keys a line s
     → IsBehindBlock keys s.tree.stash s.tap.log (contents s) s.clock.dummies a line
 behind_of keys a line s b = record {
   replayed = record {
