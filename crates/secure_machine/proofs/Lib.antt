@@ -4,6 +4,7 @@ pub mod WalkGoes
 pub mod OramGoes
 pub mod NotedLines
 pub mod Asked
+pub mod Replaying
 pub mod LineChains
 pub mod Settles
 pub mod Starts

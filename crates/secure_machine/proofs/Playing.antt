@@ -519,7 +519,7 @@ module _ {M W L : Type 0} (memory_of : M → MemoryState) (tap_of : W → TapSta
   settings_by budget n instructions cycles (StopsBy stop) old new h = h.config
 
   pub halts_config : (budget : ℕ) (halted : Halted) (s t : Lines) (o : Oram L) → s.oram.now ≡ o
-      → HaltsOver memory_of tap_of levels_of budget halted s t
+      → HaltsOver memory_of tap_of leaf_of levels_of budget halted s t
       → t.oram.now.port.clock.config ≡ o.port.clock.config
   halts_config budget halted s t o is h =
       settings_by budget _ halted.instructions halted.cycles halted.cause (timed s).oram.port (timed t).oram h.halts

@@ -35,7 +35,7 @@ use Rattle.secure_machine.specs.Same.{IsSameLines, timed_of, keys_in, oram_over}
 use Rattle.oram_frontend.specs.declared.oram.Oram.{Oram}
 use Rattle.rate_enforcer.specs.Served.{keys_of}
 use Rattle.secure_machine.specs.declared.lines.TimedLines.{TimedLines}
-use Rattle.secure_machine.proofs.LineChains.{LinesStep, same_lines, same_then}
+use Rattle.secure_machine.proofs.LineChains.{LinesStep, same_lines, same_then, keys_stay}
 
 -- one line more is written
 pub loaded_more : (image marked : List ℕ) (at line : ℕ) (memory : List ℕ) → at < length marked
@@ -66,12 +66,7 @@ module _ {M W L : Type 0} (memory_of : M → MemoryState) (tap_of : W → TapSta
 
   -- the keys stay
   pub keys_same : (s t : Lines) → IsSameLines s t → keys_in leaf_of t ≡ keys_in leaf_of s
-  keys_same s t same = λ i. record {
-    shape = same.tree.shape i;
-    pads = same.tree.key i;
-    tags = same.tagger i;
-    leaf_of = leaf_of (same.leaves i);
-  }
+  keys_same s t same = keys_stay leaf_of s t same
 
   -- one request
   line_call : (s t : Lines) (request : LineRequest) (bytes : List ℕ) → Step s request (Ok bytes) t

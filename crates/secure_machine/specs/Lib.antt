@@ -9,3 +9,4 @@ pub mod LastMove
 pub mod Answered
 pub mod Fed
 pub mod Plays
+pub mod Judged

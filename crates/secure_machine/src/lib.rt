@@ -21,7 +21,7 @@ pub use report::{Ending, Report};
 #[cfg(test)]
 mod tests;
 
-ghost use Rattle.std.specs.Prelude.{◌≡◌, ◌⊎◌, ◌<◌, ◌≤◌, ◌+◌, ◌*◌, ◌^◌, ℕ, [], IfOk, IsSome, OnErr, length};
+ghost use Rattle.std.specs.Prelude.{◌≡◌, ◌⊎◌, ◌<◌, ◌≤◌, ◌+◌, ◌*◌, ◌^◌, ℕ, [], None, IfOk, IsSome, OnErr, length};
 ghost use Rattle.std.specs.List.{count_by};
 ghost use Rattle.asc_base.specs.Settings.{IsConfig};
 ghost use Rattle.asc_base.specs.TreeShape.{olat_of};
@@ -48,10 +48,15 @@ ghost use Rattle.rate_enforcer.specs.Served.{keys_of};
 ghost use Rattle.rate_enforcer.specs.Counts.{IsCounted, is_dummy, is_real, is_answered};
 ghost use Rattle.secure_machine.specs.Answered.{answered_lines};
 ghost use Rattle.secure_machine.specs.Fed.{IsFed};
+ghost use Rattle.log_replay.specs.Given.{CallsReplay};
+ghost use Rattle.log_replay.specs.Judged.{verdict_on, BreaksOffReading, SaysMirror};
+ghost use Rattle.log_replay.specs.Order.{LogOrder};
+ghost use Rattle.log_replay.specs.Replayed.{IsReplayed};
 ghost use Rattle.play_run.specs.Given.{CallsPlay};
 ghost use Rattle.play_run.specs.Shows.{IsPlayed};
 ghost use Rattle.secure_machine.specs.Plays.{play_report, play_with};
 ghost use Rattle.secure_machine.specs.Finish.{IsRightEnding};
+ghost use Rattle.secure_machine.specs.Judged.{ShowsEnding, EndsReplayed, WantsReplayed, SaysWanting, log_end};
 ghost use Rattle.secure_machine.specs.Run.{Reported, Wanting, IsFlatReport, IsUnprepared, IsTiedOr, IsTiedButLast, chip_keys, start_of, IsInBudget, DrawsLeaves};
 ghost use Rattle.secure_machine.specs.LastMove.{EndsWithMove};
 ghost use Rattle.secure_machine.specs.Same.{oram_over};
@@ -66,6 +71,7 @@ use bus_watch::{Bus, BusStop, Watch};
 use data_cache::Cache;
 use elf_loader::Image;
 use leaf_function::LeafFn;
+use log_replay::logs_say_all;
 use oram_frontend::Oram;
 use pmmac_tags::Tagger;
 use rate_enforcer::Port;
@@ -203,6 +209,18 @@ fn run_prepared<M: UntrustedMemory, W: Watch, L: LeafFn>(
         (M.state bus.new.memory.now) (W.state bus.old.tap.now) (W.state bus.new.tap.now)) }
     ensures wanting { OnErr result (Wanting config.now (M.state bus.old.memory.now)
         (M.state bus.new.memory.now) (W.state bus.old.tap.now) (W.state bus.new.tap.now)) }
+    ensures replays { CallsReplay (keys_of oram.port.tree oram.tagger (L.leaf_of oram.port.leaves))
+        (L.levels oram.port.leaves)
+        → IsReplayed (keys_of oram.port.tree oram.tagger (L.leaf_of oram.port.leaves))
+        (oram_over M.state W.state oram bus.old.memory.now bus.old.tap.now)
+        → IfOk result (λ report. EndsReplayed (keys_of oram.port.tree oram.tagger (L.leaf_of oram.port.leaves))
+        config.now.stash report.ending (W.state bus.new.tap.now)) }
+    ensures replays_err { CallsReplay (keys_of oram.port.tree oram.tagger (L.leaf_of oram.port.leaves))
+        (L.levels oram.port.leaves)
+        → IsReplayed (keys_of oram.port.tree oram.tagger (L.leaf_of oram.port.leaves))
+        (oram_over M.state W.state oram bus.old.memory.now bus.old.tap.now)
+        → OnErr result (WantsReplayed (keys_of oram.port.tree oram.tagger (L.leaf_of oram.port.leaves))
+        config.now.stash (W.state bus.new.tap.now)) }
 {
     are_counted(image);
     let mut core = Core::new(image.entry, config.base, config.size, image.heap);
@@ -294,8 +312,23 @@ pub fn run<M: UntrustedMemory, W: Watch, L: LeafFn>(
         → IfOk result (λ report. (evidence : Evidence) → report.ending ≡ Ending.Integrity evidence → ⊥) }
     ensures fed { IfOk result (λ report.
         IsFed config.now image.now input.now report (answered_lines (W.state bus.new.tap.now).log.events)) }
+    ensures order { LogOrder (chip_keys config.now codec tagger (L.leaf_of leaf)) (W.state bus.new.tap.now).log }
+    ensures verdict { IfOk result (λ report. ShowsEnding (chip_keys config.now codec tagger (L.leaf_of leaf))
+        config.now.stash report.ending (W.state bus.new.tap.now).log) }
+    ensures verdict_err { OnErr result
+        ((verdict_on (chip_keys config.now codec tagger (L.leaf_of leaf)) config.now.stash
+        (W.state bus.new.tap.now).log ≡ None)
+        ⊎ BreaksOffReading (chip_keys config.now codec tagger (L.leaf_of leaf)) config.now.stash
+        (W.state bus.new.tap.now).log) }
+    ensures contents { IfOk result (λ report. SaysMirror (chip_keys config.now codec tagger (L.leaf_of leaf))
+        (W.state bus.new.tap.now).log (log_end report.ending) (W.state bus.new.tap.now).mirror
+        ⊎ IsUnprepared report (W.state bus.old.tap.now) (W.state bus.new.tap.now)) }
+    ensures contents_err { OnErr result (SaysWanting (chip_keys config.now codec tagger (L.leaf_of leaf))
+        (W.state bus.new.tap.now).log (W.state bus.new.tap.now).mirror
+        ⊎ (W.state bus.new.tap.now ≡ W.state bus.old.tap.now)) }
 {
     leaf.gives_leaves();
+    logs_say_all();
     let files = Files::new(alloc, input, OUTPUT_LIMIT)?;
     let cache = Cache::new(alloc, config.sets, config.ways)?;
     let oram = new_oram(alloc, config, leaf, tagger, codec)?;

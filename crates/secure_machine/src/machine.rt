@@ -6,6 +6,8 @@ ghost use Rattle.data_cache.specs.Cached.{StandsAs};
 ghost use Rattle.asc_base.specs.Settings.{IsConfig};
 ghost use Rattle.asc_base.specs.TreeShape.{olat_of};
 ghost use Rattle.asc_base.specs.declared.settings.Config.{Config};
+ghost use Rattle.log_replay.specs.Given.{CallsReplay};
+ghost use Rattle.log_replay.specs.Replayed.{IsReplayed};
 ghost use Rattle.play_run.specs.Given.{CallsPlay};
 ghost use Rattle.play_run.specs.Shows.{RunShows};
 ghost use Rattle.play_run.specs.Stands.{numbers_of, StandsInImage};
@@ -28,7 +30,7 @@ ghost use Rattle.secure_machine.specs.Answered.{answered_lines};
 ghost use Rattle.secure_machine.specs.Fed.{noted, over_image, over_loaded, IsFedStep, IsStarvedStep, HaltsFed, CauseFed, IsFedRun};
 ghost use Rattle.secure_machine.specs.FlatEnds.{HaltsFlat, HaltsRun, IsFlat, ending_by};
 ghost use Rattle.secure_machine.specs.Refines.{IsForged, StandFor, Knows, IsUnblamed, EndsUnblamed, CauseUnblamed};
-ghost use Rattle.std.specs.Prelude.{◌≡◌, ◌<◌, ◌*◌, ◌%◌, ℕ, Some, OnOk, IfOk, IfErr, MatchResult, vec_len};
+ghost use Rattle.std.specs.Prelude.{◌≡◌, ◌<◌, ◌*◌, ◌%◌, ℕ, Some, OnOk, OnErr, IfOk, IfErr, MatchResult, vec_len};
 ghost use Rattle.std.specs.List.{count_by};
 ghost use Rattle.data_cache.specs.Contents.{CacheBelow};
 ghost use Rattle.elf_loader.specs.Memory.{IsImage};
@@ -37,6 +39,7 @@ ghost use Rattle.rate_enforcer.specs.PortStep.{PortState};
 ghost use Rattle.secure_machine.specs.declared.machine.Cause.TheVariants.{Ends, Stops};
 ghost use Rattle.secure_machine.specs.Finish.{Halts, Settled, Short};
 ghost use Rattle.secure_machine.specs.Goes.{Breaks};
+ghost use Rattle.secure_machine.specs.Judged.{CauseReplayed, EndsReplayed, WantsReplayed};
 ghost use Rattle.secure_machine.specs.Runs.{Onwards, BreaksOff, HaltsOver, Ready};
 ghost use Rattle.secure_machine.specs.Same.{IsSameLines, keys_in, oram_over, timed_of};
 ghost use Rattle.play_run.specs.Timed.{Serving, KeepsNoted};
@@ -127,8 +130,8 @@ fn load_line<M: UntrustedMemory, W: Watch, L: LeafFn>(
     requires bytes { vec_len image.now.bytes ≡ 64 * lines.old.count }
     requires ready { Ready M.state W.state L.levels lines.old }
     requires below { CacheBelow lines.old.count cache.old }
-    ensures onwards { OnOk result (Onwards M.state W.state L.levels lines.old lines.new) }
-    ensures breaks { IfErr result (λ stop. BreaksOff M.state W.state L.levels stop lines.old lines.new) }
+    ensures onwards { OnOk result (Onwards M.state W.state L.leaf_of L.levels lines.old lines.new) }
+    ensures breaks { IfErr result (λ stop. BreaksOff M.state W.state L.leaf_of L.levels stop lines.old lines.new) }
     ensures below { OnOk result (CacheBelow lines.new.count cache.new) }
     ensures refines { (memory : List ℕ) → AreKeys (keys_in L.leaf_of lines.old)
         → Knows M.state W.state L.leaf_of L.levels cache.old memory lines.old
@@ -173,8 +176,8 @@ fn load<M: UntrustedMemory, W: Watch, L: LeafFn>(
     requires image { IsImage base (64 * lines.old.count) image.now }
     requires ready { Ready M.state W.state L.levels lines.old }
     requires below { CacheBelow lines.old.count cache.old }
-    ensures onwards { OnOk result (Onwards M.state W.state L.levels lines.old lines.new) }
-    ensures halts { IfErr result (λ halted. HaltsOver M.state W.state L.levels budget halted lines.old lines.new) }
+    ensures onwards { OnOk result (Onwards M.state W.state L.leaf_of L.levels lines.old lines.new) }
+    ensures halts { IfErr result (λ halted. HaltsOver M.state W.state L.leaf_of L.levels budget halted lines.old lines.new) }
     ensures below { OnOk result (CacheBelow lines.new.count cache.new) }
     ensures none { IfErr result (λ halted. (machine : Machine) (memory : List ℕ)
         → HaltsFlat 0 machine memory halted machine) }
@@ -228,8 +231,8 @@ fn step<M: UntrustedMemory, W: Watch, L: LeafFn>(
     ensures core { IsCore core.old → OnOk result (IsCore core.new) }
     ensures forged { AreKeys (keys_in L.leaf_of lines.old) → IsForged M.state W.state L.leaf_of L.levels lines.old
         → IsForged M.state W.state L.leaf_of L.levels lines.new }
-    ensures onwards { OnOk result (Onwards M.state W.state L.levels lines.old lines.new) }
-    ensures breaks { IfErr result (λ stop. BreaksOff M.state W.state L.levels stop lines.old lines.new) }
+    ensures onwards { OnOk result (Onwards M.state W.state L.leaf_of L.levels lines.old lines.new) }
+    ensures breaks { IfErr result (λ stop. BreaksOff M.state W.state L.leaf_of L.levels stop lines.old lines.new) }
     ensures below { OnOk result (CacheBelow lines.new.count cache.new) }
     ensures refines { (memory : List ℕ) → AreKeys (keys_in L.leaf_of lines.old) → IsCore core.old
         → Knows M.state W.state L.leaf_of L.levels cache.old memory lines.old
@@ -290,8 +293,8 @@ fn instruction<M: UntrustedMemory, W: Watch, L: LeafFn>(
     ensures core { IsCore core.old → OnOk result (IsCore core.new) }
     ensures forged { AreKeys (keys_in L.leaf_of lines.old) → IsForged M.state W.state L.leaf_of L.levels lines.old
         → IsForged M.state W.state L.leaf_of L.levels lines.new }
-    ensures onwards { OnOk result (Onwards M.state W.state L.levels lines.old lines.new) }
-    ensures halts { IfErr result (λ halted. HaltsOver M.state W.state L.levels budget halted lines.old lines.new) }
+    ensures onwards { OnOk result (Onwards M.state W.state L.leaf_of L.levels lines.old lines.new) }
+    ensures halts { IfErr result (λ halted. HaltsOver M.state W.state L.leaf_of L.levels budget halted lines.old lines.new) }
     ensures below { OnOk result (CacheBelow lines.new.count cache.new) }
     ensures refines { (memory : List ℕ) → AreKeys (keys_in L.leaf_of lines.old) → IsCore core.old
         → Knows M.state W.state L.leaf_of L.levels cache.old memory lines.old
@@ -362,7 +365,7 @@ fn play<M: UntrustedMemory, W: Watch, L: LeafFn>(
     requires image { IsImage base (64 * lines.old.count) image.now }
     requires ready { Ready M.state W.state L.levels lines.old }
     requires below { CacheBelow lines.old.count cache.old }
-    ensures halts { HaltsOver M.state W.state L.levels budget result lines.old lines.new }
+    ensures halts { HaltsOver M.state W.state L.leaf_of L.levels budget result lines.old lines.new }
     ensures refines { (memory : List ℕ) → AreKeys (keys_in L.leaf_of lines.old) → IsCore core.old
         → Knows M.state W.state L.leaf_of L.levels cache.old memory lines.old
         → IsForged M.state W.state L.leaf_of L.levels lines.new
@@ -402,6 +405,7 @@ fn ending_of<M: UntrustedMemory, W: Watch, L: LeafFn>(
     lines: &TimedLines<'_, '_, M, W, L>,
 ) -> Result<(Ending, u64), NoMemory>
     ensures named { IfOk result (λ (ending, last). ending_by stop ≡ Some ending) }
+    ensures wanted { OnErr result (stop ≡ Stop.NoMemory) }
     ensures settled { (budget instructions cycles : ℕ) (old : PortState)
         → Breaks stop old (timed_of M.state W.state lines.now).oram.port
         → MatchResult result
@@ -457,6 +461,14 @@ fn finish<M: UntrustedMemory, W: Watch, L: LeafFn>(
         → HaltsInPlay M.state W.state L.leaf_of L.levels config whole halted lines.old
         → IfOk result (λ (ending, last). EndedInPlay M.state W.state L.leaf_of L.levels config whole halted.instructions
         halted.cycles ending last lines.new) }
+    ensures replays { CallsReplay (keys_in L.leaf_of lines.old) (L.levels lines.old.oram.now.port.leaves)
+        → CauseReplayed (keys_in L.leaf_of lines.old) lines.old.oram.now.port.tree.stash halted.cause
+        (timed_of M.state W.state lines.old).oram
+        → MatchResult result
+        (λ (ending, last). EndsReplayed (keys_in L.leaf_of lines.old) lines.old.oram.now.port.tree.stash ending
+        (W.state lines.new.tap.now))
+        (λ _. WantsReplayed (keys_in L.leaf_of lines.old) lines.old.oram.now.port.tree.stash
+        (W.state lines.new.tap.now)) }
 {
     match halted.cause {
         Cause::Ends { ending, until } => match lines.idle_until(until) {
@@ -533,6 +545,15 @@ pub(crate) fn drive<M: UntrustedMemory, W: Watch, L: LeafFn>(
         (keys_of oram.old.port.tree oram.old.tagger (L.leaf_of oram.old.port.leaves)) (W.state bus.new.tap.now).log
         ⊎ RunShows (L.levels oram.old.port.leaves) whole (play_ending course.ending)
         (numbers_of course.instructions course.cycles course.fetches) course.last (W.state bus.new.tap.now).log) }
+    ensures replays { CallsReplay (keys_of oram.old.port.tree oram.old.tagger (L.leaf_of oram.old.port.leaves))
+        (L.levels oram.old.port.leaves)
+        → IsReplayed (keys_of oram.old.port.tree oram.old.tagger (L.leaf_of oram.old.port.leaves))
+        (oram_over M.state W.state oram.old bus.old.memory.now bus.old.tap.now)
+        → MatchResult result
+        (λ course. EndsReplayed (keys_of oram.old.port.tree oram.old.tagger (L.leaf_of oram.old.port.leaves))
+        oram.old.port.tree.stash course.ending (W.state bus.new.tap.now))
+        (λ _. WantsReplayed (keys_of oram.old.port.tree oram.old.tagger (L.leaf_of oram.old.port.leaves))
+        oram.old.port.tree.stash (W.state bus.new.tap.now)) }
 {
     let mut lines = TimedLines::new(bus.memory, bus.tap, oram);
     let halted = play(image, base, budget, core, files, cache, &mut lines);

@@ -1,4 +1,4 @@
-use Rattle.std.proofs.Common.{◌≡◌, ◌<◌, ◌+◌, ◌^◌, ◌∙◌, ℕ, List, [], sym, ap, subst, inl, inr, arith, length}
+use Rattle.std.proofs.Common.{◌≡◌, ◌<◌, ◌+◌, ◌^◌, ◌∙◌, ℕ, List, [], refl, sym, ap, subst, inl, inr, arith, length, IfOk, OnErr}
 use Rattle.std.proofs.lemmas.Result.{IfOk-weaker}
 use Rattle.std.proofs.Math.Pow.{pow_mono}
 use Rattle.std.specs.List.{count_by}
@@ -37,6 +37,12 @@ use Rattle.play_run.specs.Shows.{IsPlayed}
 use Rattle.secure_machine.specs.Plays.{play_report, play_with}
 use Rattle.secure_machine.proofs.PlayedLaws.{unprepared_played}
 use Rattle.play_run.proofs.Calls.{calls-play}
+use Rattle.log_replay.specs.Given.{CallsReplay}
+use Rattle.log_replay.specs.Order.{LogOrder}
+use Rattle.secure_machine.specs.Judged.{ShowsEnding, EndsReplayed, WantsReplayed}
+use Rattle.secure_machine.specs.declared.report.Ending.{Ending}
+use Rattle.secure_machine.proofs.Replaying.{start_order, start_right}
+use Rattle.secure_machine.proofs.run.Given as given
 use Rattle.secure_machine.proofs.run.Goals as goal
 
 pub returns-in_err-files-clause-pace_err : goal.returns-in_err-files-clause-pace_err
@@ -569,3 +575,148 @@ returns-in-Err-Device-clause-plays_told g c some =
     (play_with c.args.config.now c.args.image.now c.args.input.now) c.unprepared.result tap tap
     (g.W.Watch.state c.prepare.new.self.tap.now).log (c.unprepared.ensures tap)
     (ap (λ (x : LogLists). x.events) c.in-Err-Device.ensures.prepared.log ∙ c.requires.no_events)
+
+pub returns-in_err-files-clause-order : goal.returns-in_err-files-clause-order
+returns-in_err-files-clause-order g c =
+    start_order (chip_keys c.args.config.now c.args.codec c.args.tagger (g.L.LeafFn.leaf_of c.args.leaf))
+    (g.W.Watch.state c.args.bus.now.tap.now).log c.requires.no_events
+
+pub returns-in_err-files-clause-verdict_err : goal.returns-in_err-files-clause-verdict_err
+returns-in_err-files-clause-verdict_err g c =
+    let config = c.args.config.now in
+    on_err_with c.from_residual.result (inl (start_right
+    (chip_keys config c.args.codec c.args.tagger (g.L.LeafFn.leaf_of c.args.leaf)) config.stash
+    (g.W.Watch.state c.args.bus.now.tap.now).log c.requires.no_events))
+
+pub returns-in_err-files-clause-contents_err : goal.returns-in_err-files-clause-contents_err
+returns-in_err-files-clause-contents_err g c = on_err_with c.from_residual.result (inr refl)
+
+pub returns-in_err-cache-clause-order : goal.returns-in_err-cache-clause-order
+returns-in_err-cache-clause-order g c =
+    start_order (chip_keys c.args.config.now c.args.codec c.args.tagger (g.L.LeafFn.leaf_of c.args.leaf))
+    (g.W.Watch.state c.args.bus.now.tap.now).log c.requires.no_events
+
+pub returns-in_err-cache-clause-verdict_err : goal.returns-in_err-cache-clause-verdict_err
+returns-in_err-cache-clause-verdict_err g c =
+    let config = c.args.config.now in
+    on_err_with c.from_residual-in_err-cache.result (inl (start_right
+    (chip_keys config c.args.codec c.args.tagger (g.L.LeafFn.leaf_of c.args.leaf)) config.stash
+    (g.W.Watch.state c.args.bus.now.tap.now).log c.requires.no_events))
+
+pub returns-in_err-cache-clause-contents_err : goal.returns-in_err-cache-clause-contents_err
+returns-in_err-cache-clause-contents_err g c = on_err_with c.from_residual-in_err-cache.result (inr refl)
+
+pub returns-in_err-oram-clause-order : goal.returns-in_err-oram-clause-order
+returns-in_err-oram-clause-order g c =
+    start_order (chip_keys c.args.config.now c.args.codec c.args.tagger (g.L.LeafFn.leaf_of c.args.leaf))
+    (g.W.Watch.state c.args.bus.now.tap.now).log c.requires.no_events
+
+pub returns-in_err-oram-clause-verdict_err : goal.returns-in_err-oram-clause-verdict_err
+returns-in_err-oram-clause-verdict_err g c =
+    let config = c.args.config.now in
+    on_err_with c.from_residual-in_err-oram.result (inl (start_right
+    (chip_keys config c.args.codec c.args.tagger (g.L.LeafFn.leaf_of c.args.leaf)) config.stash
+    (g.W.Watch.state c.args.bus.now.tap.now).log c.requires.no_events))
+
+pub returns-in_err-oram-clause-contents_err : goal.returns-in_err-oram-clause-contents_err
+returns-in_err-oram-clause-contents_err g c = on_err_with c.from_residual-in_err-oram.result (inr refl)
+
+pub returns-in-Err-Device-clause-order : goal.returns-in-Err-Device-clause-order
+returns-in-Err-Device-clause-order g c =
+    start_order (chip_keys c.args.config.now c.args.codec c.args.tagger (g.L.LeafFn.leaf_of c.args.leaf))
+    (g.W.Watch.state c.prepare.new.self.tap.now).log
+    (ap (λ (x : LogLists). x.events) c.in-Err-Device.ensures.prepared.log ∙ c.requires.no_events)
+
+pub returns-in-Err-NoMemory-clause-order : goal.returns-in-Err-NoMemory-clause-order
+returns-in-Err-NoMemory-clause-order g c =
+    start_order (chip_keys c.args.config.now c.args.codec c.args.tagger (g.L.LeafFn.leaf_of c.args.leaf))
+    (g.W.Watch.state c.prepare.new.self.tap.now).log
+    (ap (λ (x : LogLists). x.events) c.in-Err-NoMemory.ensures.prepared.log ∙ c.requires.no_events)
+
+pub returns-in-Err-Device-clause-verdict : goal.returns-in-Err-Device-clause-verdict
+returns-in-Err-Device-clause-verdict g c =
+    let config = c.args.config.now in
+    let keys = chip_keys config c.args.codec c.args.tagger (g.L.LeafFn.leaf_of c.args.leaf) in
+    let log = (g.W.Watch.state c.prepare.new.self.tap.now).log in
+    subst (λ (e : Ending). ShowsEnding keys config.stash e log)
+    (sym (c.unprepared.ensures (g.W.Watch.state c.args.bus.now.tap.now)).ending)
+    (inl (start_right keys config.stash log
+    (ap (λ (x : LogLists). x.events) c.in-Err-Device.ensures.prepared.log ∙ c.requires.no_events)))
+
+pub returns-in-Err-Device-clause-contents : goal.returns-in-Err-Device-clause-contents
+returns-in-Err-Device-clause-contents g c =
+    let old = g.W.Watch.state c.args.bus.now.tap.now in
+    inr (subst (λ (t : TapState). IsUnprepared c.unprepared.result old t)
+    (sym (refused_tap c.in-Err-Device.field-0 c.args.config.now.shape.buckets c.args.config.now.shape.levels
+    c.most_slots.result (g.M.UntrustedMemory.state c.args.bus.now.memory.now)
+    (g.M.UntrustedMemory.state c.prepare.new.self.memory.now) old (g.W.Watch.state c.prepare.new.self.tap.now)
+    c.in-Err-Device.ensures.prepared)) (c.unprepared.ensures old))
+
+pub returns-in-Err-NoMemory-clause-verdict_err : goal.returns-in-Err-NoMemory-clause-verdict_err
+returns-in-Err-NoMemory-clause-verdict_err g c =
+    let config = c.args.config.now in
+    inl (start_right (chip_keys config c.args.codec c.args.tagger (g.L.LeafFn.leaf_of c.args.leaf)) config.stash
+    (g.W.Watch.state c.prepare.new.self.tap.now).log
+    (ap (λ (x : LogLists). x.events) c.in-Err-NoMemory.ensures.prepared.log ∙ c.requires.no_events))
+
+pub returns-in-Err-NoMemory-clause-contents_err : goal.returns-in-Err-NoMemory-clause-contents_err
+returns-in-Err-NoMemory-clause-contents_err g c =
+    inr (refused_tap c.in-Err-NoMemory.field-0 c.args.config.now.shape.buckets c.args.config.now.shape.levels
+    c.most_slots.result (g.M.UntrustedMemory.state c.args.bus.now.memory.now)
+    (g.M.UntrustedMemory.state c.prepare.new.self.memory.now) (g.W.Watch.state c.args.bus.now.tap.now)
+    (g.W.Watch.state c.prepare.new.self.tap.now) c.in-Err-NoMemory.ensures.prepared)
+
+-- what a run over a prepared bus shows and says, as its report or its want of memory
+replayed : (g : given.Over) (c : goal.After-run_prepared g) → IfOk c.run_prepared.result
+    (λ (report : Report). EndsReplayed
+    (chip_keys c.args.config.now c.args.codec c.args.tagger (g.L.LeafFn.leaf_of c.args.leaf))
+    c.args.config.now.stash report.ending (g.W.Watch.state c.run_prepared.new.bus.tap.now))
+    × OnErr c.run_prepared.result (WantsReplayed
+    (chip_keys c.args.config.now c.args.codec c.args.tagger (g.L.LeafFn.leaf_of c.args.leaf))
+    c.args.config.now.stash (g.W.Watch.state c.run_prepared.new.bus.tap.now))
+replayed g c =
+    let config = c.args.config.now in
+    let oram = c.in_ok-oram.oram in
+    let tap = g.W.Watch.state c.run_prepared.new.bus.tap.now in
+    let levels = g.L.LeafFn.levels oram.port.leaves in
+    let keys = keys_of oram.port.tree oram.tagger (g.L.LeafFn.leaf_of oram.port.leaves) in
+    let lawful : AreKeys keys = subst AreKeys (sym c.in_ok-oram.ensures.keys) (chip_lawful g.L.LeafFn.leaf_of
+    g.L.LeafFn.levels config c.args.codec c.args.tagger c.args.leaf c.requires.config c.requires.levels
+    c.gives_leaves.ensures) in
+    let laws = c.logs_say_all.ensures in
+    let calls : CallsReplay keys levels = record {
+      request = laws.request keys lawful levels;
+      stop = laws.stop keys lawful levels;
+      between = laws.between keys lawful levels;
+    } in
+    let start = laws.start keys lawful levels config _ c.requires.config
+    (run_prepared-requires-clause-new g c) in (
+      IfOk-weaker c.run_prepared.result _ _ (λ report. subst (λ (z : Keys). EndsReplayed z config.stash report.ending tap)
+          c.in_ok-oram.ensures.keys) (c.run_prepared.ensures.replays calls start),
+      on_err_so _ _ c.run_prepared.result (c.run_prepared.ensures.replays_err calls start)
+          (subst (λ (z : Keys). WantsReplayed z config.stash tap) c.in_ok-oram.ensures.keys),
+    )
+
+pub returns-in-Ok-clause-order : goal.returns-in-Ok-clause-order
+returns-in-Ok-clause-order g c =
+    let keys = chip_keys c.args.config.now c.args.codec c.args.tagger (g.L.LeafFn.leaf_of c.args.leaf) in
+    let stash = c.args.config.now.stash in
+    let tap = g.W.Watch.state c.run_prepared.new.bus.tap.now in
+    on_both (λ (report : Report). EndsReplayed keys stash report.ending tap) (WantsReplayed keys stash tap)
+    (LogOrder keys tap.log) c.run_prepared.result (replayed g c).0 (replayed g c).1 (λ report r. r.order) (λ w. w.order)
+
+pub returns-in-Ok-clause-verdict : goal.returns-in-Ok-clause-verdict
+returns-in-Ok-clause-verdict g c =
+    IfOk-weaker c.run_prepared.result _ _ (λ report r. r.shows) (replayed g c).0
+
+pub returns-in-Ok-clause-verdict_err : goal.returns-in-Ok-clause-verdict_err
+returns-in-Ok-clause-verdict_err g c =
+    on_err_so _ _ c.run_prepared.result (replayed g c).1 (λ w. w.shows)
+
+pub returns-in-Ok-clause-contents : goal.returns-in-Ok-clause-contents
+returns-in-Ok-clause-contents g c =
+    IfOk-weaker c.run_prepared.result _ _ (λ report r. inl r.mirror) (replayed g c).0
+
+pub returns-in-Ok-clause-contents_err : goal.returns-in-Ok-clause-contents_err
+returns-in-Ok-clause-contents_err g c =
+    on_err_so _ _ c.run_prepared.result (replayed g c).1 (λ w. inl w.mirror)

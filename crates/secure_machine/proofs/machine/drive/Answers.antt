@@ -5,8 +5,9 @@ use Rattle.fed_run.specs.Answered.{feed_of}
 use Rattle.oram_contents.specs.Entries.{AreKeys}
 use Rattle.rv32_core.specs.StepPlan.{machine_of}
 use Rattle.secure_machine.specs.Answered.{answered_lines}
+use Rattle.secure_machine.specs.Judged.{EndsReplayed}
 use Rattle.secure_machine.specs.Fed.{over_image, over_loaded, CauseFed}
-use Rattle.secure_machine.proofs.LineChains.{same_then}
+use Rattle.secure_machine.proofs.LineChains.{same_then, halts_replayed}
 use Rattle.secure_machine.proofs.Refining.{keys_same, at_parts, keys_by, forged_first, StandBy}
 use Rattle.play_run.specs.Given.{CallsPlay}
 use Rattle.secure_machine.proofs.Playing.{at_same, begins, halts_config, ended_first}
@@ -91,3 +92,12 @@ returns-clause-plays g c config whole lawful calls is_config core budget port st
     (at_same g.M.UntrustedMemory.state g.W.Watch.state g.L.LeafFn.leaf_of g.L.LeafFn.levels (λ z n. CallsPlay z n
     config)
     lines played same calls_first) settings halted)
+
+pub returns-clause-replays : goal.returns-clause-replays
+returns-clause-replays g c =
+    let tap = g.W.Watch.state c.finish.new.lines.tap.now in
+    halts_replayed g.M.UntrustedMemory.state g.W.Watch.state g.L.LeafFn.leaf_of g.L.LeafFn.levels
+    (λ keys stash. EndsReplayed keys stash c.in_ok-ending.ending tap) c.args.budget c.play-halted.result
+    c.new-lines.result c.play-halted.new.lines c.args.oram.now c.args.bus.now.memory.now c.args.bus.now.tap.now
+    c.new-lines.ensures.memory c.new-lines.ensures.tap c.new-lines.ensures.oram c.play-halted.ensures.halts
+    c.in_ok-ending.ensures.replays

@@ -20,6 +20,8 @@ use Rattle.secure_machine.proofs.PortGoes.{breaks_then}
 use Rattle.secure_machine.proofs.Settles.{idle_settles}
 use Rattle.secure_machine.specs.Plays.{CauseInPlay, play_ending}
 use Rattle.secure_machine.proofs.Playing.{wait_in_play, wait_stopped}
+use Rattle.secure_machine.specs.Judged.{CauseReplayed, EndsReplayed}
+use Rattle.secure_machine.proofs.Replaying.{own_replayed, stopped_replayed}
 use Rattle.secure_machine.proofs.machine.finish.Goals as goal
 
 pub returns-in-Ok-clause-settled : goal.returns-in-Ok-clause-settled
@@ -225,3 +227,39 @@ returns-in-Stops-clause-plays g c config whole lawful calls same known =
     (subst (λ (cause : Cause). CauseInPlay g.M.UntrustedMemory.state g.W.Watch.state g.L.LeafFn.leaf_of
     g.L.LeafFn.levels
     config whole c.args.halted.instructions c.args.halted.cycles cause c.args.lines.now) c.in-Stops.is known)
+
+pub returns-in-Ok-clause-replays : goal.returns-in-Ok-clause-replays
+returns-in-Ok-clause-replays g c calls cause =
+    let levels = g.L.LeafFn.levels c.args.lines.now.oram.now.port.leaves in
+    let keys = keys_in g.L.LeafFn.leaf_of c.args.lines.now in
+    let old = (timed_of g.M.UntrustedMemory.state g.W.Watch.state c.args.lines.now).oram in
+    let new = (timed_of g.M.UntrustedMemory.state g.W.Watch.state c.idle_until.new.self).oram in
+    let by = subst (λ (cause : Cause). HaltsBy c.args.budget levels c.args.halted.instructions
+    c.args.halted.cycles cause c.requires.halts.0 old) c.in-Ends.is c.requires.halts.1 in
+    let rests = by.1.serves.rests in
+    let now = subst (λ (cause : Cause). CauseReplayed keys old.port.tree.stash cause old) c.in-Ends.is cause in
+    let later = calls.request old new (Wait c.in-Ends.until) _ now rests tt c.in-Ok.ensures.step in
+    subst (λ k. EndsReplayed keys k c.in-Ends.ending new.port.tap) c.idle_until.ensures.same.tree.stash
+    (own_replayed keys levels c.args.budget (c.requires.halts.0).clock.config.time c.args.halted.instructions
+    c.args.halted.cycles c.in-Ends.until c.in-Ends.ending new calls later (c.in-Ok.ensures.step.3.1.rests 0 rests) by.3)
+
+pub returns-in-Err-clause-replays : goal.returns-in-Err-clause-replays
+returns-in-Err-clause-replays g c calls cause =
+    let levels = g.L.LeafFn.levels c.args.lines.now.oram.now.port.leaves in
+    let keys = keys_in g.L.LeafFn.leaf_of c.args.lines.now in
+    let old = (timed_of g.M.UntrustedMemory.state g.W.Watch.state c.args.lines.now).oram in
+    let new = (timed_of g.M.UntrustedMemory.state g.W.Watch.state c.idle_until.new.self).oram in
+    let by = subst (λ (cause : Cause). HaltsBy c.args.budget levels c.args.halted.instructions
+    c.args.halted.cycles cause c.requires.halts.0 old) c.in-Ends.is c.requires.halts.1 in
+    let now = subst (λ (cause : Cause). CauseReplayed keys old.port.tree.stash cause old) c.in-Ends.is cause in
+    stopped_replayed keys old.port.tree.stash c.in-Err.stop new.port c.ending_of.result c.ending_of.ensures.named
+    c.ending_of.ensures.wanted
+    (calls.stop old new (Wait c.in-Ends.until) c.in-Err.stop now by.1.serves.rests by.1.going tt c.in-Err.ensures.step)
+
+pub returns-in-Stops-clause-replays : goal.returns-in-Stops-clause-replays
+returns-in-Stops-clause-replays g c calls cause =
+    let keys = keys_in g.L.LeafFn.leaf_of c.args.lines.now in
+    let old = (timed_of g.M.UntrustedMemory.state g.W.Watch.state c.args.lines.now).oram in
+    stopped_replayed keys old.port.tree.stash c.in-Stops.stop old.port c.ending_of-in-Stops.result
+    c.ending_of-in-Stops.ensures.named c.ending_of-in-Stops.ensures.wanted
+    (subst (λ (cause : Cause). CauseReplayed keys old.port.tree.stash cause old) c.in-Stops.is cause)

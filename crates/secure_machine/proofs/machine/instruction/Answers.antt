@@ -21,6 +21,12 @@ returns-in-No-clause-refines g c memory lawful core known =
       | inr (now, step, stands) ↦ inr (now, c.in-Ok.done, c.in-No.is, step, stands)
     ]
 
+pub returns-in-Err-clause-refines : goal.returns-in-Err-clause-refines
+returns-in-Err-clause-refines g c memory lawful core known =
+    inr (subst (λ (h : Halted). HaltsFlat c.args.before (machine_of c.args.core.now c.args.files.now) memory h
+    (machine_of c.step.new.core c.step.new.files)) (sym c.stopped.ensures)
+    (refl, (c.in-Err.ensures.refines memory lawful core known).1))
+
 pub returns-in-Exit-clause-refines : goal.returns-in-Exit-clause-refines
 returns-in-Exit-clause-refines g c memory lawful core known =
     elim (c.in-Ok.ensures.refines memory lawful core known) [
@@ -69,11 +75,18 @@ returns-in-Trap-clause-honest g c memory lawful core known =
       | inr (now, step, stands) ↦ (c.step.new.cache, now, inr stands)
     ])
 
+pub returns-in-Err-clause-halts : goal.returns-in-Err-clause-halts
+returns-in-Err-clause-halts g c =
+    let off = c.in-Err.ensures.breaks in
+    subst (λ (h : Halted). HaltsOver g.M.UntrustedMemory.state g.W.Watch.state g.L.LeafFn.leaf_of g.L.LeafFn.levels
+    c.args.budget h c.args.lines.now c.step.new.lines) (sym c.stopped.ensures)
+    (record { same = off.same; halts = off.breaks; fetches = off.fetches; replays = off.replays })
+
 pub returns-in-Exit-clause-halts : goal.returns-in-Exit-clause-halts
 returns-in-Exit-clause-halts g c =
     let config = ap (λ (config : Config). config.time) c.in-Ok.ensures.onwards.goes.config in
-    subst (λ (h : Halted). HaltsOver g.M.UntrustedMemory.state g.W.Watch.state g.L.LeafFn.levels c.args.budget h
-    c.args.lines.now c.step.new.lines) (sym c.ended-in-Exit.ensures)
+    subst (λ (h : Halted). HaltsOver g.M.UntrustedMemory.state g.W.Watch.state g.L.LeafFn.leaf_of g.L.LeafFn.levels
+    c.args.budget h c.args.lines.now c.step.new.lines) (sym c.ended-in-Exit.ensures)
     (ends_after g.M.UntrustedMemory.state g.W.Watch.state g.L.LeafFn.leaf_of g.L.LeafFn.levels c.args.budget
     (c.args.before + 1) c.step.new.lines.clock c.min.result (Exit c.in-Exit.status) c.args.lines.now c.step.new.lines
     c.in-Ok.ensures.onwards (omega (arith, c.min.ensures, c.time-time.ensures, config))
@@ -83,8 +96,8 @@ pub returns-in-Trap-clause-halts : goal.returns-in-Trap-clause-halts
 returns-in-Trap-clause-halts g c =
     let config = ap (λ (config : Config). config.time) c.in-Ok.ensures.onwards.goes.config in
     let start = c.args.lines.now.clock in
-    subst (λ (h : Halted). HaltsOver g.M.UntrustedMemory.state g.W.Watch.state g.L.LeafFn.levels c.args.budget h
-    c.args.lines.now c.step.new.lines) (sym c.ended-in-Trap.ensures)
+    subst (λ (h : Halted). HaltsOver g.M.UntrustedMemory.state g.W.Watch.state g.L.LeafFn.leaf_of g.L.LeafFn.levels
+    c.args.budget h c.args.lines.now c.step.new.lines) (sym c.ended-in-Trap.ensures)
     (ends_after g.M.UntrustedMemory.state g.W.Watch.state g.L.LeafFn.leaf_of g.L.LeafFn.levels c.args.budget
     c.args.before start start (Trap c.in-Trap.kind c.in-Trap.pc) c.args.lines.now c.step.new.lines
     c.in-Ok.ensures.onwards (omega (arith, c.if-start-time.false, c.time-time.ensures, config))

@@ -24,8 +24,8 @@ use Rattle.secure_machine.proofs.machine.load.Goals as goal
 
 pub returns-in-Err-clause-halts : goal.returns-in-Err-clause-halts
 returns-in-Err-clause-halts g c =
-    subst (λ (h : Halted). HaltsOver g.M.UntrustedMemory.state g.W.Watch.state g.L.LeafFn.levels c.args.budget h
-    c.args.lines.now c.load_line.new.lines) (sym c.stopped.ensures)
+    subst (λ (h : Halted). HaltsOver g.M.UntrustedMemory.state g.W.Watch.state g.L.LeafFn.leaf_of g.L.LeafFn.levels
+    c.args.budget h c.args.lines.now c.load_line.new.lines) (sym c.stopped.ensures)
     (breaks_later g.M.UntrustedMemory.state g.W.Watch.state g.L.LeafFn.leaf_of g.L.LeafFn.levels c.args.budget 0
     c.loop-at.lines.clock c.in-Err.stop c.args.lines.now c.loop-at.lines c.load_line.new.lines
     c.loop-at.invariant.onwards c.in-Err.ensures.breaks)
@@ -76,6 +76,13 @@ loop-at-preserved g c = record {
       (λ z n. CallsPlay z n config) lines c.loop-at.lines same calls))
       (c.loop-at.invariant.plays config whole machine lawful calls is_config known);
 }
+
+pub returns-clause-refines : goal.returns-clause-refines
+returns-clause-refines g c memory lawful known =
+    subst (λ (marked : List ℕ). Knows g.M.UntrustedMemory.state g.W.Watch.state g.L.LeafFn.leaf_of g.L.LeafFn.levels
+    c.loop-at.cache (loaded c.args.image.now.bytes.items marked memory) c.loop-at.lines)
+    (take_all c.loop-at.at c.args.image.now.marked.items (omega (arith, c.loop-at-test.false, c.len-at-end.ensures)))
+    (c.loop-at.invariant.refines memory lawful known)
 
 pub returns-in-Err-clause-none : goal.returns-in-Err-clause-none
 returns-in-Err-clause-none g c machine memory =

@@ -21,7 +21,7 @@ use Rattle.secure_machine.proofs.machine.load.Given as goal
 -- so many lines are written
 abbrev pub invariant-loop-at : goal.invariant-loop-at
 invariant-loop-at g l = record {
-  onwards : Onwards g.M.UntrustedMemory.state g.W.Watch.state g.L.LeafFn.levels l.fn.lines l.lines;
+  onwards : Onwards g.M.UntrustedMemory.state g.W.Watch.state g.L.LeafFn.leaf_of g.L.LeafFn.levels l.fn.lines l.lines;
   below : CacheBelow l.lines.count l.cache;
   refines : (memory : List ℕ) → AreKeys (keys_in g.L.LeafFn.leaf_of l.fn.lines)
       → Knows g.M.UntrustedMemory.state g.W.Watch.state g.L.LeafFn.leaf_of g.L.LeafFn.levels l.fn.cache

@@ -161,8 +161,8 @@ returns-clause-halts g c =
     let on = c.loop-before.invariant.onwards in
     let clock = c.loop-before.lines.clock in
     let config = ap (λ (config : Config). config.time) on.goes.config in
-    subst (λ (h : Halted). HaltsOver g.M.UntrustedMemory.state g.W.Watch.state g.L.LeafFn.levels c.args.budget h
-    c.args.lines.now c.loop-before.lines) (sym c.ended.ensures)
+    subst (λ (h : Halted). HaltsOver g.M.UntrustedMemory.state g.W.Watch.state g.L.LeafFn.leaf_of g.L.LeafFn.levels
+    c.args.budget h c.args.lines.now c.loop-before.lines) (sym c.ended.ensures)
     (ends_after g.M.UntrustedMemory.state g.W.Watch.state g.L.LeafFn.leaf_of g.L.LeafFn.levels c.args.budget
     c.args.budget clock c.min.result Budget c.args.lines.now c.loop-before.lines on
     (omega (arith, c.min.ensures, c.time.ensures)) (refl, c.min.ensures ∙ ap (min clock) (c.time.ensures ∙ config)))

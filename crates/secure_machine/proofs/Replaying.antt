@@ -1,0 +1,113 @@
+-- What a log says along a run: one request, and how the run ended.
+use Rattle.std.proofs.Common.{◌≡◌, ◌∙◌, ℕ, List, [], None, Some, Result, Ok, Err, IfOk, OnErr, sym, ap, subst, arith}
+use Rattle.std.specs.Prelude.{MatchResult}
+use Rattle.asc_base.specs.declared.shape.Shape.{Shape}
+use Rattle.asc_base.specs.declared.stop.Stop.{Stop}
+use Rattle.asc_base.specs.declared.stop.Stop.TheVariants as why
+use Rattle.bus_watch.specs.Log.{LogLists}
+use Rattle.bus_watch.specs.declared.log.Event.{Event}
+use Rattle.data_cache.specs.Lines.{LineRequest, Fetch, Store}
+use Rattle.log_replay.specs.Given.{CallsReplay}
+use Rattle.log_replay.specs.Judged.{verdict_on, ShowsStop, EndsLog, SaysMirror}
+use Rattle.log_replay.specs.Order.{LogOrder}
+use Rattle.log_replay.specs.Replayed.{IsReplayed, StopsReplayed}
+use Rattle.oram_contents.specs.Entries.{Keys}
+use Rattle.oram_contents.specs.Fold.{LogEnd}
+use Rattle.oram_frontend.specs.Oram.{OramState, Fetch as OramFetch, Store as OramStore}
+use Rattle.play_run.specs.Timed.{TimedState, TimedStep, CanAsk}
+use Rattle.rate_enforcer.specs.PortStep.{PortState, Resting}
+use Rattle.secure_machine.specs.Finish.{IsOwnEnding}
+use Rattle.secure_machine.specs.FlatEnds.{ending_by}
+use Rattle.secure_machine.specs.Judged.{ShowsEnding, EndsReplayed, WantsReplayed, log_end}
+use Rattle.secure_machine.specs.declared.report.Ending.{Ending}
+use Rattle.secure_machine.specs.declared.report.Ending.TheVariants.{Exit, Trap, Budget, TimeUp, StashFull, Integrity}
+use Rattle.secure_machine.specs.declared.report.Ending.TheVariants.{Device}
+
+-- there are as many lines as under the keys
+lines_there : (keys : Keys) (levels count : ℕ) (s : TimedState) → CanAsk levels count s → IsReplayed keys s.oram
+    → keys.shape.lines ≡ count
+lines_there keys levels count s ask now =
+    ap (λ (shape : Shape). shape.lines) (sym now.port.fits.shape ∙ ask.serving.serves.rests.is_for.shape) ∙ ask.lines
+
+-- one request
+pub timed_replays : (keys : Keys) (levels count : ℕ) (old new : TimedState) (request : LineRequest) (bytes : List ℕ)
+    → CallsReplay keys levels → CanAsk levels count old → TimedStep keys levels count old request (Ok bytes) new
+    → IsReplayed keys old.oram → IsReplayed keys new.oram
+timed_replays keys levels count old new (Fetch line) bytes calls ask (step, fetches, is, can, below) now =
+    let lines = lines_there keys levels count old ask now in
+    calls.request old.oram new.oram (OramFetch old.clock line) _ now ask.serving.serves.rests
+    (omega (arith, lines, below)) step
+timed_replays keys levels count old new (Store line value) bytes calls ask (step, fetches, is, can, below, whole) now =
+    let lines = lines_there keys levels count old ask now in
+    calls.request old.oram new.oram (OramStore old.clock line (record { 0 = value })) _ now ask.serving.serves.rests
+    (omega (arith, lines, below), whole) step
+
+pub timed_stops : (keys : Keys) (levels count : ℕ) (old new : TimedState) (request : LineRequest) (stop : Stop)
+    → CallsReplay keys levels → CanAsk levels count old → TimedStep keys levels count old request (Err stop) new
+    → IsReplayed keys old.oram → StopsReplayed keys old.oram.port.tree.stash stop new.oram.port
+timed_stops keys levels count old new (Fetch line) stop calls ask (step, fetches, clock, below) now =
+    let lines = lines_there keys levels count old ask now in
+    calls.stop old.oram new.oram (OramFetch old.clock line) stop now ask.serving.serves.rests ask.serving.going
+    (omega (arith, lines, below)) step
+timed_stops keys levels count old new (Store line value) stop calls ask (step, fetches, clock, below, whole) now =
+    let lines = lines_there keys levels count old ask now in
+    calls.stop old.oram new.oram (OramStore old.clock line (record { 0 = value })) stop now ask.serving.serves.rests
+    ask.serving.going (omega (arith, lines, below), whole) step
+
+-- a run that ends by itself leaves what the log says
+pub own_replayed : (keys : Keys) (levels budget time instructions cycles until : ℕ) (ending : Ending) (o : OramState)
+    → CallsReplay keys levels → IsReplayed keys o → Resting 0 levels o.port
+    → IsOwnEnding budget time instructions cycles until ending
+    → EndsReplayed keys o.port.tree.stash ending o.port.tap
+own_replayed keys levels budget time instructions cycles until ending o calls now rests own = by ending own
+  where
+    by : (ending : Ending) → IsOwnEnding budget time instructions cycles until ending
+        → EndsReplayed keys o.port.tree.stash ending o.port.tap
+    by (Exit status) own =
+        record { order = now.port.order; shows = now.port.right; mirror = calls.between o now rests }
+    by (Trap kind pc) own =
+        record { order = now.port.order; shows = now.port.right; mirror = calls.between o now rests }
+    by Budget own = record { order = now.port.order; shows = now.port.right; mirror = calls.between o now rests }
+    by (TimeUp at) own = record { order = now.port.order; shows = now.port.right; mirror = calls.between o now rests }
+    by (StashFull held) own = absurd own
+    by (Integrity evidence) own = absurd own
+    by Device own = absurd own
+
+-- A stop that is an ending leaves a log that shows the ending, and want of memory one that shows the want.
+stop_replayed : (keys : Keys) (stash : ℕ) (stop : Stop) (ending : Ending) (s : PortState)
+    → ending_by stop ≡ Some ending → StopsReplayed keys stash stop s → EndsReplayed keys stash ending s.tap
+stop_replayed keys stash stop ending s named h = by stop h.shows h.ends named
+  where
+    shown : (e : Ending) → ShowsEnding keys stash e s.tap.log → h.end ≡ log_end e → e ≡ ending
+        → EndsReplayed keys stash ending s.tap
+    shown e shows end same = subst (λ (x : Ending). EndsReplayed keys stash x s.tap) same (record {
+      order = h.order;
+      shows = shows;
+      mirror = subst (λ (x : LogEnd). SaysMirror keys s.tap.log x s.tap.mirror) end h.mirror;
+    })
+
+    by : (stop : Stop) → ShowsStop keys stash stop s.tap.log → EndsLog stop h.end → ending_by stop ≡ Some ending
+        → EndsReplayed keys stash ending s.tap
+    by (why.Integrity evidence) shows end is = shown (Integrity evidence) shows end cc
+    by (why.StashFull held) shows end is = shown (StashFull held) shows end cc
+    by (why.TimeUp at) shows end is = shown (TimeUp at) shows end cc
+    by why.Device shows end is = shown Device shows end cc
+    by why.NoMemory shows end is = absurd cc
+
+pub stopped_replayed : {E : Type 0} (keys : Keys) (stash : ℕ) (stop : Stop) (s : PortState)
+    (result : Result (Ending × ℕ) E) → IfOk result (λ (ending, last). ending_by stop ≡ Some ending)
+    → OnErr result (stop ≡ why.NoMemory) → StopsReplayed keys stash stop s
+    → MatchResult result (λ (ending, last). EndsReplayed keys stash ending s.tap)
+    (λ _. WantsReplayed keys stash s.tap)
+stopped_replayed keys stash stop s (Ok (ending, last)) named wants h = stop_replayed keys stash stop ending s named h
+stopped_replayed keys stash stop s (Err e) named wants h =
+    let now = subst (λ (x : Stop). StopsReplayed keys stash x s) wants h in
+    record { order = now.order; shows = now.shows; mirror = (now.end, now.ends, now.mirror) }
+
+-- ---- before the first slot
+pub start_order : (keys : Keys) (log : LogLists) → log.events ≡ [] → LogOrder keys log
+start_order keys log none = record { slots = []; events = none; order = tt }
+
+pub start_right : (keys : Keys) (stash : ℕ) (log : LogLists) → log.events ≡ [] → verdict_on keys stash log ≡ None
+start_right keys stash log none =
+    ap (λ (events : List Event). verdict_on keys stash (record log { events = events })) none
