@@ -105,17 +105,22 @@ effected-low machine memory cost most (Writes address count) low = low
 effected-low machine memory cost most (Exits status) low = low
 effected-low machine memory cost most (Traps kind) low = omega arith
 
+-- a word's cost
+pub word-low : (machine : Machine) (memory : List ℕ) (word : ℕ)
+    → (effected machine memory (cost_of_word machine word) (effect_of_word machine word)).done.cost
+    ≤ 34 + machine.core.size
+word-low machine memory word =
+    effected-low machine memory (cost_of_word machine word) (34 + machine.core.size) (effect_of_word machine word)
+    (decoded-low (decoded word) (effect_of_word machine word) machine.core.size
+    (moved-low machine (effect_of_word machine word) (effect_of_word-fine machine word)))
+
 flat-low : (machine : Machine) (memory : List ℕ) → (flat_step machine memory).done.cost ≤ 34 + machine.core.size
 flat-low machine memory =
     let word : ℕ = from_le_bytes w32 (bytes_at machine memory machine.core.pc 4) in
     let most : ℕ = 34 + machine.core.size in
     step-if (λ (s : FlatStep). s.done.cost ≤ most) (is_inside machine.core machine.core.pc 4)
     (effected machine memory (cost_of_word machine word) (effect_of_word machine word))
-    (effected machine memory 0 (Traps FetchFault))
-    (effected-low machine memory (cost_of_word machine word) most (effect_of_word machine word)
-    (decoded-low (decoded word) (effect_of_word machine word) machine.core.size
-    (moved-low machine (effect_of_word machine word) (effect_of_word-fine machine word))))
-    (omega arith)
+    (effected machine memory 0 (Traps FetchFault)) (word-low machine memory word) (omega arith)
 
 -- An instruction's cost.
 pub instruction-low : (ways : ℕ) (machine : Machine) (lines : Lines)

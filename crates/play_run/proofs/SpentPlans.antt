@@ -1,5 +1,5 @@
 -- The clock of a plan of requests for lines is the costs and what was waited for slots.
-use Rattle.std.proofs.Common.{◌≡◌, ◌<◌, ◌≤◌, ℕ, ◌+◌, List, [], ◌++◌, None, Some, Ok, Err, inl, inr, min, sym, ap}
+use Rattle.std.proofs.Common.{◌≡◌, ◌<◌, ◌≤◌, ℕ, ◌+◌, List, [], ◌++◌, None, Some, Ok, Err, inl, inr, min, max, sym, ap}
 use Rattle.std.proofs.Common.{◌∙◌, subst, arith}
 use Rattle.asc_base.specs.Settings.{IsConfig}
 use Rattle.asc_base.specs.TreeShape.{olat_of}
@@ -31,7 +31,7 @@ use Rattle.play_run.specs.Stands.{spent}
 use Rattle.play_run.specs.Timed.{TimedState, TimedStep, CanAsk, answers_serve}
 use Rattle.play_run.proofs.Rates.{greatest_of}
 use Rattle.play_run.proofs.WaitSteps.{stop-waits}
-use Rattle.play_run.proofs.WaitTurns.{passed-unasked, turns-wait, turns-ended, late-start}
+use Rattle.play_run.proofs.WaitTurns.{passed-unasked, turns-wait, turns-ended, turns-soon, late-start}
 use Rattle.play_run.proofs.Waits.{slots_wait, waits-more}
 
 -- ---- a new memory, and a cost
@@ -51,6 +51,10 @@ pub cost-spent : (levels costs cost : ℕ) (s : TimedState) → IsSpent levels c
 cost-spent levels costs cost s x =
     let clock = x.clock in
     record { slots = x.slots; pace = x.pace; taken = x.taken; clock = omega (arith, clock) }
+
+-- the clock goes no further than to the end of a slot that starts before the time of the settings
+abbrev GoesTo : Config → (clock later : ℕ) → Type 0
+GoesTo config clock later = (clock ≤ later) × (later ≤ max clock (config.time + olat_of config.shape.levels))
 
 -- ---- the keys stay a port's
 module _ (keys : Keys) where
@@ -112,7 +116,7 @@ module _ (keys : Keys) (levels count : ℕ) where
         (turns-wait config no_numbers accesses s.clock end x.pace in_turn)
 
     taken-spent : (t : TimedState) → TakesInTurn config no_numbers s.clock t.clock x.slots x.pace t.oram.port
-        → IsSpent levels costs t × (s.clock ≤ t.clock)
+        → IsSpent levels costs t × GoesTo config s.clock t.clock
     taken-spent t takes =
         let turn : Passed = taken_by takes.accesses in
         let more = waits-more levels s.oram.port.tap.log t.oram.port.tap.log x.slots turn.slots x.taken.said
@@ -125,11 +129,14 @@ module _ (keys : Keys) (levels count : ℕ) where
             taken = takes.taken;
             clock = omega (arith, clock, more, end);
           },
-          omega (arith, end),
+          (
+            omega (arith, end),
+            turns-soon config no_numbers takes.accesses s.clock t.clock x.pace takes.in_turn,
+          ),
         )
 
     line-spent : (request : LineRequest) (bytes : List ℕ) (t : TimedState)
-        → TimedStep keys levels count s request (Ok bytes) t → IsSpent levels costs t × (s.clock ≤ t.clock)
+        → TimedStep keys levels count s request (Ok bytes) t → IsSpent levels costs t × GoesTo config s.clock t.clock
     line-spent (Fetch line) bytes t h =
         taken-spent t (fetch-takes keys levels 0 s.clock line
         (record { line = Some (record { 0 = bytes }); end = t.clock }) s.oram t.oram x.slots x.pace no_numbers fits
@@ -216,14 +223,18 @@ module _ (keys : Keys) (levels count : ℕ) where
 
   pub plan-spent : {B A : Type 0} (plan : Plan LineRequest (List ℕ) B A) (costs : ℕ) (s t : TimedState) (outcome : A)
       → FitKeys keys s.oram.port → CanAsk levels count s → IsSpent levels costs s
-      → Ends (TimedStep keys levels count) plan s t outcome → IsSpent levels costs t × (s.clock ≤ t.clock)
+      → Ends (TimedStep keys levels count) plan s t outcome
+      → IsSpent levels costs t × GoesTo s.oram.port.clock.config s.clock t.clock
   plan-spent (Done a) costs s t outcome fits ask x ends =
-      subst (λ (u : TimedState). IsSpent levels costs u × (s.clock ≤ u.clock)) (sym ends.1) (x, omega arith)
+      subst (λ (u : TimedState). IsSpent levels costs u × GoesTo s.oram.port.clock.config s.clock u.clock) (sym ends.1)
+      (x, (omega arith, omega arith))
   plan-spent (Ask request left next) costs s t outcome fits ask x (bytes, mid, one, rest) =
-      let first = line-spent costs s fits ask x request bytes mid one in
-      let more = plan-spent (next bytes) costs mid t outcome (line-fits request bytes s mid one fits)
-      (answers_serve keys levels count s mid request bytes one) first.0 rest in
-      (more.0, omega (arith, first.1, more.1))
+      let (now, (later, soon)) = line-spent costs s fits ask x request bytes mid one in
+      let (after, (last, near)) = plan-spent (next bytes) costs mid t outcome (line-fits request bytes s mid one fits)
+      (answers_serve keys levels count s mid request bytes one) now rest in
+      let most = subst (λ (c : Config). t.clock ≤ max mid.clock (c.time + olat_of c.shape.levels))
+      (line-config request bytes s mid costs fits ask x one) near in
+      (after, (omega (arith, later, last), omega (arith, soon, most)))
 
   pub plan-stops : {B A : Type 0} (plan : Plan LineRequest (List ℕ) B A) (costs : ℕ) (s t : TimedState) (stop : Stop)
       (left : B) → FitKeys keys s.oram.port → CanAsk levels count s → IsSpent levels costs s
@@ -234,7 +245,7 @@ module _ (keys : Keys) (levels count : ℕ) where
       line-stops costs s fits ask x request stop t one.0
   plan-stops (Ask request b next) costs s t stop left fits ask x (inr (bytes, mid, one, rest)) =
       let first = line-spent costs s fits ask x request bytes mid one in
-      let later : s.clock ≤ mid.clock = first.1 in
+      let later : s.clock ≤ mid.clock = first.1.0 in
       let more = plan-stops (next bytes) costs mid t stop left (line-fits request bytes s mid one fits)
       (answers_serve keys levels count s mid request bytes one) first.0 rest in
       let cycles = more.cycles in

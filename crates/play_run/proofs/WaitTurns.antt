@@ -2,7 +2,7 @@
 -- the last. And how far off a slot is that comes too late.
 use Rattle.std.proofs.Common.{◌≡◌, ◌<◌, ◌≤◌, ◌⊎◌, ℕ, zero, suc, ◌+◌, Bool, true, false, List, [], ◌∷◌, ◌++◌, Some, None}
 use Rattle.std.proofs.Common.{refl, sym, subst, arith, inl, inr}
-use Rattle.std.specs.Prelude.{min, nat_lt, unwrap_or}
+use Rattle.std.specs.Prelude.{min, max, nat_lt, unwrap_or}
 use Rattle.std.proofs.lemmas.Bool.{ltb-true}
 use Rattle.std.proofs.lemmas.List.Sums.{sum_by-cons, sum_by-append}
 use Rattle.asc_base.specs.Settings.{IsConfig}
@@ -123,6 +123,15 @@ module _ (config : Config) (numbers : Numbers) where
       let ended = heard-ended (heard_next (public_of config) before.pace (Some one.access.asked))
       (choice_next (public_of config) before.pace (Some one.access.asked)) in
       turns-ended more (asked_start config numbers pace one.access + olat) end first.pace (omega (arith, ended)) rest
+
+  -- and ends less than a slot's cycles after the time of the settings, or there is none
+  pub turns-soon : (accesses : List AnsweredAccess) (asked end : ℕ) (pace : Pace)
+      → AreInTurn config numbers asked accesses pace end → end ≤ max asked (config.time + olat)
+  turns-soon [] asked end pace is = omega (arith, is)
+  turns-soon (one ∷ more) asked end pace (same, early, rest) =
+      let start : ℕ = asked_start config numbers pace one.access in
+      let later = turns-soon more (start + olat) end (answered_slots config numbers pace one).pace rest in
+      omega (arith, early, later)
 
   -- ---- a slot that comes too late
   pub late-start : (is : IsConfig config) (slots : List Slot) (pace : Pace) (access : Access)

@@ -1,6 +1,7 @@
 //! Laws of what the clock of a run is made of. The functions do nothing: each states laws in its contract.
 
-ghost use Rattle.std.specs.Prelude.{◌≡◌, ◌≤◌, ◌+◌, ℕ, suc, List, [], ◌∷◌, None, Some, Result, replicate};
+ghost use Rattle.std.specs.Prelude.{◌≡◌, ◌≤◌, ◌+◌, ℕ, suc, max, List, [], ◌∷◌, None, Some, Result, replicate};
+ghost use Rattle.asc_base.specs.TreeShape.{olat_of};
 ghost use Rattle.asc_base.specs.declared.block.Leaf.{Leaf};
 ghost use Rattle.asc_base.specs.declared.block.Point.{Point};
 ghost use Rattle.asc_base.specs.declared.settings.Config.{Config};
@@ -23,10 +24,10 @@ ghost use Rattle.rv32_core.specs.declared.outcome.TrapKind.{TrapKind};
 
 /// The clock of an encrypted memory is the costs that were spent and what was waited for its slots: for each that was
 /// asked for, its end less the time for which it was asked. So it begins, so a plan of requests that are answered
-/// leaves it, and so does a cost; and no request takes the clock back. Where a plan is stopped, the clock before it is
-/// no more than that by the log then; and where no time is left, the slot that came too late starts less than a slot's
-/// cycles and the greatest rate after that. A wait adds nothing, also where it is stopped, since nobody waits for a
-/// dummy. All of this holds whatever the memory replies.
+/// leaves it, and so does a cost; and no request takes the clock back, nor further than a slot's cycles after the time of
+/// the settings. Where a plan is stopped, the clock before it is no more than that by the log then; and where no time is
+/// left, the slot that came too late starts less than a slot's cycles and the greatest rate after that. A wait adds
+/// nothing, also where it is stopped, since nobody waits for a dummy. All of this holds whatever the memory replies.
 pub fn cycles_are_spent<A, B>()
     ensures start { (keys : Keys) (levels : ℕ) (config : Config) (s : TimedState) → IsNew keys config levels s.oram
         → s.clock ≡ 0 → IsSpent levels 0 s }
@@ -36,6 +37,10 @@ pub fn cycles_are_spent<A, B>()
     ensures onward { (keys : Keys) (levels count costs : ℕ) (plan : Plan LineRequest (List ℕ) B A) (s t : TimedState)
         (outcome : A) → FitKeys keys s.oram.port → CanAsk levels count s → IsSpent levels costs s
         → Ends (TimedStep keys levels count) plan s t outcome → s.clock ≤ t.clock }
+    ensures soon { (keys : Keys) (levels count costs : ℕ) (plan : Plan LineRequest (List ℕ) B A) (s t : TimedState)
+        (outcome : A) → FitKeys keys s.oram.port → CanAsk levels count s → IsSpent levels costs s
+        → Ends (TimedStep keys levels count) plan s t outcome → let config = s.oram.port.clock.config in
+        t.clock ≤ max s.clock (config.time + olat_of config.shape.levels) }
     ensures stops { (keys : Keys) (levels count costs : ℕ) (plan : Plan LineRequest (List ℕ) B A) (s t : TimedState)
         (stop : Stop) (left : B) → FitKeys keys s.oram.port → CanAsk levels count s → IsSpent levels costs s
         → Stops (TimedStep keys levels count) plan s t stop left

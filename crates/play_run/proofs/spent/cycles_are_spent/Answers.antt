@@ -8,7 +8,9 @@ returns g c = record {
   ends = λ keys levels count costs plan s t outcome fits ask x ends.
       (plan-spent keys levels count plan costs s t outcome fits ask x ends).0;
   onward = λ keys levels count costs plan s t outcome fits ask x ends.
-      (plan-spent keys levels count plan costs s t outcome fits ask x ends).1;
+      (plan-spent keys levels count plan costs s t outcome fits ask x ends).1.0;
+  soon = λ keys levels count costs plan s t outcome fits ask x ends.
+      (plan-spent keys levels count plan costs s t outcome fits ask x ends).1.1;
   stops = λ keys levels count costs plan. plan-stops keys levels count plan costs;
   cost = cost-spent;
   waits = λ keys levels. wait-same levels keys levels;
