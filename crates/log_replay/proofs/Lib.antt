@@ -6,3 +6,6 @@ pub mod ReplayedLogs
 pub mod SlotSteps
 pub mod BlockSlots
 pub mod Behinds
+pub mod Asks
+pub mod FrontParts
+pub mod FrontAsks
