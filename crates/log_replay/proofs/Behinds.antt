@@ -1,11 +1,9 @@
 -- A message that is appended behind a slot, or a line that is answered, keeps what is known of a log.
-use Rattle.std.proofs.Common.{◌≡◌, ◌<◌, ◌+◌, inl, ℕ, false, List, [], ◌∷◌, ◌++◌, length, Option, None, Some, refl, sym}
+use Rattle.std.proofs.Common.{◌≡◌, ◌<◌, inl, ℕ, false, List, [], ◌∷◌, ◌++◌, length, Option, None, Some, refl, sym}
 use Rattle.std.proofs.Common.{◌∙◌, ap, ap₂, subst, arith, append-nil, append_assoc}
 use Rattle.std.specs.List.{count_by, flat_map}
 use Rattle.std.proofs.lemmas.List.Concat.{flat_map-append}
-use Rattle.asc_base.specs.Has.{Has}
 use Rattle.asc_base.specs.declared.block.Address.{Address}
-use Rattle.asc_base.specs.declared.block.Counter.{Counter}
 use Rattle.asc_base.specs.declared.block.Entry.{Entry}
 use Rattle.asc_base.specs.declared.block.Line.{Line}
 use Rattle.asc_base.specs.declared.block.Message.{Message}
@@ -13,7 +11,6 @@ use Rattle.asc_base.specs.declared.stop.Evidence.TheVariants.{Doubled}
 use Rattle.asc_base.specs.declared.stop.Stop.{Stop}
 use Rattle.asc_base.specs.declared.stop.Stop.TheVariants.{Integrity}
 use Rattle.bus_watch.specs.Log.{LogLists}
-use Rattle.bus_watch.specs.declared.log.Altered.{Altered}
 use Rattle.bus_watch.specs.declared.log.Event.{Event}
 use Rattle.bus_watch.specs.declared.log.Event.TheVariants.{Tagged, Answered}
 use Rattle.oram_contents.specs.Contents.{Contents}
@@ -33,10 +30,10 @@ use Rattle.oram_stash.specs.Entries.{held}
 use Rattle.rate_enforcer.specs.Counts.{is_dummy}
 use Rattle.rate_enforcer.proofs.Counted.{count_more}
 use Rattle.log_replay.specs.Judged.{verdict_on}
-use Rattle.log_replay.specs.Order.{Behind, Nothing, Appends, Answers, SlotNotes, accepted_events, chosen_events}
+use Rattle.log_replay.specs.Order.{Behind, Appends, Answers, SlotNotes, accepted_events, chosen_events}
 use Rattle.log_replay.specs.Order.{behind_events, events_of, MayStand, IsTaken, IsDone, AreInOrder, AreDone}
 use Rattle.log_replay.proofs.BlockSlots.{IsBehindBlock}
-use Rattle.log_replay.proofs.Orders.{all_events, two_or_more, behind_none, read_kept, order_kept, all_done_kept}
+use Rattle.log_replay.proofs.Orders.{all_events, behind_none, read_kept, order_kept, all_done_kept}
 use Rattle.log_replay.proofs.Orders.{order_more, done_more, order_front, order_last, done_front}
 use Rattle.log_replay.proofs.ReplayedLogs.{IsReplayedLog}
 

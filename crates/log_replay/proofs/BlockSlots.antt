@@ -1,5 +1,5 @@
 -- The slot of a block keeps what is known of a log, and nothing stands behind it yet.
-use Rattle.std.proofs.Common.{◌≡◌, ◌<◌, ◌≤◌, ◌+◌, ℕ, false, List, [], ◌∷◌, ◌++◌, length, Option, None, Some, refl, sym}
+use Rattle.std.proofs.Common.{◌≡◌, ◌<◌, ◌≤◌, ℕ, false, List, [], ◌∷◌, ◌++◌, length, Option, None, Some, refl, sym}
 use Rattle.std.proofs.Common.{◌∙◌, ap, subst, append-nil, append_assoc}
 use Rattle.std.proofs.lemmas.List.{append_cancel_left}
 use Rattle.asc_base.proofs.Members.{all_has}
@@ -62,8 +62,8 @@ block_notes start time a c found put chosen = record {
 abbrev pub counting : Counter → Ghost
 counting c = record first_ghost { count = λ b. c }
 
-first_asked : (start : ℕ) (asked other : Option ℕ) (xs ys : List Event) → Access start asked ∷ xs ≡ Access start other ∷ ys
-    → asked ≡ other
+first_asked : (start : ℕ) (asked other : Option ℕ) (xs ys : List Event)
+    → Access start asked ∷ xs ≡ Access start other ∷ ys → asked ≡ other
 first_asked start asked other xs ys is = cc
 
 zero_whole : length zero_line ≡ 64
@@ -79,18 +79,19 @@ found_whole keys joined a (Some e) of_shape is =
     (held_has joined (record { 0 = a }) e is).0 in
     range.0.line
 
+-- a slot that an access asked for at a time is asked for at that time
+pub asked_is : (keys : Keys) (old log : LogLists) (start a time : ℕ) (c : Counter) (asked : Option ℕ)
+    (more later : List Event) → log.events ≡ old.events ++ (drawn_events keys start asked (real a c) ++ more)
+    → log.events ≡ old.events ++ (drawn_events keys start (Some time) (real a c) ++ later) → asked ≡ Some time
+asked_is keys old log start a time c asked more later one other =
+    first_asked start asked (Some time) (Drawn (real a c) (record { 0 = keys.leaf_of (real a c) }) ∷ more)
+    (Drawn (real a c) (record { 0 = keys.leaf_of (real a c) }) ∷ later)
+    (append_cancel_left old.events (drawn_events keys start asked (real a c) ++ more)
+    (drawn_events keys start (Some time) (real a c) ++ later) (sym one ∙ other))
+
 module _ (keys : Keys) (lawful : AreKeys keys) (stash : ℕ) (old log new : LogLists) (now after : Contents)
     (start a time : ℕ) (c : Counter) (found : Option Entry) (ends : IsEnd log new) (n : ℕ) (seeds : HasSeeds now)
     (few : length after.hand ≤ stash) (y : IsReplayedLog keys stash old now n) where
-  pub asked_is : (asked : Option ℕ) (more later : List Event)
-      → log.events ≡ old.events ++ (drawn_events keys start asked (real a c) ++ more)
-      → log.events ≡ old.events ++ (drawn_events keys start (Some time) (real a c) ++ later) → asked ≡ Some time
-  asked_is asked more later one other =
-      first_asked start asked (Some time) (Drawn (real a c) (record { 0 = keys.leaf_of (real a c) }) ∷ more)
-      (Drawn (real a c) (record { 0 = keys.leaf_of (real a c) }) ∷ later)
-      (append_cancel_left old.events (drawn_events keys start asked (real a c) ++ more)
-      (drawn_events keys start (Some time) (real a c) ++ later) (sym one ∙ other))
-
   -- what is noted up to the choice at the slot's end
   noted_to_end : (asked : Option ℕ) (put : Option Message) → asked ≡ Some time
       → log.events ≡ old.events ++ (drawn_events keys start asked (real a c) ++ (accepted a c found ++ put_events put))

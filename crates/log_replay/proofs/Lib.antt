@@ -6,6 +6,9 @@ pub mod ReplayedLogs
 pub mod SlotSteps
 pub mod BlockSlots
 pub mod Behinds
+pub mod WholeSlots
+pub mod Ports
+pub mod PortStarts
 pub mod Asks
 pub mod FrontParts
 pub mod FrontAsks

@@ -2,7 +2,6 @@
 use Rattle.std.proofs.Common.{◌≡◌, ◌<◌, ◌≤◌, ◌+◌, ◌⊎◌, inl, inr, ℕ, List, [], ◌∷◌, ◌++◌, length, Option, None, Some}
 use Rattle.std.proofs.Common.{refl, sym, ◌∙◌, ap, ap₂, subst, arith, append-nil, append_assoc, length-append}
 use Rattle.std.specs.List.{count_by, flat_map}
-use Rattle.asc_base.proofs.Lookups.{count_by-cons}
 use Rattle.asc_base.specs.Has.{Has}
 use Rattle.asc_base.specs.declared.block.Entry.{Entry}
 use Rattle.asc_base.specs.declared.block.Message.{Message}
@@ -11,8 +10,8 @@ use Rattle.asc_base.specs.declared.block.Point.TheVariants.{Real, Dummy}
 use Rattle.bus_watch.specs.Log.{LogLists}
 use Rattle.bus_watch.specs.declared.log.Altered.{Altered}
 use Rattle.bus_watch.specs.declared.log.Event.{Event}
-use Rattle.bus_watch.specs.declared.log.Event.TheVariants.{Access, Drawn, Tagged, Accepted, Chosen, Answered}
-use Rattle.oram_contents.specs.Entries.{Keys, message_of}
+use Rattle.bus_watch.specs.declared.log.Event.TheVariants.{Access, Drawn}
+use Rattle.oram_contents.specs.Entries.{Keys}
 use Rattle.oram_contents.specs.Fold.{noted_at, settle, fold_events, whole}
 use Rattle.oram_contents.specs.PathRead.{replies, path_read}
 use Rattle.oram_contents.specs.Starts.{first_fold}
@@ -33,10 +32,6 @@ later_events s = accepted_events s.point s.found
 abbrev pub next_after : ℕ → List SlotNotes → ℕ
 next_after n [] = n
 next_after n (s ∷ later) = next_after (next_dummy n s.point) later
-
-no_dummy : (e : Event) (events : List Event) → count_by is_dummy (e ∷ events) ≡ count_by is_dummy (e ∷ [])
-    + count_by is_dummy events
-no_dummy e events = count_more is_dummy (e ∷ []) events
 
 accepted_none : (p : Point) (found : Option Entry) → count_by is_dummy (accepted_events p found) ≡ 0
 accepted_none (Real a c) None = refl
@@ -84,9 +79,6 @@ module _ (keys : Keys) where
     where
       rest : count_by is_dummy (later_events s) ≡ 0
       rest = later_none s
-
-      starts : (asked : Option ℕ) (p : Point) → List Event
-      starts asked p = Access s.start asked ∷ Drawn p (record { 0 = keys.leaf_of p }) ∷ later_events s
 
       by_point : (p : Point) (asked : Option ℕ) → IsNextPoint n asked p
           → n + count_by is_dummy (Access s.start asked ∷ Drawn p (record { 0 = keys.leaf_of p }) ∷ later_events s)

@@ -1,42 +1,36 @@
 -- What is kept of a log, of the contents that it says and of its dummies, over a slot that is done.
-use Rattle.std.proofs.Common.{◌≡◌, ◌<◌, ◌≤◌, ◌+◌, ◌⊎◌, inl, inr, ℕ, Bool, true, false, if◌then◌else◌, List, [], ◌∷◌, ◌++◌}
-use Rattle.std.proofs.Common.{length, All, Option, None, Some, Ok, refl, sym, ◌∙◌, ap, ap₂, subst, arith}
+use Rattle.std.proofs.Common.{◌≡◌, ◌<◌, ◌+◌, ◌⊎◌, inl, inr, ℕ, List, [], ◌∷◌, ◌++◌}
+use Rattle.std.proofs.Common.{length, All, Option, None, Some, refl, sym, ◌∙◌, ap, ap₂, subst, arith}
 use Rattle.std.proofs.Common.{append-nil, append_assoc}
 use Rattle.std.specs.List.{count_by, flat_map}
-use Rattle.std.proofs.lemmas.Bool.Decides.{eqb_tells}
 use Rattle.std.proofs.lemmas.List.Concat.{flat_map-append}
 use Rattle.asc_base.proofs.Members.{all_has}
 use Rattle.asc_base.specs.Has.{Has}
-use Rattle.asc_base.specs.declared.block.Counter.{Counter}
 use Rattle.asc_base.specs.declared.block.Entry.{Entry}
 use Rattle.asc_base.specs.declared.block.Message.{Message}
 use Rattle.asc_base.specs.declared.block.Point.{Point}
 use Rattle.asc_base.specs.declared.block.Point.TheVariants.{Real, Dummy}
-use Rattle.asc_base.specs.declared.stop.Stop.{Stop}
 use Rattle.bus_watch.specs.Log.{LogLists}
 use Rattle.bus_watch.specs.declared.log.Altered.{Altered}
 use Rattle.bus_watch.specs.declared.log.Event.{Event}
-use Rattle.bus_watch.specs.declared.log.Event.TheVariants.{Access, Drawn, Tagged, Accepted, Chosen, Answered}
 use Rattle.oram_contents.specs.Contents.{Contents, IsReadTo}
-use Rattle.oram_contents.specs.Entries.{Keys, real, message_of}
-use Rattle.oram_contents.specs.Fold.{Fold, settle, noted_at, leave, is_open_for, joined_by, after_event, fold_events}
+use Rattle.oram_contents.specs.Entries.{Keys, message_of}
+use Rattle.oram_contents.specs.Fold.{settle, noted_at, leave}
 use Rattle.oram_contents.specs.Fold.{whole}
 use Rattle.oram_contents.specs.PathRead.{replies, path_read}
 use Rattle.oram_contents.specs.Provenance.{Always}
-use Rattle.oram_contents.specs.Slots.{drawn_events, IsEnd}
+use Rattle.oram_contents.specs.Slots.{IsEnd}
 use Rattle.oram_contents.specs.Starts.{first_fold}
-use Rattle.oram_contents.specs.Steps.{Adds, next_dummy}
-use Rattle.oram_contents.specs.Verdict.{integrity, judged, first_of, read_verdict, write_verdict, slot_verdict}
-use Rattle.oram_contents.specs.Verdict.{note_events, put_events, put_entries, IsOfPoint}
-use Rattle.oram_contents.proofs.Folding.{read_of, read_fold, noted_here, so_far, slot_fold}
-use Rattle.oram_contents.proofs.VerdictLaws.{slot_shows, end_shows}
+use Rattle.oram_contents.specs.Steps.{Adds}
+use Rattle.oram_contents.specs.Verdict.{write_verdict}
+use Rattle.oram_contents.specs.Verdict.{note_events, put_entries, IsOfPoint}
+use Rattle.oram_contents.proofs.Folding.{noted_here, so_far}
 use Rattle.rate_enforcer.specs.Counts.{is_dummy}
-use Rattle.rate_enforcer.proofs.Counted.{count_more}
 use Rattle.log_replay.specs.Judged.{verdict_on}
-use Rattle.log_replay.specs.Order.{Nothing, SlotNotes, accepted_events, chosen_events, behind_events, events_of}
+use Rattle.log_replay.specs.Order.{Nothing, SlotNotes, accepted_events, chosen_events, events_of}
 use Rattle.log_replay.specs.Order.{IsNextPoint, IsTaken, IsDone, IsBare, AreDone, LogOrder}
-use Rattle.log_replay.proofs.Orders.{later_events, all_events, next_after, slot_dummies, numbered, order_kept}
-use Rattle.log_replay.proofs.Orders.{all_done_kept, order_more, done_more}
+use Rattle.log_replay.proofs.Orders.{later_events, all_events, next_after, numbered, order_kept}
+use Rattle.log_replay.proofs.Orders.{all_done_kept, order_more}
 
 -- A log notes slots in order, each of which was done, and so many dummies; it says these contents, in which nothing is
 -- wrong.

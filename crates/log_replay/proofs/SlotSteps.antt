@@ -1,5 +1,5 @@
 -- A slot that is done keeps what is known of a log, and dummies do, however many.
-use Rattle.std.proofs.Common.{◌≡◌, ◌≤◌, ◌+◌, ◌⊎◌, inl, inr, ℕ, zero, suc, false, List, [], ◌∷◌, ◌++◌, length, All}
+use Rattle.std.proofs.Common.{◌≡◌, ◌≤◌, ◌+◌, ◌⊎◌, inl, inr, ℕ, zero, suc, false, List, [], ◌∷◌, ◌++◌, length}
 use Rattle.std.proofs.Common.{Option, None, Some, Ok, refl, sym, ◌∙◌, ap, ap₂, subst, arith, append-nil, append_assoc}
 use Rattle.std.specs.List.{count_by}
 use Rattle.asc_base.specs.declared.block.Counter.{Counter}
@@ -7,21 +7,19 @@ use Rattle.asc_base.specs.declared.block.Entry.{Entry}
 use Rattle.asc_base.specs.declared.block.Message.{Message}
 use Rattle.asc_base.specs.declared.block.Point.{Point}
 use Rattle.asc_base.specs.declared.block.Point.TheVariants.{Real, Dummy}
-use Rattle.asc_base.specs.declared.stop.Stop.{Stop}
 use Rattle.bus_watch.specs.Log.{LogLists}
-use Rattle.bus_watch.specs.declared.log.Event.{Event}
 use Rattle.bus_watch.specs.declared.log.Event.TheVariants.{Chosen}
 use Rattle.oram_contents.specs.Contents.{Contents}
 use Rattle.oram_contents.specs.Entries.{Keys, AreKeys, real}
-use Rattle.oram_contents.specs.Fold.{leave, is_open_for, fold_events, whole}
+use Rattle.oram_contents.specs.Fold.{is_open_for, fold_events, whole}
 use Rattle.oram_contents.specs.PathRead.{replies, path_read}
 use Rattle.oram_contents.specs.PathWritten.{stays}
 use Rattle.oram_contents.specs.Provenance.{Always}
 use Rattle.oram_contents.specs.Slots.{drawn_events, IsEnd, IsDummy, ArePasses, HasSeeds}
 use Rattle.oram_contents.specs.Starts.{first_fold, first_ghost}
-use Rattle.oram_contents.specs.Steps.{Adds, next_dummy}
+use Rattle.oram_contents.specs.Steps.{next_dummy}
 use Rattle.oram_contents.specs.Verdict.{integrity, judged, first_of, read_verdict, write_verdict, slot_verdict}
-use Rattle.oram_contents.specs.Verdict.{note_events, put_events, put_entries}
+use Rattle.oram_contents.specs.Verdict.{note_events, put_events}
 use Rattle.oram_contents.proofs.Ends.{always_ends, whole_ends}
 use Rattle.oram_contents.proofs.Folding.{read_fold, slot_fold, whole_pass}
 use Rattle.oram_contents.proofs.Passes.{pass_always}
