@@ -1,4 +1,3 @@
-pub mod Few
 pub mod Orders
 pub mod Rests
 pub mod OpenPaths

@@ -25,11 +25,11 @@ use Rattle.oram_contents.proofs.Folding.{read_fold, slot_fold, whole_pass}
 use Rattle.oram_contents.proofs.Passes.{pass_always}
 use Rattle.oram_contents.proofs.VerdictLaws.{slot_shows, end_shows}
 use Rattle.rate_enforcer.specs.Counts.{is_dummy}
+use Rattle.rate_enforcer.specs.Served.{AreFew}
 use Rattle.rate_enforcer.proofs.Counted.{count_more}
 use Rattle.log_replay.specs.Judged.{verdict_on}
 use Rattle.log_replay.specs.Order.{Nothing, SlotNotes, accepted_events, chosen_events, behind_events, events_of}
 use Rattle.log_replay.specs.Order.{IsTaken, IsDone, AreDone}
-use Rattle.log_replay.proofs.Few.{AreFew}
 use Rattle.log_replay.proofs.OpenPaths.{quiet_later, quiet_fold, other_open}
 use Rattle.log_replay.proofs.Orders.{later_events, slot_dummies, all_done_kept, done_more}
 use Rattle.log_replay.proofs.ReplayedLogs.{IsReplayedLog, AddsSlot, note_of, note_is, in_turn, chosen_at, chosen_is}

@@ -15,6 +15,7 @@ use Rattle.oram_contents.specs.PathRead.{path_read, replies}
 use Rattle.oram_contents.specs.PathWritten.{sealed, rest_of}
 use Rattle.oram_contents.specs.Slots.{IsRead, ArePasses, drawn_events}
 use Rattle.oram_contents.specs.Steps.{Adds}
+use Rattle.rate_enforcer.specs.Served.{AreFew}
 
 -- The slot of a point began, which was asked for at this time or by nobody: its start and its leaf were noted, and
 -- altered replies after them.
@@ -104,13 +105,15 @@ pub record PassesStop (keys : Keys) (stash : ℕ) (stop : Stop) (old new : LogLi
   pub mid : LogLists
   pub between : Contents
   pub passed : ArePasses keys done old mid now between n
+  pub few : AreFew keys stash done old mid now between n passed
   pub stops : DummyStops keys stash stop mid new between after start (n + done)
 
 -- After so many dummies the slot that was asked for stops.
-pub record AskedStops (keys : Keys) (stop : Stop) (old new : LogLists) (now after : Contents) (start n asked : ℕ)
-    (point : Point) : Type 0 where
+pub record AskedStops (keys : Keys) (stash : ℕ) (stop : Stop) (old new : LogLists) (now after : Contents)
+    (start n asked : ℕ) (point : Point) : Type 0 where
   pub done : ℕ
   pub mid : LogLists
   pub between : Contents
   pub passed : ArePasses keys done old mid now between n
+  pub few : AreFew keys stash done old mid now between n passed
   pub stops : ReadStops keys stop mid new between after start (Some asked) point
