@@ -1,17 +1,17 @@
 -- The plans of a front end ask rightly, whatever is answered: it stays one of its shape, accesses blocks of the shape,
 -- and appends another block than the one that was accessed.
 use Rattle.std.proofs.Common.{◌≡◌, ◌<◌, ◌≤◌, ◌+◌, ℕ, zero, suc, Bool, true, false, length, Option, None, Some, IsNone}
-use Rattle.std.proofs.Common.{IfSome, is_some, refl, sym, ap, subst, ◌∙◌, arith}
+use Rattle.std.proofs.Common.{IfSome, is_some, refl, sym, ap, subst, arith}
 use Rattle.std.specs.Option.{option_map_or}
-use Rattle.request_plan.specs.Plan.{Done, Ask, Ends}
+use Rattle.request_plan.specs.Plan.{Done, Ask}
 use Rattle.asc_base.specs.Shape.{IsAddress, parent_in, children_in}
 use Rattle.asc_base.specs.declared.block.Address.{Address}
 use Rattle.asc_base.specs.declared.block.Line.{Line}
 use Rattle.asc_base.specs.declared.shape.Shape.{Shape}
 use Rattle.asc_base.proofs.ShapeFacts.{IsLayered, shape_layered}
-use Rattle.oram_walk.specs.Front.{FrontState, IsFront, full_parent, with_held, stepped}
+use Rattle.oram_walk.specs.Front.{FrontState, IsFront, full_parent, with_held}
 use Rattle.oram_walk.specs.Plans.{FrontPlan, on, child_by, child_plan, children_plan, family_plan, full_plan}
-use Rattle.oram_walk.specs.Plans.{group_plan, step_plan, visit_plan, append_plan, hold_plan, refilled, refill_plan}
+use Rattle.oram_walk.specs.Plans.{group_plan, visit_plan, append_plan, hold_plan, refilled, refill_plan}
 use Rattle.oram_walk.specs.Plans.{found_plan, walk_plan, request_plan, fetch_plan, store_plan}
 use Rattle.oram_walk.specs.Request.{Answer}
 use Rattle.oram_walk.specs.declared.slots.Access.{Access}
@@ -126,8 +126,11 @@ module _ (shape : Shape) where
   parent_asks above state asked address is inside walk None at last = is
   parent_asks above state asked address is inside walk (Some parent) at last =
       let up : IsAddress shape parent =
-      omega (arith, ap (λ (s : Shape). s.total) is.same,
-      (parent_of_block state.shape address parent is.front.shape (here shape state address is inside) at).1) in
+      omega (
+        arith,
+        ap (λ (s : Shape). s.total) is.same,
+        (parent_of_block state.shape address parent is.front.shape (here shape state address is inside) at).1,
+      ) in
       found_asks (is_some (held_at state.held parent)) _ asked _ (used_is shape parent state is)
       (λ missing before. asks_bind shape.total AtAny AtAny _
       (walk_plan above (with_held state (promoted state.held parent)) asked parent) _ before

@@ -13,7 +13,7 @@ use Rattle.asc_base.proofs.ShapeFacts.{IsLayered, shape_layered}
 use Rattle.posmap_counters.specs.Digits.{digits}
 use Rattle.posmap_counters.specs.Group.{GroupState, line_of}
 use Rattle.posmap_counters.proofs.DigitLaws.{length-digits}
-use Rattle.posmap_lookaside.specs.Held.{held_at, promoted, changed, inserted, displaced, with_group}
+use Rattle.posmap_lookaside.specs.Held.{held_at, promoted, changed, inserted, displaced}
 use Rattle.posmap_lookaside.specs.Lookaside.{LookasideState}
 use Rattle.posmap_lookaside.specs.declared.held.Held.{Held}
 use Rattle.posmap_lookaside.proofs.HeldLaws.{inserted_last}
@@ -108,7 +108,8 @@ module _ (shape : Shape) where
       → displaced now.plb held now.held ≡ Some last → IsOf shape now → IsAddress shape last.address
   last_is_inside held last now inside at is =
       let all = subst (λ (o : Option Held). IfSome o (λ block. block.address.0 < now.shape.total)) at
-      (displaced_inside now held (Ok (displaced now.plb held now.held)) (here now held.address is inside) refl is.front) in
+      (displaced_inside now held (Ok (displaced now.plb held now.held)) (here now held.address is inside) refl
+      is.front) in
       omega (arith, ap (λ (s : Shape). s.total) is.same, all)
 
   pub last_is_other : (held last : Held) (now : FrontState) → IsNone (held_at now.held held.address)

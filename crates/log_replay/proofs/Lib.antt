@@ -11,3 +11,6 @@ pub mod PortStarts
 pub mod Asks
 pub mod FrontParts
 pub mod FrontAsks
+pub mod Along
+pub mod AlongStops
+pub mod Requests
