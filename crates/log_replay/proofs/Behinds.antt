@@ -1,6 +1,6 @@
 -- A message that is appended behind a slot, or a line that is answered, keeps what is known of a log.
-use Rattle.std.proofs.Common.{◌≡◌, ◌<◌, inl, ℕ, false, List, [], ◌∷◌, ◌++◌, length, Option, None, Some, refl, sym}
-use Rattle.std.proofs.Common.{◌∙◌, ap, ap₂, subst, arith, append-nil, append_assoc}
+use Rattle.std.proofs.Common.{◌≡◌, ◌<◌, inl, ℕ, false, List, [], ◌∷◌, ◌++◌, length, Option, None, Some, refl, sym, ◌∙◌}
+use Rattle.std.proofs.Common.{ap, ap₂, subst, arith, append-nil, append_assoc}
 use Rattle.std.specs.List.{count_by, flat_map}
 use Rattle.std.proofs.lemmas.List.Concat.{flat_map-append}
 use Rattle.asc_base.specs.declared.block.Address.{Address}
@@ -30,11 +30,11 @@ use Rattle.oram_stash.specs.Entries.{held}
 use Rattle.rate_enforcer.specs.Counts.{is_dummy}
 use Rattle.rate_enforcer.proofs.Counted.{count_more}
 use Rattle.log_replay.specs.Judged.{verdict_on}
-use Rattle.log_replay.specs.Order.{Behind, Appends, Answers, SlotNotes, accepted_events, chosen_events}
-use Rattle.log_replay.specs.Order.{behind_events, events_of, MayStand, IsTaken, IsDone, AreInOrder, AreDone}
+use Rattle.log_replay.specs.Order.{Behind, Appends, Answers, SlotNotes, accepted_events, chosen_events, behind_events}
+use Rattle.log_replay.specs.Order.{events_of, MayStand, IsTaken, IsDone, AreInOrder, AreDone, LogOrder}
 use Rattle.log_replay.proofs.BlockSlots.{IsBehindBlock}
-use Rattle.log_replay.proofs.Orders.{all_events, behind_none, read_kept, order_kept, all_done_kept}
-use Rattle.log_replay.proofs.Orders.{order_more, done_more, order_front, order_last, done_front}
+use Rattle.log_replay.proofs.Orders.{all_events, behind_none, read_kept, order_kept, all_done_kept, order_more}
+use Rattle.log_replay.proofs.Orders.{done_more, order_front, order_last, done_front}
 use Rattle.log_replay.proofs.ReplayedLogs.{IsReplayedLog}
 
 -- where nothing is wrong with an append none of its address is at hand
@@ -70,7 +70,7 @@ module _ (keys : Keys) (stash : ℕ) (old new : LogLists) (now : Contents) (n a 
       ∙ joins_last (drawn_events keys s.start s.asked s.point) (accepted_events s.point s.found) (put_events s.put)
       (chosen_events s.chosen) (behind_events b)
 
-  both_events : new.events ≡ flat_map (events_of keys) (x.before ++ stood ∷ [])
+  pub both_events : new.events ≡ flat_map (events_of keys) (x.before ++ stood ∷ [])
   both_events =
       let f = flat_map (events_of keys) in
       let front = f x.before in
@@ -81,13 +81,13 @@ module _ (keys : Keys) (stash : ℕ) (old new : LogLists) (now : Contents) (n a 
       ∙ ap (λ l. front ++ l) (stood_events ∙ sym (append-nil (events_of keys stood)))
       ∙ sym (flat_map-append (events_of keys) x.before (stood ∷ []))
 
-  ordered : AreInOrder keys old [] 0 (x.before ++ x.last ∷ [])
+  pub ordered : AreInOrder keys old [] 0 (x.before ++ x.last ∷ [])
   ordered = subst (AreInOrder keys old [] 0) x.slots x.replayed.order.order
 
   all_done : AreDone keys old [] (x.before ++ x.last ∷ [])
   all_done = subst (AreDone keys old []) x.slots x.replayed.done
 
-  last_done : IsDone keys new (all_events keys x.before) stood
+  pub last_done : IsDone keys new (all_events keys x.before) stood
   last_done =
       let d = (done_front keys old [] x.before x.last all_done).1 in
       let taken = subst (λ p. IsTaken keys d.joined p x.last) x.point d.taken in
@@ -99,25 +99,29 @@ module _ (keys : Keys) (stash : ℕ) (old new : LogLists) (now : Contents) (n a 
         put = d.put;
       }
 
-  front_order : AreInOrder keys new [] 0 x.before
+  pub front_order : AreInOrder keys new [] 0 x.before
   front_order = order_kept keys old new [] more [] 0 x.before (λ reply h. absurd h)
       (order_front keys old [] 0 x.before x.last ordered all_done)
 
-  front_done : AreDone keys new [] x.before
+  pub front_done : AreDone keys new [] x.before
   front_done = all_done_kept keys old new [] more [] x.before (λ reply h. absurd h)
       (done_front keys old [] x.before x.last all_done).0
+
+  -- the order of the longer log
+  abbrev pub behind_order : LogOrder keys new
+  behind_order = record {
+    slots = x.before ++ stood ∷ [];
+    events = both_events;
+    order = order_more keys new [] 0 x.before stood front_order front_done
+        (order_last keys old [] 0 x.before x.last ordered) (inl last_done);
+  }
 
   -- what is known of the longer log, with contents that it says, in which nothing is wrong, and of which holds what
   -- holds always
   pub behind_replayed : (after : Contents) → whole keys (first_fold keys) new ≡ after → verdict_on keys stash new ≡ None
       → Always keys new after → IsReplayedLog keys stash new after n
   behind_replayed after is right always = record {
-    order = record {
-      slots = x.before ++ stood ∷ [];
-      events = both_events;
-      order = order_more keys new [] 0 x.before stood front_order front_done
-          (order_last keys old [] 0 x.before x.last ordered) (inl last_done);
-    };
+    order = behind_order;
     done = done_more keys new [] x.before stood front_done last_done;
     dummies_are =
         let none = behind_none b in

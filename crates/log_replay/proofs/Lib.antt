@@ -8,6 +8,12 @@ pub mod Behinds
 pub mod WholeSlots
 pub mod Ports
 pub mod PortStarts
+pub mod StopShows
+pub mod StopMoves
+pub mod StopLogs
+pub mod StopPorts
+pub mod StopSlots
+pub mod StopBehind
 pub mod Asks
 pub mod FrontParts
 pub mod FrontAsks

@@ -21,7 +21,8 @@ use Rattle.oram_contents.proofs.Folding.{noted_same, fold_more}
 use Rattle.rate_enforcer.specs.Counts.{is_dummy}
 use Rattle.rate_enforcer.proofs.Counted.{count_more}
 use Rattle.log_replay.specs.Order.{Behind, Nothing, Appends, Answers, SlotNotes, accepted_events, chosen_events}
-use Rattle.log_replay.specs.Order.{behind_events, events_of, IsNextPoint, IsReadIn, IsDone, IsBare, AreInOrder, AreDone}
+use Rattle.log_replay.specs.Order.{behind_events, events_of, IsNextPoint, IsReadIn, IsDone, IsBare, AreInOrder}
+use Rattle.log_replay.specs.Order.{AreDone}
 
 -- what is noted of a slot behind its start
 abbrev pub later_events : SlotNotes → List Event

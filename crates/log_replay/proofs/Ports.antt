@@ -1,7 +1,7 @@
 -- What answered requests of a port leave: its log goes on noting slots in order, and says its contents, whatever the
 -- replies were.
-use Rattle.std.proofs.Common.{◌≡◌, ◌<◌, ◌≤◌, ◌+◌, ◌-◌, ℕ, List, [], ◌∷◌, ◌++◌, length, Option, None, Some, Ok}
-use Rattle.std.proofs.Common.{refl, sym, ◌∙◌, ap, subst, arith}
+use Rattle.std.proofs.Common.{◌≡◌, ◌<◌, ◌≤◌, ◌+◌, ◌-◌, ℕ, List, [], ◌∷◌, ◌++◌, length, Option, None, Some, Ok, refl}
+use Rattle.std.proofs.Common.{sym, ◌∙◌, ap, subst, arith}
 use Rattle.asc_base.specs.declared.block.Line.{Line}
 use Rattle.asc_base.specs.declared.block.Message.{Message}
 use Rattle.asc_base.specs.declared.shape.Shape.{Shape}
@@ -63,7 +63,7 @@ port_of_log keys s stash n fits same count x = record {
 }
 
 -- what is known of a port's log behind a slot, and back
-behind_of : (keys : Keys) (a : ℕ) (line : List ℕ) (s : PortState) → IsBehindSlot keys a line s
+pub behind_of : (keys : Keys) (a : ℕ) (line : List ℕ) (s : PortState) → IsBehindSlot keys a line s
     → IsBehindBlock keys s.tree.stash s.tap.log (contents s) s.clock.dummies a line
 behind_of keys a line s b = record {
   replayed = record {

@@ -1,7 +1,6 @@
 -- What is kept of a log, of the contents that it says and of its dummies, over a slot that is done.
-use Rattle.std.proofs.Common.{◌≡◌, ◌<◌, ◌+◌, ◌⊎◌, inl, inr, ℕ, List, [], ◌∷◌, ◌++◌}
-use Rattle.std.proofs.Common.{length, All, Option, None, Some, refl, sym, ◌∙◌, ap, ap₂, subst, arith}
-use Rattle.std.proofs.Common.{append-nil, append_assoc}
+use Rattle.std.proofs.Common.{◌≡◌, ◌<◌, ◌+◌, ◌⊎◌, inl, inr, ℕ, List, [], ◌∷◌, ◌++◌, length, All, Option, None, Some}
+use Rattle.std.proofs.Common.{refl, sym, ◌∙◌, ap, ap₂, subst, arith, append-nil, append_assoc}
 use Rattle.std.specs.List.{count_by, flat_map}
 use Rattle.std.proofs.lemmas.List.Concat.{flat_map-append}
 use Rattle.asc_base.proofs.Members.{all_has}
@@ -15,22 +14,20 @@ use Rattle.bus_watch.specs.declared.log.Altered.{Altered}
 use Rattle.bus_watch.specs.declared.log.Event.{Event}
 use Rattle.oram_contents.specs.Contents.{Contents, IsReadTo}
 use Rattle.oram_contents.specs.Entries.{Keys, message_of}
-use Rattle.oram_contents.specs.Fold.{settle, noted_at, leave}
-use Rattle.oram_contents.specs.Fold.{whole}
+use Rattle.oram_contents.specs.Fold.{settle, noted_at, leave, whole}
 use Rattle.oram_contents.specs.PathRead.{replies, path_read}
 use Rattle.oram_contents.specs.Provenance.{Always}
 use Rattle.oram_contents.specs.Slots.{IsEnd}
 use Rattle.oram_contents.specs.Starts.{first_fold}
 use Rattle.oram_contents.specs.Steps.{Adds}
-use Rattle.oram_contents.specs.Verdict.{write_verdict}
-use Rattle.oram_contents.specs.Verdict.{note_events, put_entries, IsOfPoint}
+use Rattle.oram_contents.specs.Verdict.{write_verdict, note_events, put_entries, IsOfPoint}
 use Rattle.oram_contents.proofs.Folding.{noted_here, so_far}
 use Rattle.rate_enforcer.specs.Counts.{is_dummy}
 use Rattle.log_replay.specs.Judged.{verdict_on}
-use Rattle.log_replay.specs.Order.{Nothing, SlotNotes, accepted_events, chosen_events, events_of}
-use Rattle.log_replay.specs.Order.{IsNextPoint, IsTaken, IsDone, IsBare, AreDone, LogOrder}
-use Rattle.log_replay.proofs.Orders.{later_events, all_events, next_after, numbered, order_kept}
-use Rattle.log_replay.proofs.Orders.{all_done_kept, order_more}
+use Rattle.log_replay.specs.Order.{Nothing, SlotNotes, accepted_events, chosen_events, events_of, IsNextPoint, IsTaken}
+use Rattle.log_replay.specs.Order.{IsDone, IsBare, AreDone, LogOrder}
+use Rattle.log_replay.proofs.Orders.{later_events, all_events, next_after, numbered, order_kept, all_done_kept}
+use Rattle.log_replay.proofs.Orders.{order_more}
 
 -- A log notes slots in order, each of which was done, and so many dummies; it says these contents, in which nothing is
 -- wrong.
@@ -79,9 +76,9 @@ pub chosen_is : (old new : LogLists) (e : IsEnd old new) → new.events ≡ old.
     ++ chosen_events (chosen_at old new e)
 chosen_is old new e = elim e.events as (λ x. new.events ≡ old.events
     ++ chosen_events (elim x [ inl same ↦ None | inr y ↦ Some y.0 ])) [
-  | inl same ↦ same ∙ sym (append-nil old.events)
-  | inr x ↦ x.1
-]
+      | inl same ↦ same ∙ sym (append-nil old.events)
+      | inr x ↦ x.1
+    ]
 
 module _ (keys : Keys) (stash : ℕ) (old new : LogLists) (now : Contents) (n : ℕ) (s : SlotNotes)
     (x : IsReplayedLog keys stash old now n) where

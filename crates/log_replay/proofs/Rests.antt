@@ -1,6 +1,6 @@
 -- A path can be written where no more entries stay than may.
-use Rattle.std.proofs.Common.{◌≡◌, ◌≤◌, ℕ, Bool, false, if◌then◌else◌, nat_lt, List, [], ◌∷◌, length}
-use Rattle.std.proofs.Common.{Option, None, Some, is_none, refl, ◌∙◌, ap, arith}
+use Rattle.std.proofs.Common.{◌≡◌, ◌≤◌, ℕ, Bool, false, if◌then◌else◌, nat_lt, List, [], ◌∷◌, length, Option, None}
+use Rattle.std.proofs.Common.{Some, is_none, refl, ◌∙◌, ap, arith}
 use Rattle.std.proofs.lemmas.Bool.{le-ltb}
 use Rattle.std.proofs.lemmas.List.{length-map}
 use Rattle.asc_base.specs.TreeShape.{shared_of}

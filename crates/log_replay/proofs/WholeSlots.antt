@@ -1,6 +1,6 @@
 -- Between two slots a log's moves end with a whole slot, or there are none; so the log says the buckets.
-use Rattle.std.proofs.Common.{◌≡◌, ◌+◌, ◌++◌, inl, inr, ℕ, false, if◌then◌else◌, ◌==◌, Bool, List, []}
-use Rattle.std.proofs.Common.{◌∷◌, length, refl, sym, ◌∙◌, ap, arith, append-nil, append_assoc}
+use Rattle.std.proofs.Common.{◌≡◌, ◌+◌, ◌++◌, inl, inr, ℕ, false, if◌then◌else◌, ◌==◌, Bool, List, [], ◌∷◌, length}
+use Rattle.std.proofs.Common.{refl, sym, ◌∙◌, ap, arith, append-nil, append_assoc}
 use Rattle.std.proofs.lemmas.Bool.Decides.{eqb_tells}
 use Rattle.bus_schedule.specs.Schedule.{moves_of}
 use Rattle.bus_schedule.specs.Shown.{leaves_of}

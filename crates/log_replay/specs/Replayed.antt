@@ -1,4 +1,5 @@
--- When an encrypted memory is what its log says, whatever was altered or forged: between two requests, and after a stop.
+-- When an encrypted memory is what its log says, whatever was altered or forged: between two requests, and after a
+-- stop.
 use Rattle.std.specs.Prelude.{◌≡◌, ◌≤◌, ℕ, false, List, [], ◌∷◌, ◌++◌, None}
 use Rattle.std.specs.List.{count_by}
 use Rattle.asc_base.specs.declared.block.Counter.{Counter}
