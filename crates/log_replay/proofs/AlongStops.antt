@@ -1,46 +1,24 @@
 -- A port along a plan that asks rightly, up to a request that is stopped.
-use Rattle.std.proofs.Common.{◌≡◌, ◌<◌, ◌+◌, ℕ, List, length, None, Some, Err, refl, sym, subst, inl, inr}
-use Rattle.request_plan.specs.Plan.{Plan, Done, Ask, Stops, Refuses, Gives}
-use Rattle.asc_base.specs.declared.block.Line.{Line}
+use Rattle.std.proofs.Common.{◌≡◌, ℕ, None, Some, Err, refl, sym, subst, inl, inr}
+use Rattle.request_plan.specs.Plan.{Plan, Done, Ask, Stops}
 use Rattle.asc_base.specs.declared.block.Message.{Message}
 use Rattle.asc_base.specs.declared.stop.Stop.{Stop}
 use Rattle.asc_base.specs.declared.stop.Stop.TheVariants.{NoMemory}
 use Rattle.oram_contents.specs.Entries.{Keys, AreKeys}
 use Rattle.oram_contents.specs.Fold.{Whole}
-use Rattle.oram_frontend.specs.Access.{SlotStep, Served}
-use Rattle.oram_walk.specs.Request.{Request, Slot, Append, Answer, Room, Steps, nothing}
-use Rattle.oram_walk.specs.declared.slots.Access.{Access}
+use Rattle.oram_frontend.specs.Access.{SlotStep}
+use Rattle.oram_walk.specs.Request.{Request, Slot, Append, Answer, Room, Steps}
 use Rattle.oram_walk.specs.declared.slots.Seen.{Seen}
-use Rattle.rate_enforcer.specs.PortStep.{PortState, PortStep, Idle, Resting}
+use Rattle.rate_enforcer.specs.PortStep.{PortState}
 use Rattle.log_replay.specs.Judged.{verdict_on}
-use Rattle.log_replay.specs.Replayed.{IsReplayedPort, IsBehindSlot, StopsReplayed}
+use Rattle.log_replay.specs.Replayed.{StopsReplayed}
 use Rattle.log_replay.proofs.Along.{Stays, port_of, one_more, slot_stays, append_stays, answer_stays}
-use Rattle.log_replay.proofs.Asks.{IsWhole, Last, IsBeside, AsksRightly}
+use Rattle.log_replay.proofs.Asks.{Last, IsBeside, AsksRightly}
 use Rattle.log_replay.proofs.Ports.{between_replays}
+use Rattle.log_replay.proofs.StopBehind.{append_stops, answer_stops}
+use Rattle.log_replay.proofs.StopSlots.{slot_stops}
 
-pub record StopLaws (keys : Keys) (levels : ℕ) : Type 0 where
-  pub slot_stops : (notes : ℕ) (access : Access) (stop : Stop) (old new : PortState) → IsReplayedPort keys old
-      → Resting notes levels old → access.address.0 < keys.shape.total → IsWhole access.purpose
-      → SlotStep keys levels old (Slot access) (Err stop) new → StopsReplayed keys old.tree.stash stop new
-  pub append_stops : (notes a : ℕ) (line : List ℕ) (m : Message) (stop : Stop) (old new : PortState)
-      → IsBehindSlot keys a line old → Resting (notes + 1) levels old → (m.address.0 ≡ a → ⊥)
-      → m.address.0 < keys.shape.total → length m.line.0 ≡ 64 → SlotStep keys levels old (Append m) (Err stop) new
-      → StopsReplayed keys old.tree.stash stop new
-  pub wait_stops : (notes time : ℕ) (stop : Stop) (old new : PortState) → IsReplayedPort keys old
-      → Resting notes levels old → PortStep keys.leaf_of levels old (Idle time) (Err stop) new
-      → StopsReplayed keys old.tree.stash stop new
-
-module _ (keys : Keys) (lawful : AreKeys keys) (levels : ℕ) (laws : StopLaws keys levels) where
-  -- a line is answered without a stop
-  answer_goes : (number : ℕ) (value : Line) (stop : Stop) (old new : PortState)
-      → SlotStep keys levels old (Answer number value) (Err stop) new → ⊥
-  answer_goes number value stop old new (inl ends) = refused (ends.3).0
-    where
-      refused : ◌≡◌ {A = Served} (Refuses stop) (Gives tt nothing) → ⊥
-      refused e = cc
-  answer_goes number value stop old new (inr (inl stops)) = absurd stops.0
-  answer_goes number value stop old new (inr (inr stops)) = absurd stops.3
-
+module _ (keys : Keys) (lawful : AreKeys keys) (levels : ℕ) where
   -- without room the port stays
   room_stops : (stash : ℕ) (last : Last) (s : PortState) → Stays keys levels stash last s
       → StopsReplayed keys stash NoMemory s
@@ -54,14 +32,14 @@ module _ (keys : Keys) (lawful : AreKeys keys) (levels : ℕ) (laws : StopLaws k
         mirror = between_replays keys lawful levels h.notes s port h.rests;
       }
 
-  append_stops_so : (stash : ℕ) (last : Last) (m : Message) (stop : Stop) (s t : PortState)
+  last_stops : (stash : ℕ) (last : Last) (m : Message) (stop : Stop) (s t : PortState)
       → Stays keys levels stash last s → IsBeside keys.shape.total last m
       → SlotStep keys levels s (Append m) (Err stop) t → StopsReplayed keys stash stop t
-  append_stops_so stash None m stop s t h beside step = absurd beside
-  append_stops_so stash (Some (a, line)) m stop s t h beside step =
+  last_stops stash None m stop s t h beside step = absurd beside
+  last_stops stash (Some (a, line)) m stop s t h beside step =
       let left = one_more keys levels stash (a, line) s h in
       subst (λ n. StopsReplayed keys n stop t) h.same
-      (laws.append_stops left.0 a line.line.0 m stop s t h.stands left.1 beside.0 beside.1 beside.2 step)
+      (append_stops keys levels left.0 a line.line.0 s t h.stands left.1 m stop beside.0 step)
 
   -- a plan that is stopped
   pub along_stops : {B A : Type 0} (stash : ℕ) (P : Last → A → Type 0) (plan : Plan Request Seen B A) (last : Last)
@@ -71,11 +49,11 @@ module _ (keys : Keys) (lawful : AreKeys keys) (levels : ℕ) (laws : StopLaws k
   along_stops stash P (Done d) last s t stop left asks h stops = absurd stops
   along_stops stash P (Ask (Slot access) b k) last s t stop left asks h (inl stops) =
       subst (λ n. StopsReplayed keys n stop t) h.same
-      (laws.slot_stops h.notes access stop s t (port_of keys levels last s h.stands) h.rests asks.0 asks.1 stops.0)
+      (slot_stops keys lawful levels h.notes s t (port_of keys levels last s h.stands) h.rests access stop stops.0)
   along_stops stash P (Ask (Append m) b k) last s t stop left asks h (inl stops) =
-      append_stops_so stash last m stop s t h asks.0 stops.0
+      last_stops stash last m stop s t h asks.0 stops.0
   along_stops stash P (Ask (Answer number value) b k) last s t stop left asks h (inl stops) =
-      absurd (answer_goes number value stop s t stops.0)
+      absurd (answer_stops keys levels number value s t stop stops.0)
   along_stops stash P (Ask Room b k) last s t stop left asks h (inl stops) =
       subst (λ (e : Stop). StopsReplayed keys stash e t) (sym stops.0.0)
       (room_stops stash last t (subst (Stays keys levels stash last) (sym stops.0.1) h))
