@@ -78,7 +78,7 @@ EndsLog (TimeUp at) end = end ≡ Whole
 EndsLog Device end = end ≡ LastFailed
 EndsLog NoMemory end = (end ≡ Whole) ⊎ (end ≡ RanOut)
 
--- The buckets are those that a log says, which ended so: each as it was sealed last, of the slots that the contents gave
--- it then, under a seed that counts the buckets written until then, from 1; and zero bytes where it never was.
+-- The buckets are those that a log says, which ended so: each as it was sealed last, of the slots that the contents
+-- gave it then, under a seed that counts the buckets written until then, from 1; and zero bytes where it never was.
 abbrev pub SaysMirror : Keys → LogLists → LogEnd → List (List ℕ) → Type 0
 SaysMirror keys log end mirror = (contents_of_log keys (first_fold keys) log end).mirror ≡ mirror

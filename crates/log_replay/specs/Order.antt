@@ -1,7 +1,6 @@
 -- The order of a log's events: what is noted in each slot, and what stands behind it up to the next one.
 use Rattle.std.specs.Prelude.{◌≡◌, ◌+◌, ◌⊎◌, ℕ, List, [], ◌∷◌, ◌++◌, length, map, Option, None, Some, option_to_list}
 use Rattle.std.specs.List.{flat_map}
-use Rattle.asc_base.specs.declared.block.Counter.{Counter}
 use Rattle.asc_base.specs.declared.block.Entry.{Entry}
 use Rattle.asc_base.specs.declared.block.Line.{Line}
 use Rattle.asc_base.specs.declared.block.Message.{Message}
@@ -71,8 +70,8 @@ IsReadIn keys log before s joined =
     IsReadTo keys.pads keys.shape s.start (keys.leaf_of s.point) (noted_at (length before + 2) log.altered)
     (whole keys (first_fold keys) (record log { events = before })) joined
 
--- What is noted of a slot whose path was read: of a block, what is found for it at hand, which is right under the point's
--- counter; of a dummy, nothing.
+-- What is noted of a slot whose path was read: of a block, what is found for it at hand, which is right under the
+-- point's counter; of a dummy, nothing.
 abbrev pub IsTaken : Keys → List Entry → Point → SlotNotes → Type 0
 IsTaken keys joined (Real a c) s =
     (held joined a ≡ s.found) × (judged keys a.0 c s.found ≡ None) × MayStand a.0 s.found s.behind
@@ -100,6 +99,11 @@ AreInOrder keys log before dummies (s ∷ later) =
     IsNextPoint dummies s.asked s.point
     × (IsDone keys log before s ⊎ (IsBare s × (later ≡ [])))
     × AreInOrder keys log (before ++ events_of keys s) (next_dummy dummies s.point) later
+
+-- Each of these slots, behind some events, was done.
+abbrev pub AreDone : Keys → LogLists → List Event → List SlotNotes → Type 0
+AreDone keys log before [] = Unit {0}
+AreDone keys log before (s ∷ later) = IsDone keys log before s × AreDone keys log (before ++ events_of keys s) later
 
 -- The events of a log are those of slots in order: each slot's leaf is that of its point, dummies are numbered in turn,
 -- what is accepted is what the contents have, under the point's counter and with its tag, and a line that is answered

@@ -1,28 +1,47 @@
--- When an encrypted memory is what its log says, whatever was altered or forged: between two requests, and after a stop.
-use Rattle.std.specs.Prelude.{◌≡◌, ◌≤◌, ℕ, None}
+-- When an encrypted memory is what its log says, whatever was altered or forged: between two requests, and after a
+-- stop.
+use Rattle.std.specs.Prelude.{◌≡◌, ◌≤◌, ℕ, false, List, [], ◌∷◌, ◌++◌, None}
 use Rattle.std.specs.List.{count_by}
+use Rattle.asc_base.specs.declared.block.Counter.{Counter}
+use Rattle.asc_base.specs.declared.block.Message.{Message}
 use Rattle.asc_base.specs.declared.stop.Stop.{Stop}
-use Rattle.oram_contents.specs.Entries.{Keys}
-use Rattle.oram_contents.specs.Fold.{LogEnd, whole}
+use Rattle.oram_contents.specs.Entries.{Keys, real}
+use Rattle.oram_contents.specs.Fold.{LogEnd, is_open_for, fold_events, whole}
 use Rattle.oram_contents.specs.Provenance.{Always}
 use Rattle.oram_contents.specs.Starts.{first_fold}
+use Rattle.oram_contents.specs.Verdict.{line_found}
 use Rattle.oram_frontend.specs.Oram.{OramState}
 use Rattle.oram_frontend.specs.Slots.{FitKeys}
 use Rattle.oram_walk.specs.Front.{IsFront}
 use Rattle.rate_enforcer.specs.Counts.{is_dummy}
 use Rattle.rate_enforcer.specs.PortStep.{PortState, contents}
 use Rattle.log_replay.specs.Judged.{verdict_on, ShowsStop, EndsLog, SaysMirror}
-use Rattle.log_replay.specs.Order.{LogOrder}
+use Rattle.log_replay.specs.Order.{SlotNotes, Nothing, AreDone, LogOrder}
 
--- A port between two slots: its log notes slots in order, it has the contents that the log says, in which nothing is
--- wrong, and it counts the dummies.
+-- A port between two slots: its log notes slots in order, each of which was done, it has the contents that the log
+-- says, in which nothing is wrong, and it counts the dummies.
 pub record IsReplayedPort (keys : Keys) (s : PortState) : Type 0 where
   pub fits : FitKeys keys s
   pub order : LogOrder keys s.tap.log
+  pub done : AreDone keys s.tap.log [] order.slots
   pub dummies : count_by is_dummy s.tap.log.events ≡ s.clock.dummies
   pub contents_are : whole keys (first_fold keys) s.tap.log ≡ contents s
   pub right : verdict_on keys s.tree.stash s.tap.log ≡ None
   pub always : Always keys s.tap.log (contents s)
+
+-- A port behind the slot of a block in which this line was found: nothing stands behind it yet, and of the open path
+-- the log says that it is no other block's.
+pub record IsBehindSlot (keys : Keys) (a : ℕ) (line : List ℕ) (s : PortState) : Type 0 where
+  pub port : IsReplayedPort keys s
+  pub before : List SlotNotes
+  pub last : SlotNotes
+  pub slots : port.order.slots ≡ before ++ last ∷ []
+  pub counter : Counter
+  pub point : last.point ≡ real a counter
+  pub line_is : line ≡ line_found last.found
+  pub bare : last.behind ≡ Nothing
+  pub path : (m : Message) → (m.address.0 ≡ a → ⊥)
+      → is_open_for m (fold_events keys s.tap.log.altered 0 s.tap.log.events (first_fold keys)).path ≡ false
 
 -- So of an encrypted memory between two requests.
 pub record IsReplayed (keys : Keys) (o : OramState) : Type 0 where

@@ -35,7 +35,7 @@ use Rattle.oram_walk.specs.declared.slots.Purpose.TheVariants.{Refill, Keep, Rep
 use Rattle.oram_walk.specs.declared.slots.Seen.{Seen}
 use Rattle.rate_enforcer.specs.PortStep.{PortState, PortStep, Opened, Taken, HasNoted, HasPut, Closed, Resting, InSlot}
 use Rattle.rate_enforcer.specs.PortStep.{contents}
-use Rattle.rate_enforcer.specs.Served.{keys_of, IsServed}
+use Rattle.rate_enforcer.specs.Served.{keys_of, AreFew, IsServed}
 use Rattle.oram_frontend.specs.Access.{accept_plan, put_plan, back_plan, judged_plan, close_plan, SlotStep}
 use Rattle.oram_frontend.specs.Access.{found_line, next_message}
 use Rattle.oram_frontend.specs.Slots.{FitKeys, Keeps, SlotOf, IsServedSlot, IsServedAppend, IsServedAnswer}
@@ -53,6 +53,7 @@ pub record Under (keys : Keys) (levels : ℕ) (access : Access) (found : Option 
   pub mid : LogLists
   pub between : Contents
   pub passes : ArePasses keys passed old.tap.log mid (contents old) between old.clock.dummies
+  pub few : AreFew keys old.tree.stash passed old.tap.log mid (contents old) between old.clock.dummies passes
   pub seeds : HasSeeds between
   pub start : ℕ
   pub altered : List Altered
@@ -92,7 +93,7 @@ pub taken : (keys : Keys) (levels notes : ℕ) (access : Access) (found : Option
     → judged keys access.address.0 access.counter found ≡ None
     → Under keys levels access found old two [] []
 taken keys levels notes access found old one two fits rests opened took right =
-    let served = subst (λ k. IsServed k old.tap.log one.tap.log (contents old)
+    let served = subst (λ k. IsServed k old.tree.stash old.tap.log one.tap.log (contents old)
     (contents one) old.clock.dummies one.clock
     access.asked (Real access.address access.counter)) (keys_fit keys old fits) (opened.served keys.tags) in
     let slot = opened.in_slot notes rests in
@@ -102,6 +103,7 @@ taken keys levels notes access found old one two fits rests opened took right =
       mid = served.mid;
       between = served.between;
       passes = served.passed;
+      few = served.few;
       seeds = omega (
         arith,
         slot.opens.is_for.seed,
@@ -147,6 +149,7 @@ noted_on keys levels access found old s t later back event note u = record {
   mid = u.mid;
   between = u.between;
   passes = u.passes;
+  few = u.few;
   seeds = u.seeds;
   start = u.start;
   altered = u.altered;
@@ -187,6 +190,7 @@ put_on keys levels access found old s t later entry put u = record {
   mid = u.mid;
   between = u.between;
   passes = u.passes;
+  few = u.few;
   seeds = u.seeds;
   start = u.start;
   altered = u.altered;
@@ -322,6 +326,7 @@ module _ (keys : Keys) (levels : ℕ) (access : Access) (seen : Seen) (found : O
       mid = u.mid;
       between = u.between;
       passes = u.passes;
+      few = u.few;
       seeds = u.seeds;
       start = u.start;
       found = found;

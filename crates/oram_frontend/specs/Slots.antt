@@ -19,6 +19,7 @@ use Rattle.oram_walk.specs.declared.slots.Purpose.{Purpose}
 use Rattle.oram_walk.specs.declared.slots.Purpose.TheVariants.{Refill, Keep, Replace}
 use Rattle.oram_walk.specs.declared.slots.Seen.{Seen}
 use Rattle.rate_enforcer.specs.PortStep.{PortState, Resting, contents}
+use Rattle.rate_enforcer.specs.Served.{AreFew}
 
 -- the keys are those of a port's tree
 pub record FitKeys (keys : Keys) (s : PortState) : Type 0 where
@@ -55,6 +56,7 @@ pub record IsServedSlot (keys : Keys) (access : Access) (seen : Seen) (old new :
   pub mid : LogLists
   pub between : Contents
   pub passes : ArePasses keys passed old.tap.log mid (contents old) between old.clock.dummies
+  pub few : AreFew keys old.tree.stash passed old.tap.log mid (contents old) between old.clock.dummies passes
   pub seeds : HasSeeds between
   pub start : ℕ
   pub found : Option Entry

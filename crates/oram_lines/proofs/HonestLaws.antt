@@ -7,7 +7,8 @@ use Rattle.oram_contents.specs.Entries.{Keys, AreKeys}
 use Rattle.oram_frontend.specs.Oram.{OramState, OramRequest, OramStep, Fetch, Store, Wait, Told}
 use Rattle.oram_lines.specs.Lines.{Lines, HoldsLines, IsRequest, Calls, Answered, AreRequests}
 use Rattle.oram_lines.proofs.HonestSlots.{idle_clear}
-use Rattle.oram_lines.proofs.HonestTriples.{fetch_blameless, store_blameless, unforged}
+use Rattle.oram_lines.proofs.HonestStops.{fetch_blameless, store_blameless}
+use Rattle.oram_lines.proofs.HonestTriples.{unforged}
 use Rattle.oram_lines.proofs.LineLaws.{calls_hold, forgery_stop}
 
 module _ (keys : Keys) (lawful : AreKeys keys) (levels : ℕ) where

@@ -184,7 +184,7 @@ module _ (keys : Keys) (lawful : AreKeys keys) (levels : ℕ) (began : ℕ → L
         let same : Some p.0 ≡ Some q = sym is ∙ up in
         cc
 
-    parent_held : (front : FrontState) (g : Ghost) (child : ℕ) → IsShown keys front g → IsFirst front p group
+    pub parent_held : (front : FrontState) (g : Ghost) (child : ℕ) → IsShown keys front g → IsFirst front p group
         → child < number → ParentHeld keys lawful g (first + child)
     parent_held front g child shown at less q up =
         subst (λ (n : ℕ). Has n g.held) (parent_is child q less up)

@@ -32,8 +32,8 @@ use Rattle.oram_walk.specs.declared.slots.Purpose.TheVariants.{Refill, Keep, Rep
 use Rattle.oram_walk.specs.declared.slots.Seen.{Seen}
 use Rattle.posmap_lookaside.specs.Addresses.{used}
 use Rattle.rate_enforcer.specs.PortStep.{PortState}
-use Rattle.oram_lines.specs.Noted.{Answers, NotedState, NotedStep, IsAnswerIn, lines_then, AreAnswersIn, lines_behind}
-use Rattle.oram_lines.specs.Noted.{IsMemoryOf, AreRunsNoted}
+use Rattle.oram_lines.specs.Noted.{Answers, NotedState, NotedStep, StopsAt, IsAnswerIn, lines_then, AreAnswersIn}
+use Rattle.oram_lines.specs.Noted.{lines_behind, IsMemoryOf, AreRunsNoted}
 use Rattle.oram_lines.specs.Standing.{StandsFor, FitsPurpose, after_access, later}
 use Rattle.oram_lines.proofs.KnownLaws.{kept_line, stored_line}
 
@@ -117,22 +117,45 @@ module _ (keys : Keys) (levels : ℕ) where
 
   halt_noted : (s t : PortState) (before : Answers) (request : Request) (stop : Stop)
       → Steps (SlotStep keys levels) s request (Err stop) t
-      → Steps (NotedStep keys levels) (at s before) request (Err stop) (at t before)
-  halt_noted s t before (Slot access) stop one = (one, refl)
-  halt_noted s t before (Append message) stop one = (one, refl)
-  halt_noted s t before (Answer line value) stop one = (one, refl)
+      → Steps (StopsAt keys levels s request) (at s before) request (Err stop) (at t before)
+  halt_noted s t before (Slot access) stop one = ((one, refl), refl, refl)
+  halt_noted s t before (Append message) stop one = ((one, refl), refl, refl)
+  halt_noted s t before (Answer line value) stop one = ((one, refl), refl, refl)
   halt_noted s t before Room stop one = (one.0, ap (λ (y : PortState). at y before) one.1)
+
+  -- an answered step is one wherever the run stops
+  step_at : (mid : PortState) (last : Request) (s t : NotedState) (request : Request) (seen : Seen)
+      → Steps (NotedStep keys levels) s request (Ok seen) t → Steps (StopsAt keys levels mid last) s request (Ok seen) t
+  step_at mid last s t (Slot access) seen one = one
+  step_at mid last s t (Append message) seen one = one
+  step_at mid last s t (Answer line value) seen one = one
+  step_at mid last s t Room seen one = one
+
+  step_from : (mid : PortState) (last : Request) (s t : NotedState) (request : Request) (seen : Seen)
+      → Steps (StopsAt keys levels mid last) s request (Ok seen) t → Steps (NotedStep keys levels) s request (Ok seen) t
+  step_from mid last s t (Slot access) seen one = one
+  step_from mid last s t (Append message) seen one = one
+  step_from mid last s t (Answer line value) seen one = one
+  step_from mid last s t Room seen one = one
+
+  -- and so is a run that ends before
+  pub ends_from : (mid : PortState) (last : Request) {B A : Type 0} (plan : Plan Request Seen B A) (s t : NotedState)
+      (x : A) → Ends (Steps (StopsAt keys levels mid last)) plan s t x → Ends (Steps (NotedStep keys levels)) plan s t x
+  ends_from mid last (Done a) s t x ends = ends
+  ends_from mid last (Ask q b k) s t x (seen, m, one, rest) =
+      (seen, m, step_from mid last s m q seen one, ends_from mid last (k seen) m t x rest)
 
   pub stops_noted : {B A : Type 0} (plan : Plan Request Seen B A) (s t : PortState) (before : Answers) (stop : Stop)
       (left : B) → Stops (Steps (SlotStep keys levels)) plan s t stop left
-      → (answers : Answers) × Stops (Steps (NotedStep keys levels)) plan (at s before) (at t answers) stop left
+      → (answers : Answers) × (mid : PortState) × (last : Request)
+      × Stops (Steps (StopsAt keys levels mid last)) plan (at s before) (at t answers) stop left
   stops_noted (Done a) s t before stop left stops = absurd stops
   stops_noted (Ask q b k) s t before stop left (inl (one, is)) =
-      (before, inl (halt_noted s t before q stop one, is))
+      (before, s, q, inl (halt_noted s t before q stop one, is))
   stops_noted (Ask q b k) s t before stop left (inr (seen, m, one, rest)) =
       let (middle, first) = step_noted s m before q seen one in
-      let (answers, later) = stops_noted (k seen) m t middle stop left rest in
-      (answers, inr (seen, at m middle, first, later))
+      let (answers, mid, last, later) = stops_noted (k seen) m t middle stop left rest in
+      (answers, mid, last, inr (seen, at m middle, step_at mid last (at s before) (at m middle) q seen first, later))
 
   -- and it is one where they aren't
   step_bare : (s t : NotedState) (request : Request) (seen : Seen)
@@ -149,28 +172,33 @@ module _ (keys : Keys) (levels : ℕ) where
   ends_bare (Ask q b k) s t x (seen, m, one, rest) =
       (seen, m.port, step_bare s m q seen one, ends_bare (k seen) m t x rest)
 
-  halt_bare : (s t : NotedState) (request : Request) (stop : Stop)
-      → Steps (NotedStep keys levels) s request (Err stop) t
+  halt_bare : (mid : PortState) (last : Request) (s t : NotedState) (request : Request) (stop : Stop)
+      → Steps (StopsAt keys levels mid last) s request (Err stop) t
       → Steps (SlotStep keys levels) s.port request (Err stop) t.port
-  halt_bare s t (Slot access) stop one = one.0
-  halt_bare s t (Append message) stop one = one.0
-  halt_bare s t (Answer line value) stop one = one.0
-  halt_bare s t Room stop one = (one.0, ap (λ (y : NotedState). y.port) one.1)
+  halt_bare mid last s t (Slot access) stop one = one.0.0
+  halt_bare mid last s t (Append message) stop one = one.0.0
+  halt_bare mid last s t (Answer line value) stop one = one.0.0
+  halt_bare mid last s t Room stop one = (one.0, ap (λ (y : NotedState). y.port) one.1)
 
-  pub stops_bare : {B A : Type 0} (plan : Plan Request Seen B A) (s t : NotedState) (stop : Stop) (left : B)
-      → Stops (Steps (NotedStep keys levels)) plan s t stop left
+  pub stops_bare : (mid : PortState) (last : Request) {B A : Type 0} (plan : Plan Request Seen B A) (s t : NotedState)
+      (stop : Stop) (left : B) → Stops (Steps (StopsAt keys levels mid last)) plan s t stop left
       → Stops (Steps (SlotStep keys levels)) plan s.port t.port stop left
-  stops_bare (Done a) s t stop left stops = absurd stops
-  stops_bare (Ask q b k) s t stop left (inl (one, is)) = inl (halt_bare s t q stop one, is)
-  stops_bare (Ask q b k) s t stop left (inr (seen, m, one, rest)) =
-      inr (seen, m.port, step_bare s m q seen one, stops_bare (k seen) m t stop left rest)
+  stops_bare mid last (Done a) s t stop left stops = absurd stops
+  stops_bare mid last (Ask q b k) s t stop left (inl (one, is)) = inl (halt_bare mid last s t q stop one, is)
+  stops_bare mid last (Ask q b k) s t stop left (inr (seen, m, one, rest)) =
+      inr (
+        seen,
+        m.port,
+        step_bare s m q seen (step_from mid last s m q seen one),
+        stops_bare mid last (k seen) m t stop left rest,
+      )
 
   pub runs_noted : {A : Type 0} (plan : FrontPlan A) → AreRunsNoted keys levels plan
   runs_noted plan = record {
     ends = ends_noted plan;
     stops = stops_noted plan;
     ends_back = ends_bare plan;
-    stops_back = stops_bare plan;
+    stops_back = λ mid last s t. stops_bare mid last plan s t;
   }
 
 -- what stands in a list stands in it where the first that meets a test goes first

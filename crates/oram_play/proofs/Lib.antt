@@ -18,6 +18,7 @@ pub mod CutSlots
 pub mod CutSteps
 pub mod PairsTo
 pub mod StopTurns
+pub mod StopWalks
 pub mod CutRequests
 pub mod StopNotes
 pub mod FoundInStops

@@ -20,7 +20,7 @@ use Rattle.run_play.specs.Requests.{StoredLines, Standing, requested, value_of, 
 use Rattle.run_play.specs.Slots.{Pace, Numbers, Slot}
 use Rattle.oram_play.specs.InTurn.{AnsweredAccess}
 use Rattle.oram_play.specs.OnPlay.{IsOnPlay}
-use Rattle.oram_play.specs.Shown.{appended_shown, answered_shown, AreShownAs}
+use Rattle.oram_play.specs.Shown.{appended_shown, answered_shown, lines_in_turn, AreShownAs}
 use Rattle.oram_play.specs.StopsInTurn.{StopsNext, AtAccess, AtAppend, NoRoom, IsOnWalk}
 use Rattle.oram_play.specs.Walked.{IsWalked, AreWalked, put_for}
 use Rattle.oram_play.proofs.Found.{shown-walked}
@@ -121,11 +121,12 @@ module _ (config : Config) (now : Standing) (request : LineRequest) (lines : ℕ
   pub on-play : {keys : Keys} {levels : ℕ} {numbers : Numbers} {asked : ℕ} {slots : List Slot} {pace : Pace}
       {stop : Stop} {old new : PortState} (accesses : List AnsweredAccess)
       (next : StopsNext keys levels numbers asked slots pace stop old new)
-      → IsOnWalk sizes lines (put_for request) walked accesses next → IsOnPlay config now request accesses next
+      → IsOnWalk sizes lines (put_for request) walked accesses next
+      → IsOnPlay config now request accesses (lines_in_turn lines accesses) next
   on-play accesses (AtAccess x) on =
       let one : AnsweredAccess = record {
         access = x.access;
-        line = on.line;
+        line = lines_in_turn lines accesses x.access.address.0;
         appended = option_map (message_by sizes lines (put_for request) on.next.counters) on.next.displaced;
       } in
       let both = prefix-walked on.before on.later on.next accesses one on.are on.shown
@@ -138,7 +139,6 @@ module _ (config : Config) (now : Standing) (request : LineRequest) (lines : ℕ
         walked = both.0;
         address = both.1.address;
         counter = both.1.counter;
-        line = on.line;
         put = both.1.put;
       }
   on-play accesses (AtAppend x) on =

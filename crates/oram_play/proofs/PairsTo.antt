@@ -44,7 +44,8 @@ module _ (sizes : WalkSizes) (lines : ℕ → Line) (put : Purpose) where
 
   pub pairs_access : (accesses : List AnsweredAccess) (ws : List WalkAccess) (access : Access) (line : Line)
       (rest : List Shown)
-      → walks ws ≡ answers accesses ++ (accessed access line ∷ [] ++ rest) → IsNextOf sizes lines put ws accesses access
+      → walks ws ≡ answers accesses ++ (accessed access line ∷ [] ++ rest)
+      → IsNextOf sizes lines put ws accesses access line
   pairs_access [] [] access line rest e = absurd cc
   pairs_access [] (w ∷ ws) access line rest e = record {
     before = [];
@@ -52,7 +53,6 @@ module _ (sizes : WalkSizes) (lines : ℕ → Line) (put : Purpose) where
     later = ws;
     are = refl;
     shown = tt;
-    line = line;
     is = cc;
   }
   pairs_access (one ∷ more) [] access line rest e = absurd cc
@@ -70,7 +70,6 @@ module _ (sizes : WalkSizes) (lines : ℕ → Line) (put : Purpose) where
         later = later.later;
         are = ap (λ l. w ∷ l) later.are;
         shown = (cc, later.shown);
-        line = later.line;
         is = later.is;
       }
 

@@ -15,7 +15,7 @@ use Rattle.oram_walk.specs.Shows.{Shows}
 use Rattle.rate_enforcer.specs.Counts.{IsCounted}
 use Rattle.rate_enforcer.specs.PortStep.{PortState}
 use Rattle.run_play.specs.Halt as cut
-use Rattle.run_play.specs.Halt.{Refused, Overfull, MoveFails, AppendRefused, AppendOverfull, part_of, end_of, ending_of}
+use Rattle.run_play.specs.Halt.{part_of, end_of, ending_of}
 use Rattle.run_play.specs.Play as how
 use Rattle.run_play.specs.PlayEvents.{said_of_all, play_events}
 use Rattle.run_play.specs.Requests.{Standing, Taken, data_line, walk_sizes}
@@ -49,19 +49,6 @@ abbrev pub IsTold : Standing → LineRequest → Option Line → Type 0
 IsTold now (Fetch line) told = told ≡ Some (record { 0 = data_line now.data_lines line })
 IsTold now (Store line value) told = told ≡ None
 
--- the slot with no message put back
-abbrev pub but_put : Slot → Slot
-but_put slot = record slot { put = None }
-
--- What was done in a slot that was cut by this stop. After its reads, and before it ends, another message than the
--- slot's may have been put back.
-abbrev pub IsDoneOf : cut.Stop → Slot → Slot → Type 0
-IsDoneOf (Refused evidence) done slot = done ≡ slot
-IsDoneOf (Overfull held) done slot = but_put done ≡ but_put slot
-IsDoneOf (MoveFails move) done slot = but_put done ≡ but_put slot
-IsDoneOf (AppendRefused evidence) done slot = done ≡ slot
-IsDoneOf (AppendOverfull held) done slot = done ≡ slot
-
 -- Of slots that were to be taken, behind others, one was stopped: the log says the slots before it and the part of it
 -- that was done, and the port's last end is that of the stop.
 pub record IsCut (levels : ℕ) (slots taken : List Slot) (stop : cut.Stop) (new : PortState) : Type 0 where
@@ -69,9 +56,7 @@ pub record IsCut (levels : ℕ) (slots taken : List Slot) (stop : cut.Stop) (new
   pub slot : Slot
   pub later : List Slot
   pub are : taken ≡ before ++ slot ∷ later
-  pub done : Slot
-  pub done_is : IsDoneOf stop done slot
-  pub said : said_of_all new.tap.log.events ≡ play_events (slots ++ before ++ part_of levels stop done ∷ [])
+  pub said : said_of_all new.tap.log.events ≡ play_events (slots ++ before ++ part_of levels stop slot ∷ [])
   pub last : new.clock.last ≡ end_of levels slot.start stop
 
 -- What a stop leaves of what a play was to take: all its slots, behind which one came too late; or a slot was stopped,

@@ -31,6 +31,12 @@ AreLinesIn lines (one ∷ more) =
     (one.line ≡ lines one.access.address.0)
     × AreLinesIn (lines_appended (put_back lines one.access.address.0 one.access.purpose) one.appended) more
 
+-- the lines of such a memory after them
+abbrev pub lines_in_turn : (ℕ → Line) → List AnsweredAccess → ℕ → Line
+lines_in_turn lines [] = lines
+lines_in_turn lines (one ∷ more) =
+    lines_in_turn (lines_appended (put_back lines one.access.address.0 one.access.purpose) one.appended) more
+
 -- each access shows what one of a walk does over a memory with these lines, in order, and the walk has no others
 abbrev pub AreShownAs : WalkSizes → (ℕ → Line) → Purpose → List WalkAccess → List AnsweredAccess → Type 0
 AreShownAs sizes lines put [] [] = Unit {0}

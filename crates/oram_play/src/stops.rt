@@ -14,10 +14,11 @@ ghost use Rattle.oram_frontend.specs.Access.{SlotStep};
 ghost use Rattle.oram_frontend.specs.Oram.{OramState, OramStep, Fetch, Store, Wait};
 ghost use Rattle.oram_frontend.specs.Slots.{FitKeys};
 ghost use Rattle.oram_play.specs.InTurn.{AnsweredAccess};
-ghost use Rattle.oram_play.specs.OnPlay.{IsOnPlay};
+ghost use Rattle.oram_play.specs.OnPlay.{IsOnPlay, FindsLines};
 ghost use Rattle.oram_play.specs.Playing.{PlaysAs, LeavesOf, called};
 ghost use Rattle.oram_lines.specs.Lines.{IsRequest};
 ghost use Rattle.oram_lines.specs.Standing.{IsKnown};
+ghost use Rattle.oram_play.specs.Shown.{lines_in_turn};
 ghost use Rattle.oram_play.specs.Stopped.{AccessLeaves, AppendLeaves, WaitLeaves, WasFound};
 ghost use Rattle.oram_play.specs.StopsInTurn.{StopsInTurn, StopsNext, IsOnWalk, IsStopped};
 ghost use Rattle.oram_play.specs.Taken.{HasTaken};
@@ -53,8 +54,8 @@ pub fn stopped_accesses_are_cut()
 /// A fetch or a store that is stopped took slots access by access up to there, as an answered one does: then an access
 /// was stopped, which is asked for at the end of the last answered one, or an append behind it, or room was wanting. If
 /// each answered access had the line of a memory that shows the counters, they are the first of the walk, and what was
-/// stopped is the next access of it, or the append behind the last one. The run can be noted answer by answer: where
-/// these are the lines of a memory, so are those of the accesses.
+/// stopped is the next access of it, or the append behind the last one. The run can be noted answer by answer up to
+/// there: where these are the lines of a memory, so are those of the accesses.
 pub fn stopped_requests_take_slots_in_turn()
     ensures fetch { (keys : Keys) (levels notes asked line : ℕ) (stop : Stop) (old new : OramState)
         (slots : List Slot) (pace : Pace) (numbers : Numbers) → FitKeys keys old.port → Resting notes levels old.port
@@ -68,14 +69,15 @@ pub fn stopped_requests_take_slots_in_turn()
         stop old new }
 {}
 
-/// Where a stopped request is on the walk of the play's request, it leaves a cut of the play: a slot of it was stopped,
-/// or all its slots were taken before one that is too late.
+/// Where a stopped request is on the walk of the play's request over a memory, in which is also what was found where it
+/// stopped, it leaves a cut of the play, or its log shows a forgery: a slot of it was stopped, or all its slots were
+/// taken before one that is too late.
 pub fn stopped_walks_cut_plays()
     ensures { (keys : Keys) (levels : ℕ) (config : Config) (now : Standing) (request : LineRequest)
         (slots : List Slot) (stop : Stop) (new : PortState) → now.late ≡ None
-        → (stops : StopsInTurn keys levels config now.numbers now.clock slots now.pace stop new)
-        → IsOnPlay config now request stops.accesses stops.next
-        → LeavesOf levels slots (request_slots config now request) stop new }
+        → (stops : StopsInTurn keys levels config now.numbers now.clock slots now.pace stop new) (lines : ℕ → Line)
+        → IsOnPlay config now request stops.accesses lines stops.next → FindsLines lines stops.next
+        → Forgery keys new.tap.log ⊎ LeavesOf levels slots (request_slots config now request) stop new }
 {}
 
 /// A line that was found in the slot of an access that stopped later is the block's, where this is known of the port
@@ -88,7 +90,7 @@ pub fn lines_found_before_stops_are_right()
 {}
 
 /// What was stopped on a request's walk over a memory with the data lines as last stored is on the walk of the play's
-/// request.
+/// request, over that memory as the accesses before left it.
 pub fn stopped_walks_are_on_plays()
     ensures { (config : Config) (now : Standing) (request : LineRequest) (lines : ℕ → Line)
         → 1 ≤ config.shape.layers → IsHeldList (walk_sizes config) now.chip.held
@@ -99,13 +101,12 @@ pub fn stopped_walks_are_on_plays()
         (next : StopsNext keys levels numbers asked slots pace stop old new)
         → IsOnWalk (walk_sizes config) lines (put_for request)
         (walk (walk_sizes config) now.chip (requested request)).accesses accesses next
-        → IsOnPlay config now request accesses next }
+        → IsOnPlay config now request accesses (lines_in_turn lines accesses) next }
 {}
 
 /// Where an encrypted memory stands where a play stands, a request that is stopped leaves a cut of the play, or its log
 /// shows a forgery: all slots of the play's request were taken before one that is too late; or one of them was stopped,
-/// and the log says the slots before it and the part of it that was done, though another message may have been put back
-/// in it.
+/// and the log says the slots before it and the part of it that was done.
 pub fn stopped_requests_cut_plays()
     ensures { (keys : Keys) → AreKeys keys → (levels : ℕ) (config : Config) (slots : List Slot) (now : Standing)
         (old : OramState) → PlaysAs keys levels config slots now old → (stop : Stop) (new : OramState)

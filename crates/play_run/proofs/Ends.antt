@@ -1,6 +1,5 @@
 -- What the end of a run shows of its play.
-use Rattle.std.proofs.Common.{◌≡◌, ◌≤◌, ◌⊎◌, inl, inr, ℕ, suc, max, List, [], ◌∷◌, ◌++◌, Bool, true, false, Some, None, Ok, Err, length}
-use Rattle.std.proofs.Common.{map, nat_le, if◌then◌else◌}
+use Rattle.std.proofs.Common.{◌≡◌, ◌≤◌, ◌⊎◌, inl, inr, ℕ, suc, max, List, [], ◌∷◌, ◌++◌, Some, None, Ok, Err, length}
 use Rattle.std.proofs.Common.{refl, sym, ap, ◌∙◌, subst, arith, append_assoc, append-nil}
 use Rattle.asc_base.specs.declared.settings.Config.{Config}
 use Rattle.asc_base.specs.declared.stop.Stop.{Stop}
@@ -10,9 +9,7 @@ use Rattle.oram_contents.specs.Entries.{Keys}
 use Rattle.oram_contents.specs.Forgery.{Forgery}
 use Rattle.oram_frontend.specs.Oram.{OramState, OramStep, Told, Wait}
 use Rattle.rate_enforcer.specs.PortStep.{PortState}
-use Rattle.run_play.specs.Halt as cut
-use Rattle.run_play.specs.Halt.{Refused, Overfull, MoveFails, AppendRefused, AppendOverfull, cut_at, part_of, ending_of}
-use Rattle.run_play.specs.Halt.{before_put, after_put}
+use Rattle.run_play.specs.Halt.{cut_at}
 use Rattle.run_play.specs.Play as how
 use Rattle.run_play.specs.Play.{Play, PlayEnding, after_slots, times_out}
 use Rattle.run_play.specs.PlayEvents.{play_events}
@@ -22,45 +19,10 @@ use Rattle.run_play.proofs.Halts.{halt-at}
 use Rattle.run_play.proofs.Keeping.{passed-none}
 use Rattle.play_run.specs.Follows.{CutsWith, StopLeaves}
 use Rattle.play_run.specs.Given.{waited, WaitPlays, WaitStops}
-use Rattle.oram_play.specs.Playing.{IsDoneOf, but_put}
-use Rattle.play_run.specs.Shows.{AreShown, RunShows, StopShows}
+use Rattle.play_run.specs.Shows.{RunShows, StopShows}
 use Rattle.play_run.specs.Stands.{EndsIn}
 use Rattle.play_run.proofs.Kept.{IsLate, passed-left}
 use Rattle.play_run.proofs.Plans.{leaves-of}
-
--- slots are shown as they are
-are-shown : (ending : PlayEnding) (slots : List Slot) → AreShown ending slots slots
-are-shown (how.Exited status) slots = refl
-are-shown (how.Trapped kind pc) slots = refl
-are-shown how.Budget slots = refl
-are-shown (how.TimeUp at) slots = refl
-are-shown (how.StashFull held) slots = refl
-are-shown (how.Integrity evidence) slots = refl
-are-shown how.Device slots = refl
-
--- the last of some slots may put another message back
-last-like : (before : List Slot) (done slot : Slot) → but_put done ≡ but_put slot
-    → map but_put (before ++ done ∷ []) ≡ map but_put (before ++ slot ∷ [])
-last-like [] done slot e = ap (λ s. s ∷ []) e
-last-like (b ∷ bs) done slot e = ap (λ l. but_put b ∷ l) (last-like bs done slot e)
-
-part-like : (early : Bool) (done slot : Slot) → but_put done ≡ but_put slot
-    → but_put (if early then before_put done else after_put done)
-    ≡ but_put (if early then before_put slot else after_put slot)
-part-like true done slot e = ap before_put e
-part-like false done slot e = ap after_put e
-
--- so is what was done in a slot that was cut
-parts-shown : (levels : ℕ) (stop : cut.Stop) (before : List Slot) (done slot : Slot) → IsDoneOf stop done slot
-    → AreShown (ending_of stop) (before ++ part_of levels stop done ∷ []) (before ++ part_of levels stop slot ∷ [])
-parts-shown levels (Refused evidence) before done slot is = ap (λ s. before ++ before_put s ∷ []) is
-parts-shown levels (Overfull held) before done slot is =
-    last-like before (after_put done) (after_put slot) (ap after_put is)
-parts-shown levels (MoveFails move) before done slot is =
-    last-like before (part_of levels (MoveFails move) done) (part_of levels (MoveFails move) slot)
-    (part-like (nat_le move levels) done slot is)
-parts-shown levels (AppendRefused evidence) before done slot is = ap (λ s. before ++ s ∷ []) is
-parts-shown levels (AppendOverfull held) before done slot is = ap (λ s. map but_put (before ++ s ∷ [])) is
 
 -- a cut in the slots of a whole play
 cut-shows : (levels : ℕ) (whole : Play) (all more : List Slot) (ending : PlayEnding) (numbers : Numbers)
@@ -75,10 +37,6 @@ cut-shows levels whole all more ending numbers new parts (stop, is, h) = (
         (parts ∙ (ap (λ l. l ++ more) h.are ∙ append_assoc h.before (h.slot ∷ h.later) more))),
   ),
   record {
-    shown = h.before ++ part_of levels stop h.done ∷ [];
-    slots = subst (λ e. AreShown e (h.before ++ part_of levels stop h.done ∷ [])
-        (h.before ++ part_of levels stop h.slot ∷ [])) is
-        (parts-shown levels stop h.before h.done h.slot h.done_is);
     events = h.said;
     ending = is;
     numbers = h.left;
@@ -134,8 +92,6 @@ stop-shows levels config whole all more after numbers (TimeUp at) new parts late
       whole,
       inl refl,
       record {
-        shown = whole.slots;
-        slots = refl;
         events = had.said ∙ ap (λ (r : Play). play_events r.slots) (sym run);
         ending = ap (λ (r : Play). r.ending) run;
         numbers = ap (λ (r : Play). r.numbers) run ∙ same;
@@ -159,8 +115,6 @@ module _ (keys : Keys) (levels : ℕ) (config : Config) where
           whole,
           inl refl,
           record {
-            shown = whole.slots;
-            slots = are-shown ending whole.slots;
             events = y.taken.said ∙ ap (λ (r : Play). play_events r.slots) (sym x.whole_is);
             ending = ap (λ (r : Play). r.ending) x.whole_is;
             numbers = ap (λ (r : Play). r.numbers) x.whole_is ∙ x.numbers_are;

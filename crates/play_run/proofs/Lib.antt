@@ -7,3 +7,10 @@ pub mod Runs
 pub mod Reports
 pub mod Calls
 pub mod Whole
+pub mod FedCosts
+pub mod Rates
+pub mod Waits
+pub mod WaitSteps
+pub mod WaitTurns
+pub mod SpentPlans
+pub mod SpentRows

@@ -1,6 +1,6 @@
 -- A report is a play's where the log says the play's events.
 use Rattle.std.proofs.Common.{◌≡◌, ℕ, ◌+◌, List, [], ◌∷◌, ◌++◌, Option, Some, None, cond, length, refl, sym, ap, ◌∙◌}
-use Rattle.std.proofs.Common.{arith, subst, map, option_to_list}
+use Rattle.std.proofs.Common.{arith}
 use Rattle.std.specs.List.{flat_map, sum_by, count_by}
 use Rattle.std.proofs.lemmas.List.Sums.{sum_by-append, sum_by-cons}
 use Rattle.asc_base.specs.declared.block.Message.{Message}
@@ -12,15 +12,13 @@ use Rattle.bus_watch.specs.declared.log.Event.{Event}
 use Rattle.bus_watch.specs.declared.log.Event.TheVariants.{Access, Drawn, Tagged, Accepted, Chosen, Answered}
 use Rattle.epoch_learner.specs.LearnerRule.{real_count}
 use Rattle.rate_enforcer.specs.Counts.{is_dummy, is_real}
-use Rattle.run_play.specs.Play as how
 use Rattle.run_play.specs.Play.{Play, PlayEnding}
 use Rattle.run_play.specs.PlayEvents.{PlayEvent, Starts, Draws, Tags, Chooses, said_of, said_of_all, tags_of}
 use Rattle.run_play.specs.PlayEvents.{chooses_of}
-use Rattle.run_play.specs.PlayEvents.{slot_events, play_events, real_in, dummies_in, indices_in, PlayReport, report_of}
+use Rattle.run_play.specs.PlayEvents.{slot_events, play_events, real_in, dummies_in, PlayReport, report_of}
 use Rattle.run_play.specs.Slots.{Slot, Numbers, dummy_count}
 use Rattle.run_play.proofs.Events.{log-shows}
-use Rattle.oram_play.specs.Playing.{but_put}
-use Rattle.play_run.specs.Shows.{AreShown, Shows, RunShows, shown_report, IsPlayed}
+use Rattle.play_run.specs.Shows.{Shows, RunShows, shown_report, IsPlayed}
 
 -- what an event of a play counts, where a start counts so
 abbrev start_counts : (Option ℕ → ℕ) → PlayEvent → ℕ
@@ -91,54 +89,13 @@ module _ (events : List Event) (slots : List Slot) (is : said_of_all events ≡ 
       sym (all-counts (start_counts dummy_count) said_of (λ e. cond (is_dummy e) 1 0) dummy-event events)
       ∙ (ap (sum_by (start_counts dummy_count)) is ∙ slots-count dummy_count slots)
 
--- another message put back counts for nothing
-counts-but : (count : Option ℕ → ℕ) (slots : List Slot)
-    → sum_by (λ (s : Slot). count s.asked) (map but_put slots) ≡ sum_by (λ (s : Slot). count s.asked) slots
-counts-but count [] = refl
-counts-but count (slot ∷ slots) =
-    let a = sum_by-cons (λ (s : Slot). count s.asked) (but_put slot) (map but_put slots) in
-    let b = sum_by-cons (λ (s : Slot). count s.asked) slot slots in
-    let c = counts-but count slots in
-    omega (arith, a, b, c)
-
-indices-but : (slots : List Slot) → indices_in (map but_put slots) ≡ indices_in slots
-indices-but [] = refl
-indices-but (slot ∷ slots) = ap (λ l. option_to_list slot.chosen ++ l) (indices-but slots)
-
--- slots that are shown count as much as a play's
-record CountsAs (shown slots : List Slot) : Type 0 where
-  pub real : real_in shown ≡ real_in slots
-  pub dummies : dummies_in shown ≡ dummies_in slots
-  pub indices : indices_in shown ≡ indices_in slots
-
-counts-same : (shown slots : List Slot) → shown ≡ slots → CountsAs shown slots
-counts-same shown slots is =
-    record { real = ap real_in is; dummies = ap dummies_in is; indices = ap indices_in is }
-
-counts-like : (shown slots : List Slot) → map but_put shown ≡ map but_put slots → CountsAs shown slots
-counts-like shown slots like = record {
-  real = sym (counts-but real_count shown) ∙ ap real_in like ∙ counts-but real_count slots;
-  dummies = sym (counts-but dummy_count shown) ∙ ap dummies_in like ∙ counts-but dummy_count slots;
-  indices = sym (indices-but shown) ∙ ap indices_in like ∙ indices-but slots;
-}
-
-counts-as : (ending : PlayEnding) (shown slots : List Slot) → AreShown ending shown slots → CountsAs shown slots
-counts-as (how.Exited status) shown slots is = counts-same shown slots is
-counts-as (how.Trapped kind pc) shown slots is = counts-same shown slots is
-counts-as how.Budget shown slots is = counts-same shown slots is
-counts-as (how.TimeUp at) shown slots is = counts-same shown slots is
-counts-as (how.StashFull held) shown slots is = counts-like shown slots is
-counts-as (how.Integrity evidence) shown slots is = counts-same shown slots is
-counts-as how.Device shown slots is = counts-like shown slots is
-
 -- The report that a log counts is the play's.
 report-is : (p : Public) (run : Play) (ending : PlayEnding) (numbers : Numbers) (last : ℕ) (log : LogLists)
     → Shows run ending numbers last log → shown_report p ending numbers last log ≡ report_of p run
 report-is p run ending numbers last log x =
-    let same = counts-as ending x.shown run.slots x.slots in
-    let real = real-counts log.events x.shown x.events ∙ same.real in
-    let dummies = dummy-counts log.events x.shown x.events ∙ same.dummies in
-    let indices = (log-shows log.events x.shown x.events).1 ∙ same.indices in
+    let real = real-counts log.events run.slots x.events in
+    let dummies = dummy-counts log.events run.slots x.events in
+    let indices = (log-shows log.events run.slots x.events).1 in
     let made : PlayEnding → Numbers → ℕ → ℕ → ℕ → List ℕ → PlayReport =
     (λ e n l r d i. record {
       ending = e;
@@ -168,8 +125,6 @@ pub shown-played : (config : Config) (whole : Play) (ending : PlayEnding) (numbe
 shown-played config whole ending numbers last log (run, is, x) = record {
   run = run;
   is = is;
-  shown = x.shown;
-  slots = subst (λ e. AreShown e x.shown run.slots) (sym x.ending) x.slots;
   events = x.events;
   report_is = report-is (public_of config) run ending numbers last log x;
 }

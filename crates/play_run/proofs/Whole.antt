@@ -1,5 +1,5 @@
 -- A run that ends by no stop of its memory's shows the whole play.
-use Rattle.std.proofs.Common.{◌≡◌, inl, inr, ℕ, zero, suc, List, Option, Some, None, take, refl, ap, ◌∙◌, subst}
+use Rattle.std.proofs.Common.{◌≡◌, inl, inr, ℕ, zero, suc, Option, Some, None, take, refl, ap, ◌∙◌, subst}
 use Rattle.std.specs.Prelude.{slice_get}
 use Rattle.std.specs.Option.{option_map_or}
 use Rattle.asc_base.specs.declared.settings.Config.{Config}
@@ -7,11 +7,10 @@ use Rattle.bus_schedule.specs.Timetable.{public_of}
 use Rattle.bus_watch.specs.Log.{LogLists}
 use Rattle.run_play.specs.Halt as cut
 use Rattle.run_play.specs.Halt.{Refused, Overfull, MoveFails, AppendRefused, AppendOverfull, ending_of, cut_at, halt}
-use Rattle.run_play.specs.Play as how
-use Rattle.run_play.specs.Play.{Play, PlayEnding}
+use Rattle.run_play.specs.Play.{Play}
 use Rattle.run_play.specs.PlayEvents.{PlayReport, play_events, report_of}
 use Rattle.run_play.specs.Slots.{Slot}
-use Rattle.play_run.specs.Shows.{AreShown, IsRunOf, IsPlayed, IsWholePlay, IsOwn}
+use Rattle.play_run.specs.Shows.{IsRunOf, IsPlayed, IsWholePlay, IsOwn}
 
 -- a stop's ending is none
 stop-ends : (stop : cut.Stop) → IsOwn (ending_of stop) → ⊥
@@ -38,25 +37,12 @@ run-whole levels whole run (inl is) own = is
 run-whole levels whole run (inr (k, stop, is)) own =
     is ∙ halt-whole levels whole k stop (subst (λ (r : Play). IsOwn r.ending) is own)
 
--- its slots are shown as they are
-own-shown : (ending : PlayEnding) (shown slots : List Slot) → IsOwn ending → AreShown ending shown slots
-    → shown ≡ slots
-own-shown (how.Exited status) shown slots own is = is
-own-shown (how.Trapped kind pc) shown slots own is = is
-own-shown how.Budget shown slots own is = is
-own-shown (how.TimeUp at) shown slots own is = is
-own-shown (how.StashFull held) shown slots own is = absurd own
-own-shown (how.Integrity evidence) shown slots own is = absurd own
-own-shown how.Device shown slots own is = absurd own
-
 pub played-whole : (config : Config) (whole : Play) (report : PlayReport) (log : LogLists)
     → IsPlayed config whole report log → IsOwn report.ending → IsWholePlay config whole report log
 played-whole config whole report log x own =
     let ends : report.ending ≡ x.run.ending = ap (λ (r : PlayReport). r.ending) x.report_is in
-    let own_run = subst IsOwn ends own in
-    let run : x.run ≡ whole = run-whole config.shape.levels whole x.run x.is own_run in
+    let run : x.run ≡ whole = run-whole config.shape.levels whole x.run x.is (subst IsOwn ends own) in
     record {
-      events = x.events ∙ ap play_events (own-shown x.run.ending x.shown x.run.slots own_run x.slots)
-          ∙ ap (λ (r : Play). play_events r.slots) run;
+      events = x.events ∙ ap (λ (r : Play). play_events r.slots) run;
       report_is = x.report_is ∙ ap (report_of (public_of config)) run;
     }

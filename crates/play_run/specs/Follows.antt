@@ -5,7 +5,7 @@ use Rattle.asc_base.specs.declared.settings.Config.{Config}
 use Rattle.asc_base.specs.declared.stop.Stop.{Stop}
 use Rattle.asc_base.specs.declared.stop.Stop.TheVariants.{Integrity, StashFull, TimeUp, Device, NoMemory}
 use Rattle.oram_contents.specs.Entries.{Keys}
-use Rattle.oram_play.specs.Playing.{PlaysAs, IsDoneOf}
+use Rattle.oram_play.specs.Playing.{PlaysAs}
 use Rattle.oram_play.specs.Taken.{HasTaken}
 use Rattle.play_run.specs.Timed.{TimedState}
 use Rattle.rate_enforcer.specs.PortStep.{PortState}
@@ -36,9 +36,7 @@ pub record IsCutIn (levels : ℕ) (all : List Slot) (stop : cut.Stop) (numbers :
   pub slot : Slot
   pub later : List Slot
   pub are : all ≡ before ++ slot ∷ later
-  pub done : Slot
-  pub done_is : IsDoneOf stop done slot
-  pub said : said_of_all new.tap.log.events ≡ play_events (before ++ part_of levels stop done ∷ [])
+  pub said : said_of_all new.tap.log.events ≡ play_events (before ++ part_of levels stop slot ∷ [])
   pub last : new.clock.last ≡ end_of levels slot.start stop
   pub left : slot.left ≡ numbers
 

@@ -3,3 +3,4 @@ pub mod Given
 pub mod Follows
 pub mod Shows
 pub mod Stands
+pub mod Spent

@@ -1,5 +1,5 @@
 -- What a log and the numbers of a run show of a play: all of it, or the play cut by a stop.
-use Rattle.std.specs.Prelude.{◌≡◌, ◌⊎◌, ℕ, List, max, length, map}
+use Rattle.std.specs.Prelude.{◌≡◌, ◌⊎◌, ℕ, max, length}
 use Rattle.std.specs.List.{count_by}
 use Rattle.asc_base.specs.declared.settings.Config.{Config}
 use Rattle.asc_base.specs.declared.stop.Stop.{Stop}
@@ -15,29 +15,15 @@ use Rattle.run_play.specs.Halt.{halt}
 use Rattle.run_play.specs.Play as how
 use Rattle.run_play.specs.Play.{Play, PlayEnding}
 use Rattle.run_play.specs.PlayEvents.{said_of_all, play_events, PlayReport, report_of}
-use Rattle.run_play.specs.Slots.{Slot, Numbers}
-use Rattle.oram_play.specs.Playing.{but_put}
+use Rattle.run_play.specs.Slots.{Numbers}
 
 -- a play, or that play cut by a stop
 abbrev pub IsRunOf : ℕ → Play → Play → Type 0
 IsRunOf levels whole run = (run ≡ whole) ⊎ ((k : ℕ) × (stop : cut.Stop) × (run ≡ halt levels whole k stop))
 
--- What a log shows of the slots of a play that ends so: they are its slots; but where a full stash or a failure ends
--- it, another message may have been put back.
-abbrev pub AreShown : PlayEnding → (shown slots : List Slot) → Type 0
-AreShown (how.Exited status) shown slots = shown ≡ slots
-AreShown (how.Trapped kind pc) shown slots = shown ≡ slots
-AreShown how.Budget shown slots = shown ≡ slots
-AreShown (how.TimeUp at) shown slots = shown ≡ slots
-AreShown (how.StashFull held) shown slots = map but_put shown ≡ map but_put slots
-AreShown (how.Integrity evidence) shown slots = shown ≡ slots
-AreShown how.Device shown slots = map but_put shown ≡ map but_put slots
-
 -- The log says the events of a play, and its ending, its numbers and its end time are these.
 pub record Shows (run : Play) (ended : PlayEnding) (left : Numbers) (end : ℕ) (log : LogLists) : Type 0 where
-  pub shown : List Slot
-  pub slots : AreShown ended shown run.slots
-  pub events : said_of_all log.events ≡ play_events shown
+  pub events : said_of_all log.events ≡ play_events run.slots
   pub ending : run.ending ≡ ended
   pub numbers : run.numbers ≡ left
   pub last : run.last ≡ end
@@ -75,13 +61,11 @@ shown_report p ending numbers last log = record {
 }
 
 -- What is reported of a run and what its log says are those of a play, or of that play cut by a stop: the log's events
--- are its slots', one by one, as far as the ending lets them be known, and the report is its report.
+-- are its slots', one by one, and the report is its report.
 pub record IsPlayed (config : Config) (whole : Play) (report : PlayReport) (log : LogLists) : Type 0 where
   pub run : Play
   pub is : IsRunOf config.shape.levels whole run
-  pub shown : List Slot
-  pub slots : AreShown run.ending shown run.slots
-  pub events : said_of_all log.events ≡ play_events shown
+  pub events : said_of_all log.events ≡ play_events run.slots
   pub report_is : report ≡ report_of (public_of config) run
 
 -- So of the whole play.

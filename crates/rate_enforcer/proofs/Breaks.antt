@@ -21,7 +21,7 @@ use Rattle.bus_watch.specs.RunEnd.{RunEnd, Whole, end_at}
 use Rattle.oram_contents.specs.Entries.{Keys}
 use Rattle.oram_contents.specs.PathRead.{path_read, replies}
 use Rattle.oram_contents.specs.PathWritten.{rest_of}
-use Rattle.oram_contents.specs.Slots.{IsRead, ArePasses}
+use Rattle.oram_contents.specs.Slots.{IsRead}
 use Rattle.unified_tree.specs.Cut.{CutRead, CutWrite}
 use Rattle.unified_tree.specs.Slot.{contents_of, GainsNow, WasRead}
 use Rattle.unified_tree.specs.Stops.{IfRead, IfWritten}
@@ -31,7 +31,7 @@ use Rattle.unified_tree.specs.declared.stop.TreeStop.TheVariants as tree
 use Rattle.rate_enforcer.proofs.Contents.{two_events}
 use Rattle.rate_enforcer.specs.Breaks.{Begins, ReadsBreak, IsRefused, ReadStops, WritesBreak, WriteStops}
 use Rattle.rate_enforcer.specs.Breaks.{WritesOfDummyStop, DummyStops, PassesStop}
-use Rattle.rate_enforcer.specs.Served.{keys_of, begin_events}
+use Rattle.rate_enforcer.specs.Served.{keys_of, begin_events, HavePassed}
 use Rattle.rate_enforcer.specs.Stops.{stop_after}
 
 -- the contents of two trees and taps that agree
@@ -252,7 +252,8 @@ dummy_stops old mid new tags leaf_of stop start number leaf t t2 t3 kept is seed
 -- some dummies pass, and the next one stops
 pub passes_stop : (old mid new : TreeState) (tags : List ℕ) (leaf_of : Point → ℕ) (stop : Stop)
     (start start' first number : ℕ) (t t2 t3 : TapState) → IsSameTree old mid → first ≤ number → start' ≡ start
-    → ArePasses (keys_of old tags leaf_of) (number - first) t.log t2.log (contents_of old t) (contents_of mid t2) first
+    → HavePassed (keys_of old tags leaf_of) old.stash (number - first) t.log t2.log (contents_of old t)
+    (contents_of mid t2) first
     → DummyStops (keys_of mid tags leaf_of) mid.stash stop t2.log t3.log (contents_of mid t2) (contents_of new t3)
     start number
     → PassesStop (keys_of old tags leaf_of) old.stash stop t.log t3.log (contents_of old t) (contents_of new t3) start'
@@ -263,7 +264,8 @@ passes_stop old mid new tags leaf_of stop start start' first number t t2 t3 kept
       done = number - first;
       mid = t2.log;
       between = contents_of mid t2;
-      passed = passed;
+      passed = passed.0;
+      few = passed.1;
       stops = subst (λ n. DummyStops (keys_of old tags leaf_of) old.stash stop t2.log t3.log (contents_of mid t2)
           (contents_of new t3) start' n) at
           (subst (λ n. DummyStops (keys_of old tags leaf_of) old.stash stop t2.log t3.log (contents_of mid t2)

@@ -19,12 +19,12 @@ use Rattle.oram_stash.specs.Entries.{AreApart, held}
 use Rattle.oram_contents.specs.Contents.{Contents, after_write}
 use Rattle.oram_contents.specs.Entries.{Keys}
 use Rattle.oram_contents.specs.Shapes.{AreOfShape}
-use Rattle.oram_contents.specs.Slots.{IsRead, IsEnd, IsDummy, ArePasses, drawn_events}
+use Rattle.oram_contents.specs.Slots.{IsRead, IsEnd, IsDummy, drawn_events}
 use Rattle.oram_contents.specs.Steps.{Adds}
 use Rattle.unified_tree.proofs.Slots.{read_is}
 use Rattle.unified_tree.specs.Slot.{contents_of, WasRead}
 use Rattle.unified_tree.specs.Tree.{TreeState, IsSameTree}
-use Rattle.rate_enforcer.specs.Served.{keys_of, begin_events}
+use Rattle.rate_enforcer.specs.Served.{keys_of, begin_events, HavePassed}
 
 -- the two events of a slot's start
 pub two_events : (t t1 t2 t3 : TapState) (start : ℕ) (asked : Option ℕ) (point : Point) (leaf : Leaf) (n : ℕ)
@@ -92,13 +92,21 @@ dummy_of old mid new tags leaf_of start number leaf t t2 t3 kept leaf_is seed mi
   ends = ends;
 }
 
+-- no dummy
+pub none_passed : (keys : Keys) (stash d : ℕ) (log : LogLists) (now : Contents)
+    → HavePassed keys stash (d - d) log log now now d
+none_passed keys stash d log now =
+    let none : 0 ≡ d - d = omega arith in
+    subst (λ k. HavePassed keys stash k log log now now d) none ((refl, refl), tt)
+
 -- one dummy more
 pub dummies_more : (old mid new : TreeState) (tags : List ℕ) (leaf_of : Point → ℕ) (start d0 d d' : ℕ)
     (t t2 t3 : TapState) → IsSameTree old mid → d0 ≤ d → d' ≡ d + 1 → mid.seed < 2 ^ 63
-    → ArePasses (keys_of old tags leaf_of) (d - d0) t.log t2.log (contents_of old t) (contents_of mid t2) d0
+    → length new.hand ≤ old.stash
+    → HavePassed (keys_of old tags leaf_of) old.stash (d - d0) t.log t2.log (contents_of old t) (contents_of mid t2) d0
     → IsDummy (keys_of mid tags leaf_of) t2.log t3.log (contents_of mid t2) (contents_of new t3) start d
-    → ArePasses (keys_of old tags leaf_of) (d' - d0) t.log t3.log (contents_of old t) (contents_of new t3) d0
-dummies_more old mid new tags leaf_of start d0 d d' t t2 t3 kept less is seeds before one =
+    → HavePassed (keys_of old tags leaf_of) old.stash (d' - d0) t.log t3.log (contents_of old t) (contents_of new t3) d0
+dummies_more old mid new tags leaf_of start d0 d d' t t2 t3 kept less is seeds few before one =
     let keys = keys_of old tags leaf_of in
     let same : keys_of mid tags leaf_of ≡ keys =
     λ i. record { shape = kept.shape i; pads = kept.key i; tags = tags; leaf_of = leaf_of } in
@@ -106,8 +114,8 @@ dummies_more old mid new tags leaf_of start d0 d d' t t2 t3 kept less is seeds b
     let at : d ≡ d0 + (d - d0) = omega arith in
     let one2 = subst (λ n. IsDummy keys t2.log t3.log (contents_of mid t2) (contents_of new t3) start n) at
     (subst (λ k. IsDummy k t2.log t3.log (contents_of mid t2) (contents_of new t3) start d) same one) in
-    subst (λ k. ArePasses keys k t.log t3.log (contents_of old t) (contents_of new t3) d0) (sym number)
-    (t2.log, contents_of mid t2, start, before, seeds, one2)
+    subst (λ k. HavePassed keys old.stash k t.log t3.log (contents_of old t) (contents_of new t3) d0) (sym number)
+    ((t2.log, contents_of mid t2, start, before.0, seeds, one2), (before.1, few))
 
 -- a path's read without evidence leaves addresses that differ
 pub read_apart : (key : List ℕ) (shape : Shape) (leaf : ℕ) (texts : List (List ℕ)) (hand joined : List Entry)

@@ -3,3 +3,4 @@ pub mod Contents
 pub mod Counted
 pub mod StateLaws
 pub mod Steps
+pub mod WholeSlots

@@ -17,14 +17,13 @@ use Rattle.bus_schedule.specs.Shown.{AreSilent}
 use Rattle.epoch_learner.proofs.StandLaws.{stands_ran, inside_ran}
 use Rattle.epoch_learner.specs.Stands.{StandsIn}
 use Rattle.oram_contents.specs.Entries.{Keys}
-use Rattle.oram_contents.specs.Slots.{ArePasses}
 use Rattle.unified_tree.specs.Slot.{contents_of}
 use Rattle.unified_tree.specs.Tree.{TreeState, IsSameTree}
 use Rattle.unified_tree.specs.declared.stop.OpenPath.{OpenPath}
 use Rattle.rate_enforcer.proofs.Breaks.{same_keys}
 use Rattle.rate_enforcer.specs.Breaks.{ReadStops, PassesStop, AskedStops}
 use Rattle.rate_enforcer.specs.PortStep.{PortState, port_of, contents, IsNote, Used, port_keys, OpenBreaks}
-use Rattle.rate_enforcer.specs.Served.{keys_of}
+use Rattle.rate_enforcer.specs.Served.{keys_of, HavePassed}
 use Rattle.rate_enforcer.specs.State.{Rests, Opens}
 use Rattle.rate_enforcer.specs.Stops.{RanTo}
 use Rattle.rate_enforcer.specs.declared.clock.Clock.{Clock}
@@ -62,16 +61,18 @@ used_so memory_of tap_of a b clock clock' tree tree' r =
 -- the slot that was asked for stops after some dummies
 pub asked_stops : (old mid new : TreeState) (tags : List ℕ) (leaf_of : Point → ℕ) (stop : Stop)
     (start start' first number asked : ℕ) (point : Point) (t t2 t3 : TapState) → IsSameTree old mid → start' ≡ start
-    → ArePasses (keys_of old tags leaf_of) (number - first) t.log t2.log (contents_of old t) (contents_of mid t2) first
+    → HavePassed (keys_of old tags leaf_of) old.stash (number - first) t.log t2.log (contents_of old t)
+    (contents_of mid t2) first
     → ReadStops (keys_of mid tags leaf_of) stop t2.log t3.log (contents_of mid t2) (contents_of new t3) start
     (Some asked) point
-    → AskedStops (keys_of old tags leaf_of) stop t.log t3.log (contents_of old t) (contents_of new t3) start' first
-    asked point
+    → AskedStops (keys_of old tags leaf_of) old.stash stop t.log t3.log (contents_of old t) (contents_of new t3)
+    start' first asked point
 asked_stops old mid new tags leaf_of stop start start' first number asked point t t2 t3 kept is passed stops = record {
   done = number - first;
   mid = t2.log;
   between = contents_of mid t2;
-  passed = passed;
+  passed = passed.0;
+  few = passed.1;
   stops = subst (λ n. ReadStops (keys_of old tags leaf_of) stop t2.log t3.log (contents_of mid t2)
       (contents_of new t3) n (Some asked) point) (sym is)
       (subst (λ (k : Keys). ReadStops k stop t2.log t3.log (contents_of mid t2) (contents_of new t3) start
@@ -83,8 +84,8 @@ pub open_breaks : (leaf_of : Point → ℕ) (levels asked : ℕ) (point : Point)
     (tags : List ℕ) → ((at : ℕ) → stop ≡ TimeUp at → ⊥)
     → (PassesStop (port_keys leaf_of levels old tags) old.tree.stash stop old.tap.log new.tap.log (contents old)
     (contents new) new.clock.next old.clock.dummies × (new.clock.next < min asked old.clock.config.time))
-    ⊎ (AskedStops (port_keys leaf_of levels old tags) stop old.tap.log new.tap.log (contents old) (contents new)
-    new.clock.next old.clock.dummies asked point × (new.clock.next < old.clock.config.time))
+    ⊎ (AskedStops (port_keys leaf_of levels old tags) old.tree.stash stop old.tap.log new.tap.log (contents old)
+    (contents new) new.clock.next old.clock.dummies asked point × (new.clock.next < old.clock.config.time))
     → OpenBreaks leaf_of levels asked point stop old new tags
 open_breaks leaf_of levels asked point (Integrity evidence) old new tags never b = b
 open_breaks leaf_of levels asked point (StashFull held) old new tags never b = b

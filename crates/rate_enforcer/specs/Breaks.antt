@@ -6,6 +6,8 @@ use Rattle.asc_base.specs.declared.block.Point.TheVariants.{Dummy}
 use Rattle.asc_base.specs.declared.stop.Evidence.{Evidence}
 use Rattle.asc_base.specs.declared.stop.Stop.{Stop}
 use Rattle.asc_base.specs.declared.stop.Stop.TheVariants.{Integrity, StashFull, TimeUp, Device, NoMemory}
+use Rattle.bus_schedule.specs.Schedule.{moves_of}
+use Rattle.bus_schedule.specs.Shown.{starts_of, leaves_of}
 use Rattle.bus_watch.specs.Log.{LogLists}
 use Rattle.bus_watch.specs.Path.{along, reads, writes_start}
 use Rattle.bus_watch.specs.declared.log.Altered.{Altered}
@@ -15,6 +17,7 @@ use Rattle.oram_contents.specs.PathRead.{path_read, replies}
 use Rattle.oram_contents.specs.PathWritten.{sealed, rest_of}
 use Rattle.oram_contents.specs.Slots.{IsRead, ArePasses, drawn_events}
 use Rattle.oram_contents.specs.Steps.{Adds}
+use Rattle.rate_enforcer.specs.Served.{AreFew}
 
 -- The slot of a point began, which was asked for at this time or by nobody: its start and its leaf were noted, and
 -- altered replies after them.
@@ -42,7 +45,13 @@ pub record ReadsBreak (keys : Keys) (old new : LogLists) (now after : Contents) 
   pub moves : new.moves ≡ old.moves ++ along keys.shape.levels false start (keys.leaf_of point) (level + 1)
   pub after_is : after ≡ now
 
--- A slot stops before or in its reads. Where memory runs out before it begins, nothing is noted.
+-- The moves of a log are those of whole slots, with the starts and the leaves that it notes.
+pub record HasWholeSlots (levels : ℕ) (log : LogLists) : Type 0 where
+  pub counted : length (starts_of log.events) ≡ length (leaves_of log.events)
+  pub moves : log.moves ≡ moves_of levels (starts_of log.events) (leaves_of log.events)
+
+-- A slot stops before or in its reads. Where memory runs out before it begins, nothing is noted, and the slots before
+-- it are whole.
 abbrev pub ReadStops : Keys → Stop → LogLists → LogLists → Contents → Contents → ℕ → Option ℕ → Point → Type 0
 ReadStops keys (Integrity evidence) old new now after start asked point =
     IsRefused keys evidence old new now after start asked point
@@ -50,7 +59,8 @@ ReadStops keys (StashFull held) old new now after start asked point = ⊥
 ReadStops keys (TimeUp at) old new now after start asked point = ⊥
 ReadStops keys Device old new now after start asked point = ReadsBreak keys old new now after start asked point
 ReadStops keys NoMemory old new now after start asked point =
-    ((new ≡ old) × (after ≡ now)) ⊎ ReadsBreak keys old new now after start asked point
+    ((new ≡ old) × (after ≡ now) × HasWholeSlots keys.shape.levels old)
+    ⊎ ReadsBreak keys old new now after start asked point
 
 -- More entries would stay at hand than may, so many, and no write is made.
 pub record IsOverfull (keys : Keys) (stash held leaf : ℕ) (old new : LogLists) (now after : Contents) : Type 0 where
@@ -104,13 +114,15 @@ pub record PassesStop (keys : Keys) (stash : ℕ) (stop : Stop) (old new : LogLi
   pub mid : LogLists
   pub between : Contents
   pub passed : ArePasses keys done old mid now between n
+  pub few : AreFew keys stash done old mid now between n passed
   pub stops : DummyStops keys stash stop mid new between after start (n + done)
 
 -- After so many dummies the slot that was asked for stops.
-pub record AskedStops (keys : Keys) (stop : Stop) (old new : LogLists) (now after : Contents) (start n asked : ℕ)
-    (point : Point) : Type 0 where
+pub record AskedStops (keys : Keys) (stash : ℕ) (stop : Stop) (old new : LogLists) (now after : Contents)
+    (start n asked : ℕ) (point : Point) : Type 0 where
   pub done : ℕ
   pub mid : LogLists
   pub between : Contents
   pub passed : ArePasses keys done old mid now between n
+  pub few : AreFew keys stash done old mid now between n passed
   pub stops : ReadStops keys stop mid new between after start (Some asked) point

@@ -27,7 +27,7 @@ use Rattle.unified_tree.specs.Tree.{TreeState, IsSameTree}
 use Rattle.unified_tree.specs.declared.stop.OpenPath.{OpenPath}
 use Rattle.rate_enforcer.specs.Counts.{IsCounted}
 use Rattle.rate_enforcer.specs.Breaks.{WriteStops, PassesStop, AskedStops}
-use Rattle.rate_enforcer.specs.Served.{keys_of, IsServed}
+use Rattle.rate_enforcer.specs.Served.{keys_of, AreFew, IsServed}
 use Rattle.rate_enforcer.specs.State.{Rests, Opens, Stopped, IsUp}
 use Rattle.rate_enforcer.specs.Stops.{IsEndOf, first_stop}
 use Rattle.rate_enforcer.specs.declared.clock.Clock.{Clock}
@@ -135,8 +135,8 @@ module _ (leaf_of : Point → ℕ) (levels : ℕ) where
     pub used : Used Whole old new
     pub in_slot : (notes : ℕ) → Resting notes levels old → InSlot (notes + 3) levels (leaf_of point) new
     pub first : IsFirstFor (olat_of old.clock.config.shape.levels) new.clock.last new.clock.next (Some asked)
-    pub served : (tags : List ℕ) → IsServed (port_keys old tags) old.tap.log new.tap.log (contents old) (contents new)
-        old.clock.dummies new.clock asked point
+    pub served : (tags : List ℕ) → IsServed (port_keys old tags) old.tree.stash old.tap.log new.tap.log (contents old)
+        (contents new) old.clock.dummies new.clock asked point
     pub real : new.clock.real ≡ old.clock.real + 1
     pub counts : KeepsCount old new
 
@@ -145,13 +145,15 @@ module _ (leaf_of : Point → ℕ) (levels : ℕ) where
   abbrev pub OpenBreaks : ℕ → Point → Stop → PortState → PortState → List ℕ → Type 0
   OpenBreaks asked point (TimeUp at) old new tags =
       IsUp old.clock.config at asked new.clock new.tap.log
-      × ArePasses (port_keys old tags) (new.clock.dummies - old.clock.dummies) old.tap.log new.tap.log
-      (contents old) (contents new) old.clock.dummies
+      × (passed : ArePasses (port_keys old tags) (new.clock.dummies - old.clock.dummies) old.tap.log new.tap.log
+      (contents old) (contents new) old.clock.dummies)
       × (old.clock.dummies ≤ new.clock.dummies)
+      × AreFew (port_keys old tags) old.tree.stash (new.clock.dummies - old.clock.dummies) old.tap.log new.tap.log
+      (contents old) (contents new) old.clock.dummies passed
   OpenBreaks asked point stop old new tags =
       (PassesStop (port_keys old tags) old.tree.stash stop old.tap.log new.tap.log (contents old) (contents new)
       new.clock.next old.clock.dummies × (new.clock.next < min asked old.clock.config.time))
-      ⊎ (AskedStops (port_keys old tags) stop old.tap.log new.tap.log (contents old) (contents new)
+      ⊎ (AskedStops (port_keys old tags) old.tree.stash stop old.tap.log new.tap.log (contents old) (contents new)
       new.clock.next old.clock.dummies asked point × (new.clock.next < old.clock.config.time))
 
   -- It stops there, and every later call answers the same stop.
@@ -269,6 +271,8 @@ module _ (leaf_of : Point → ℕ) (levels : ℕ) where
     pub counts : KeepsCount old new
     pub passed : (tags : List ℕ) → ArePasses (port_keys old tags) (new.clock.dummies - old.clock.dummies)
         old.tap.log new.tap.log (contents old) (contents new) old.clock.dummies
+    pub few : (tags : List ℕ) → AreFew (port_keys old tags) old.tree.stash (new.clock.dummies - old.clock.dummies)
+        old.tap.log new.tap.log (contents old) (contents new) old.clock.dummies (passed tags)
     pub pace : KeepsPace old.clock.config end new.tap.log
 
   -- One of them stops, which starts before the time.

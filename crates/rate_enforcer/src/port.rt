@@ -12,7 +12,7 @@ ghost use Rattle.bus_watch.specs.RunEnd.{Whole};
 ghost use Rattle.epoch_learner.specs.Stands.{IsFirstFor, KeepsPace};
 ghost use Rattle.oram_contents.specs.Contents.{after_write};
 ghost use Rattle.oram_contents.specs.PathWritten.{rest_of};
-ghost use Rattle.oram_contents.specs.Slots.{IsRead, IsEnd, IsDummy, ArePasses};
+ghost use Rattle.oram_contents.specs.Slots.{IsRead, IsEnd, IsDummy};
 ghost use Rattle.oram_contents.specs.Verdict.{append_verdict};
 ghost use Rattle.oram_stash.specs.Entries.{held, without};
 ghost use Rattle.unified_tree.specs.Slot.{contents_of};
@@ -22,7 +22,7 @@ ghost use Rattle.rate_enforcer.specs.Counts.{IsCounted};
 ghost use Rattle.rate_enforcer.specs.Clock.{with_dummy, with_real};
 ghost use Rattle.rate_enforcer.specs.PortStep.{PortStep, OpenBreaks, port_of, silent, told, took};
 ghost use Rattle.rate_enforcer.specs.PortStep.{Open, Take, Put, Close, Abort, Join, Idle};
-ghost use Rattle.rate_enforcer.specs.Served.{keys_of, begin_events, IsServed};
+ghost use Rattle.rate_enforcer.specs.Served.{keys_of, begin_events, HavePassed, IsServed};
 ghost use Rattle.rate_enforcer.specs.State.{Rests, IsOpen, Opens, Stopped, IsUp};
 ghost use Rattle.rate_enforcer.specs.Stops.{RanTo, RanStop, Judges, first_stop};
 
@@ -320,8 +320,9 @@ impl<L: LeafFn> Port<L> {
             (M.state bus.old.memory.now) (W.state bus.old.tap.now)
             → OnOk result (Rests notes self.new.clock self.new.tree (L.levels self.new.leaves)
             (M.state bus.new.memory.now) (W.state bus.new.tap.now)) }
-        ensures passed { (tags : List ℕ) → OnOk result (ArePasses
-            (keys_of self.old.tree tags (L.leaf_of self.old.leaves)) (self.new.clock.dummies - self.old.clock.dummies)
+        ensures passed { (tags : List ℕ) → OnOk result (HavePassed
+            (keys_of self.old.tree tags (L.leaf_of self.old.leaves)) self.old.tree.stash
+            (self.new.clock.dummies - self.old.clock.dummies)
             (W.state bus.old.tap.now).log (W.state bus.new.tap.now).log
             (contents_of self.old.tree (W.state bus.old.tap.now)) (contents_of self.new.tree (W.state bus.new.tap.now))
             self.old.clock.dummies) }
@@ -379,7 +380,7 @@ impl<L: LeafFn> Port<L> {
         ensures asked { OnOk result (IsFirstFor (olat_of self.old.clock.config.shape.levels) self.new.clock.last
             self.new.clock.next (Some asked)) }
         ensures read { (tags : List ℕ) → OnOk result (IsServed (keys_of self.old.tree tags (L.leaf_of self.old.leaves))
-            (W.state bus.old.tap.now).log (W.state bus.new.tap.now).log
+            self.old.tree.stash (W.state bus.old.tap.now).log (W.state bus.new.tap.now).log
             (contents_of self.old.tree (W.state bus.old.tap.now)) (contents_of self.new.tree (W.state bus.new.tap.now))
             self.old.clock.dummies self.new.clock asked point) }
         ensures spare { OnOk result (2 ≤ self.new.tree.spare) }
@@ -454,8 +455,9 @@ impl<L: LeafFn> Port<L> {
             → OnOk result (Rests notes self.new.clock self.new.tree (L.levels self.new.leaves)
             (M.state bus.new.memory.now) (W.state bus.new.tap.now)) }
         ensures end { IfOk result (λ end. end ≡ max time self.new.clock.last) }
-        ensures passed { (tags : List ℕ) → OnOk result (ArePasses
-            (keys_of self.old.tree tags (L.leaf_of self.old.leaves)) (self.new.clock.dummies - self.old.clock.dummies)
+        ensures passed { (tags : List ℕ) → OnOk result (HavePassed
+            (keys_of self.old.tree tags (L.leaf_of self.old.leaves)) self.old.tree.stash
+            (self.new.clock.dummies - self.old.clock.dummies)
             (W.state bus.old.tap.now).log (W.state bus.new.tap.now).log
             (contents_of self.old.tree (W.state bus.old.tap.now)) (contents_of self.new.tree (W.state bus.new.tap.now))
             self.old.clock.dummies) }

@@ -120,9 +120,9 @@ stop_quiet keys stash stop old new now after start n h =
     dummy_quiet keys stash stop h.mid new h.between after start _ h.stops
     ∙ passes_quiet keys h.done old h.mid now h.between n h.passed
 
-asked_quiet : (keys : Keys) (stop : Stop) (old new : LogLists) (now after : Contents) (start n asked : ℕ)
-    (point : Point) → AskedStops keys stop old new now after start n asked point → answered new ≡ answered old
-asked_quiet keys stop old new now after start n asked point h =
+asked_quiet : (keys : Keys) (stash : ℕ) (stop : Stop) (old new : LogLists) (now after : Contents) (start n asked : ℕ)
+    (point : Point) → AskedStops keys stash stop old new now after start n asked point → answered new ≡ answered old
+asked_quiet keys stash stop old new now after start n asked point h =
     reads_quiet keys stop h.mid new h.between after start (Some asked) point h.stops
     ∙ passes_quiet keys h.done old h.mid now h.between n h.passed
 
@@ -163,14 +163,14 @@ module _ (leaf_of : Point → ℕ) (levels : ℕ) where
   open_quiet : (asked : ℕ) (point : Point) (stop : Stop) (old new : PortState)
       → OpenBreaks leaf_of levels asked point stop old new [] → answered new.tap.log ≡ answered old.tap.log
   open_quiet asked point (Integrity evidence) old new (inl h) = stop_quiet _ _ _ _ _ _ _ _ _ h.0
-  open_quiet asked point (Integrity evidence) old new (inr h) = asked_quiet _ _ _ _ _ _ _ _ _ _ h.0
+  open_quiet asked point (Integrity evidence) old new (inr h) = asked_quiet _ _ _ _ _ _ _ _ _ _ _ h.0
   open_quiet asked point (StashFull held) old new (inl h) = stop_quiet _ _ _ _ _ _ _ _ _ h.0
-  open_quiet asked point (StashFull held) old new (inr h) = asked_quiet _ _ _ _ _ _ _ _ _ _ h.0
+  open_quiet asked point (StashFull held) old new (inr h) = asked_quiet _ _ _ _ _ _ _ _ _ _ _ h.0
   open_quiet asked point (TimeUp at) old new h = passes_quiet _ _ _ _ _ _ _ h.1
   open_quiet asked point Device old new (inl h) = stop_quiet _ _ _ _ _ _ _ _ _ h.0
-  open_quiet asked point Device old new (inr h) = asked_quiet _ _ _ _ _ _ _ _ _ _ h.0
+  open_quiet asked point Device old new (inr h) = asked_quiet _ _ _ _ _ _ _ _ _ _ _ h.0
   open_quiet asked point NoMemory old new (inl h) = stop_quiet _ _ _ _ _ _ _ _ _ h.0
-  open_quiet asked point NoMemory old new (inr h) = asked_quiet _ _ _ _ _ _ _ _ _ _ h.0
+  open_quiet asked point NoMemory old new (inr h) = asked_quiet _ _ _ _ _ _ _ _ _ _ _ h.0
 
   port_stop : (old : PortState) (request : PortRequest) (stop : Stop) (new : PortState)
       → PortStep leaf_of levels old request (Err stop) new → answered new.tap.log ≡ answered old.tap.log

@@ -188,7 +188,7 @@ module _ (leaf_of : Point → ℕ) (levels : ℕ) where
   open_pace asked point (Integrity evidence) old new h = h.stopped.pace
   open_pace asked point (StashFull held) old new h = h.stopped.pace
   open_pace asked point (TimeUp at) old new h =
-      let (up, passed, more) = h.breaks [] in
+      let (up, passed, more, few) = h.breaks [] in
       let (next, rate) = h.stopped.ends in
       (up.late, omega (arith, next, rate), up.pace)
   open_pace asked point Device old new h = h.stopped.pace

@@ -1,4 +1,4 @@
-use Rattle.oram_lines.proofs.HonestTriples.{fetch_stopped, store_stopped}
+use Rattle.oram_lines.proofs.HonestStops.{fetch_stopped, store_stopped}
 use Rattle.oram_lines.proofs.noted.stopped_answers_are_lines.Goals as goal
 
 pub returns : goal.returns

@@ -29,8 +29,6 @@ unfolding greatest bits_of most_of epoch_at code_of lines_from pieces_within dec
 returns-clause-exit c log is = record {
   run = play_at default_config 65536 exit_words;
   is = inl refl;
-  shown = (play_at default_config 65536 exit_words).slots;
-  slots = refl;
   events = ap said_of_all is;
   report_is = refl;
 }
@@ -43,8 +41,6 @@ unfolding greatest layer_count layer_first layer_of index_of parent_of child_ind
 returns-clause-load c log is = record {
   run = play_at small 0 load_words;
   is = inl refl;
-  shown = (play_at small 0 load_words).slots;
-  slots = refl;
   events = is;
   report_is = refl;
 }
@@ -57,8 +53,6 @@ unfolding greatest layer_count layer_first layer_of index_of parent_of child_ind
 returns-clause-cut c log leaf is = record {
   run = halt 5 (play_at small 0 load_words) 1 (MoveFails 2);
   is = inr (1, MoveFails 2, refl);
-  shown = (halt 5 (play_at small 0 load_words) 1 (MoveFails 2)).slots;
-  slots = refl;
   events = ap said_of_all is;
   report_is = refl;
 }

@@ -21,6 +21,7 @@ use Rattle.rate_enforcer.proofs.Breaks.{moves_read, read_breaks, same_contents}
 use Rattle.rate_enforcer.proofs.Contents.{two_events, slot_read}
 use Rattle.rate_enforcer.proofs.Counted.{counted_begun, counted_still}
 use Rattle.rate_enforcer.proofs.Breaks.{read_silent}
+use Rattle.rate_enforcer.proofs.WholeSlots.{rests_whole}
 use Rattle.rate_enforcer.proofs.port.Port.begin.Goals as goal
 
 -- the leaf of a point is one of the tree
@@ -162,6 +163,7 @@ returns-in-Err-clause-breaks g c tags =
       refl,
       same_contents c.args.self.now.tree now t t (ap (λ (x : TreeState). x.hand) same ∙ c.room.ensures.hand)
           refl (ap (λ (x : TreeState). x.seed) same ∙ c.room.ensures.seed),
+      rests_whole c.requires.rests,
     )
 
 pub returns-in-Err-read_path-clause-breaks : goal.returns-in-Err-read_path-clause-breaks

@@ -53,7 +53,8 @@ returns-clause-step g c =
         more = c.in-Ok.ensures.more;
         real = c.pass_until.ensures.real;
         counts = c.pass_until.ensures.counts;
-        passed = c.in-Ok.ensures.passed;
+        passed = λ tags. (c.in-Ok.ensures.passed tags).0;
+        few = λ tags. (c.in-Ok.ensures.passed tags).1;
         pace = returns-clause-pace g c;
       },
     )

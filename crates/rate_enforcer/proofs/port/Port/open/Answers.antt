@@ -9,9 +9,9 @@ use Rattle.rate_enforcer.specs.State.{Stopped, IsUp}
 use Rattle.rate_enforcer.proofs.StateLaws.{ran_on, stops_on, serves, no_slot, is_up}
 use Rattle.oram_contents.specs.Contents.{Contents}
 use Rattle.oram_contents.specs.Entries.{Keys}
-use Rattle.oram_contents.specs.Slots.{ArePasses, IsRead}
+use Rattle.oram_contents.specs.Slots.{IsRead}
 use Rattle.unified_tree.specs.Slot.{contents_of}
-use Rattle.rate_enforcer.specs.Served.{keys_of, begin_events}
+use Rattle.rate_enforcer.specs.Served.{keys_of, begin_events, HavePassed}
 use Rattle.std.proofs.Common.{inl, inr}
 use Rattle.bus_watch.specs.RunEnd.{Whole}
 use Rattle.rate_enforcer.specs.Breaks.{ReadStops}
@@ -116,13 +116,15 @@ returns-clause-read g c tags =
     }) in
     let t1 = t c.pass_until.new.bus.tap.now in
     let t2 = t c.begin.new.bus.tap.now in
+    let both = subst (λ n. HavePassed keys old.stash (n - d0) (t c.args.bus.now.tap.now).log t1.log
+    (contents_of old (t c.args.bus.now.tap.now)) (contents_of now t1) d0) (sym c.in-Ok-begin.ensures.dummies)
+    (c.in-Ok.ensures.passed tags) in
     record {
       mid = t1.log;
       between = contents_of now t1;
       more = omega (arith, c.in-Ok.ensures.more, c.in-Ok-begin.ensures.dummies);
-      passed = subst (λ n. ArePasses keys (n - d0) (t c.args.bus.now.tap.now).log t1.log
-          (contents_of old (t c.args.bus.now.tap.now)) (contents_of now t1) d0) (sym c.in-Ok-begin.ensures.dummies)
-          (c.in-Ok.ensures.passed tags);
+      passed = both.0;
+      few = both.1;
       read = subst (λ n. IsRead keys t1.log t2.log (contents_of now t1) n c.args.point c.begin.new.self.tree.hand)
           (sym c.begin.ensures.next)
           (subst (λ (k : Keys). IsRead k t1.log t2.log (contents_of now t1)
@@ -177,8 +179,9 @@ returns-in-Err-clause-step g c =
 pub returns-then-self-clause-breaks : goal.returns-then-self-clause-breaks
 returns-then-self-clause-breaks g c none tags = (
   returns-then-self-clause-up g c none c.pass_until.new.self.clock.next refl,
-  c.in-Ok.ensures.passed tags,
+  (c.in-Ok.ensures.passed tags).0,
   c.in-Ok.ensures.more,
+  (c.in-Ok.ensures.passed tags).1,
 )
 
 pub returns-then-self-clause-step : goal.returns-then-self-clause-step

@@ -1,12 +1,12 @@
-use Rattle.std.proofs.Common.{◌≡◌, ◌<◌, ◌∙◌, ◌-◌, ◌^◌, [], refl, ap, subst, arith}
+use Rattle.std.proofs.Common.{◌<◌, ◌≤◌, ◌∙◌, ◌^◌, [], length, refl, ap, subst, arith}
 use Rattle.asc_base.specs.declared.settings.Config.{Config}
 use Rattle.bus_watch.proofs.MadeLaws.{ran_none}
-use Rattle.oram_contents.specs.Slots.{ArePasses, IsDummy}
+use Rattle.oram_contents.specs.Slots.{IsDummy}
 use Rattle.unified_tree.specs.Slot.{contents_of}
 use Rattle.rate_enforcer.specs.Served.{keys_of}
 use Rattle.rate_enforcer.specs.Breaks.{DummyStops}
 use Rattle.rate_enforcer.proofs.Breaks.{passes_stop}
-use Rattle.rate_enforcer.proofs.Contents.{dummies_more}
+use Rattle.rate_enforcer.proofs.Contents.{none_passed, dummies_more}
 use Rattle.rate_enforcer.specs.State.{Stopped}
 use Rattle.rate_enforcer.proofs.StateLaws.{ran_on, stops_on}
 use Rattle.rate_enforcer.proofs.port.Port.pass_until.Goals as goal
@@ -21,11 +21,9 @@ loop-self-init g c = record {
   more = omega arith;
   counts = λ counted. counted;
   real = refl;
-  passed = λ tags. subst (λ k. ArePasses (keys_of c.args.self.now.tree tags (g.L.LeafFn.leaf_of c.args.self.now.leaves))
-      k (g.W.Watch.state c.args.bus.now.tap.now).log (g.W.Watch.state c.args.bus.now.tap.now).log
-      (contents_of c.args.self.now.tree (g.W.Watch.state c.args.bus.now.tap.now))
-      (contents_of c.args.self.now.tree (g.W.Watch.state c.args.bus.now.tap.now)) c.args.self.now.clock.dummies)
-      (let none : 0 ≡ c.args.self.now.clock.dummies - c.args.self.now.clock.dummies = omega arith in none) (refl, refl);
+  passed = λ tags. none_passed (keys_of c.args.self.now.tree tags (g.L.LeafFn.leaf_of c.args.self.now.leaves))
+      c.args.self.now.tree.stash c.args.self.now.clock.dummies (g.W.Watch.state c.args.bus.now.tap.now).log
+      (contents_of c.args.self.now.tree (g.W.Watch.state c.args.bus.now.tap.now));
   ran = record { moves = []; events = []; ran = ran_none g.M.UntrustedMemory.state g.W.Watch.state c.args.bus.now };
 }
 
@@ -51,6 +49,13 @@ loop-self-preserved g c =
       c.requires.in_time,
       c.requires.rests.stands.step.follows.is_of.is_config.time.1,
     ) in
+    let few : length c.dummy.new.self.tree.hand ≤ c.args.self.now.tree.stash = omega (
+      arith,
+      (o.rests 0 r).few,
+      ap (λ (x : Config). x.stash) d.config,
+      ap (λ (x : Config). x.stash) i.config,
+      c.requires.rests.is_for.stash,
+    ) in
     record {
       more = omega (arith, i.more, o.dummies);
       counts = λ counted. d.counts (i.counts counted);
@@ -58,7 +63,7 @@ loop-self-preserved g c =
       passed = λ tags. dummies_more c.args.self.now.tree c.loop-self.self.tree c.dummy.new.self.tree tags
           (g.L.LeafFn.leaf_of c.args.self.now.leaves) c.loop-self.self.clock.next c.args.self.now.clock.dummies
           c.loop-self.self.clock.dummies c.dummy.new.self.clock.dummies (t c.args.bus.now.tap.now)
-          (t c.loop-self.bus.tap.now) (t c.dummy.new.bus.tap.now) i.kept i.more o.dummies seeds (i.passed tags)
+          (t c.loop-self.bus.tap.now) (t c.dummy.new.bus.tap.now) i.kept i.more o.dummies seeds few (i.passed tags)
           (subst (λ x. IsDummy (keys_of c.loop-self.self.tree tags (g.L.LeafFn.leaf_of x))
           (t c.loop-self.bus.tap.now).log (t c.dummy.new.bus.tap.now).log
           (contents_of c.loop-self.self.tree (t c.loop-self.bus.tap.now))

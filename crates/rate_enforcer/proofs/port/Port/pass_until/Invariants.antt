@@ -1,9 +1,8 @@
 use Rattle.std.proofs.Common.{◌≡◌, ◌<◌, ◌+◌, ◌-◌, ◌≤◌, ℕ, List, max}
 use Rattle.asc_base.specs.TreeShape.{olat_of}
 use Rattle.bus_watch.specs.RunEnd.{Whole}
-use Rattle.oram_contents.specs.Slots.{ArePasses}
 use Rattle.unified_tree.specs.Slot.{contents_of}
-use Rattle.rate_enforcer.specs.Served.{keys_of}
+use Rattle.rate_enforcer.specs.Served.{keys_of, HavePassed}
 use Rattle.unified_tree.specs.Tree.{IsSameTree}
 use Rattle.rate_enforcer.specs.Counts.{IsCounted}
 use Rattle.rate_enforcer.specs.State.{Rests}
@@ -25,10 +24,10 @@ invariant-loop-self g l =
       more : l.fn.self.clock.dummies ≤ l.self.clock.dummies;
       counts : IsCounted l.fn.self.clock (t l.fn.bus.tap.now).log → IsCounted l.self.clock (t l.bus.tap.now).log;
       real : l.self.clock.real ≡ l.fn.self.clock.real;
-      passed : (tags : List ℕ) → ArePasses (keys_of l.fn.self.tree tags (g.L.LeafFn.leaf_of l.fn.self.leaves))
-          (l.self.clock.dummies - l.fn.self.clock.dummies) (t l.fn.bus.tap.now).log (t l.bus.tap.now).log
-          (contents_of l.fn.self.tree (t l.fn.bus.tap.now)) (contents_of l.self.tree (t l.bus.tap.now))
-          l.fn.self.clock.dummies;
+      passed : (tags : List ℕ) → HavePassed (keys_of l.fn.self.tree tags (g.L.LeafFn.leaf_of l.fn.self.leaves))
+          l.fn.self.tree.stash (l.self.clock.dummies - l.fn.self.clock.dummies) (t l.fn.bus.tap.now).log
+          (t l.bus.tap.now).log (contents_of l.fn.self.tree (t l.fn.bus.tap.now))
+          (contents_of l.self.tree (t l.bus.tap.now)) l.fn.self.clock.dummies;
       ran : RanTo m t Whole l.fn.bus l.bus;
     }
 
