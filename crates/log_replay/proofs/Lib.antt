@@ -14,3 +14,9 @@ pub mod StopLogs
 pub mod StopPorts
 pub mod StopSlots
 pub mod StopBehind
+pub mod Asks
+pub mod FrontParts
+pub mod FrontAsks
+pub mod Along
+pub mod AlongStops
+pub mod Requests

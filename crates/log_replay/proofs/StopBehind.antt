@@ -1,7 +1,7 @@
 -- What a stopped append leaves behind a slot. An answer isn't stopped.
 use Rattle.std.proofs.Common.{◌≡◌, ◌+◌, ◌==◌, ◌⊎◌, inl, inr, ℕ, Bool, true, false, if◌then◌else◌, nat_lt, List, []}
-use Rattle.std.proofs.Common.{◌∷◌, ◌++◌, length, Option, None, Some, is_some, Err, refl, sym, ◌∙◌, ap, ap₂, subst, arith}
-use Rattle.std.proofs.Common.{append-nil}
+use Rattle.std.proofs.Common.{◌∷◌, ◌++◌, length, Option, None, Some, is_some, Err, refl, sym, ◌∙◌, ap, ap₂, subst}
+use Rattle.std.proofs.Common.{arith, append-nil}
 use Rattle.asc_base.specs.declared.block.Address.{Address}
 use Rattle.asc_base.specs.declared.block.Entry.{Entry}
 use Rattle.asc_base.specs.declared.block.Line.{Line}

@@ -112,7 +112,8 @@ module _ (keys : Keys) (lawful : AreKeys keys) (levels notes : ℕ) (old new : P
 
   -- ---- its writes are stopped
   module _ (found : Option Entry) (put : Option Message) (s : PortState) (later : List Event) (back : List Entry)
-      (u : Under keys levels access found old s later back) (least : ℕ) (open_for : IsOpenFor keys levels access least s)
+      (u : Under keys levels access found old s later back) (least : ℕ)
+      (open_for : IsOpenFor keys levels access least s)
       (later_is : later ≡ accepted access.address.0 access.counter found ++ (put_events put ++ []))
       (back_is : back ≡ put_entries keys put) (put_of : IsOfPoint put point) where
     path_is : (path : OpenPath) → s.tree.path ≡ Some path
@@ -139,7 +140,8 @@ module _ (keys : Keys) (lawful : AreKeys keys) (levels notes : ℕ) (old new : P
     close_left : (stop : Stop) → CloseStopped keys.leaf_of levels stop s new
         → StopsReplayed keys old.tree.stash stop new
     close_left stop h =
-        let base = behind_dummies keys lawful levels notes old new known rests u.passed u.mid u.between u.passes u.few in
+        let base = behind_dummies keys lawful levels notes old new known rests u.passed u.mid u.between u.passes u.few
+        in
         let (before, moves) = slot_reads keys open_for.0 levels (keys.leaf_of point) s u.fits open_for.2 in
         stops_at keys old.tree.stash stop new
         (writes_stop keys old.tree.stash u.mid u.between (old.clock.dummies + u.passed) base u.start

@@ -1,16 +1,22 @@
--- What one call of an encrypted memory does to what its log says: where it is answered, the memory is still what the log
--- says, and a stop is one that the log shows.
+-- What one call of an encrypted memory does to what its log says: from the start on the memory is what its log says,
+-- where a call is answered it still is, and a stop is one that the log shows.
 use Rattle.std.specs.Prelude.{◌≡◌, ℕ, None, Ok, Err}
+use Rattle.asc_base.specs.Settings.{IsConfig}
+use Rattle.asc_base.specs.declared.settings.Config.{Config}
 use Rattle.asc_base.specs.declared.stop.Stop.{Stop}
 use Rattle.oram_contents.specs.Entries.{Keys}
 use Rattle.oram_contents.specs.Fold.{Whole}
 use Rattle.oram_frontend.specs.Oram.{OramState, OramRequest, OramStep, Told}
-use Rattle.oram_lines.specs.Lines.{IsRequest}
+use Rattle.oram_lines.specs.Lines.{IsNew, IsRequest}
 use Rattle.rate_enforcer.specs.PortStep.{Resting}
 use Rattle.log_replay.specs.Judged.{SaysMirror}
 use Rattle.log_replay.specs.Replayed.{IsReplayed, StopsReplayed}
 
 module _ (keys : Keys) (levels : ℕ) where
+  -- one that was just made is what its log says
+  abbrev pub StartReplays : Type 0
+  StartReplays = (config : Config) (o : OramState) → IsConfig config → IsNew keys config levels o → IsReplayed keys o
+
   -- an answered call leaves a memory that is what its log says
   abbrev pub RequestReplays : Type 0
   RequestReplays = (old new : OramState) (request : OramRequest) (told : Told) → IsReplayed keys old
@@ -28,8 +34,9 @@ module _ (keys : Keys) (levels : ℕ) where
   BetweenSays = (o : OramState) → IsReplayed keys o → Resting 0 levels o.port
       → SaysMirror keys o.port.tap.log Whole o.port.tap.mirror
 
-  -- So each call does.
+  -- So an encrypted memory begins, and so each of its calls does.
   pub record CallsReplay : Type 0 where
+    pub start : StartReplays
     pub request : RequestReplays
     pub stop : StopReplays
     pub between : BetweenSays

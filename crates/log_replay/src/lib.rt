@@ -6,3 +6,7 @@
 //!
 //! The crate has laws alone; the calls do nothing.
 #![tactic(auto)]
+
+mod laws;
+
+pub use laws::logs_say_all;

@@ -19,7 +19,7 @@ use Rattle.oram_stash.specs.Entries.{AreApart, held}
 use Rattle.oram_contents.specs.Contents.{Contents, after_write}
 use Rattle.oram_contents.specs.Entries.{Keys}
 use Rattle.oram_contents.specs.Shapes.{AreOfShape}
-use Rattle.oram_contents.specs.Slots.{IsRead, IsEnd, IsDummy, ArePasses, drawn_events}
+use Rattle.oram_contents.specs.Slots.{IsRead, IsEnd, IsDummy, drawn_events}
 use Rattle.oram_contents.specs.Steps.{Adds}
 use Rattle.unified_tree.proofs.Slots.{read_is}
 use Rattle.unified_tree.specs.Slot.{contents_of, WasRead}

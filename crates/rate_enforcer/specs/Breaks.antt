@@ -50,8 +50,8 @@ pub record HasWholeSlots (levels : ℕ) (log : LogLists) : Type 0 where
   pub counted : length (starts_of log.events) ≡ length (leaves_of log.events)
   pub moves : log.moves ≡ moves_of levels (starts_of log.events) (leaves_of log.events)
 
--- A slot stops before or in its reads. Where memory runs out before it begins, nothing is noted, and all slots before it
--- are whole.
+-- A slot stops before or in its reads. Where memory runs out before it begins, nothing is noted, and the slots before
+-- it are whole.
 abbrev pub ReadStops : Keys → Stop → LogLists → LogLists → Contents → Contents → ℕ → Option ℕ → Point → Type 0
 ReadStops keys (Integrity evidence) old new now after start asked point =
     IsRefused keys evidence old new now after start asked point

@@ -92,8 +92,6 @@ unfolding code_of
 unprepared_played config whole report tap tap' log is none = record {
   run = unprepared;
   is = inr (0, MoveFails 0, refl);
-  shown = [];
-  slots = refl;
   events = ap said_of_all none;
   report_is = λ i. record {
     ending = play_ending (is.ending i);

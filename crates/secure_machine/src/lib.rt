@@ -51,7 +51,6 @@ ghost use Rattle.secure_machine.specs.Fed.{IsFed};
 ghost use Rattle.log_replay.specs.Given.{CallsReplay};
 ghost use Rattle.log_replay.specs.Judged.{verdict_on, BreaksOffReading, SaysMirror};
 ghost use Rattle.log_replay.specs.Order.{LogOrder};
-ghost use Rattle.log_replay.specs.Replayed.{IsReplayed};
 ghost use Rattle.play_run.specs.Given.{CallsPlay};
 ghost use Rattle.play_run.specs.Shows.{IsPlayed};
 ghost use Rattle.secure_machine.specs.Plays.{play_report, play_with};
@@ -211,14 +210,10 @@ fn run_prepared<M: UntrustedMemory, W: Watch, L: LeafFn>(
         (M.state bus.new.memory.now) (W.state bus.old.tap.now) (W.state bus.new.tap.now)) }
     ensures replays { CallsReplay (keys_of oram.port.tree oram.tagger (L.leaf_of oram.port.leaves))
         (L.levels oram.port.leaves)
-        → IsReplayed (keys_of oram.port.tree oram.tagger (L.leaf_of oram.port.leaves))
-        (oram_over M.state W.state oram bus.old.memory.now bus.old.tap.now)
         → IfOk result (λ report. EndsReplayed (keys_of oram.port.tree oram.tagger (L.leaf_of oram.port.leaves))
         config.now.stash report.ending (W.state bus.new.tap.now)) }
     ensures replays_err { CallsReplay (keys_of oram.port.tree oram.tagger (L.leaf_of oram.port.leaves))
         (L.levels oram.port.leaves)
-        → IsReplayed (keys_of oram.port.tree oram.tagger (L.leaf_of oram.port.leaves))
-        (oram_over M.state W.state oram bus.old.memory.now bus.old.tap.now)
         → OnErr result (WantsReplayed (keys_of oram.port.tree oram.tagger (L.leaf_of oram.port.leaves))
         config.now.stash (W.state bus.new.tap.now)) }
 {

@@ -685,15 +685,14 @@ replayed g c =
     c.gives_leaves.ensures) in
     let laws = c.logs_say_all.ensures in
     let calls : CallsReplay keys levels = record {
+      start = laws.start keys lawful levels;
       request = laws.request keys lawful levels;
       stop = laws.stop keys lawful levels;
       between = laws.between keys lawful levels;
-    } in
-    let start = laws.start keys lawful levels config _ c.requires.config
-    (run_prepared-requires-clause-new g c) in (
+    } in (
       IfOk-weaker c.run_prepared.result _ _ (λ report. subst (λ (z : Keys). EndsReplayed z config.stash report.ending tap)
-          c.in_ok-oram.ensures.keys) (c.run_prepared.ensures.replays calls start),
-      on_err_so _ _ c.run_prepared.result (c.run_prepared.ensures.replays_err calls start)
+          c.in_ok-oram.ensures.keys) (c.run_prepared.ensures.replays calls),
+      on_err_so _ _ c.run_prepared.result (c.run_prepared.ensures.replays_err calls)
           (subst (λ (z : Keys). WantsReplayed z config.stash tap) c.in_ok-oram.ensures.keys),
     )
 

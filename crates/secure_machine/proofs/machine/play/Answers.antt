@@ -1,4 +1,4 @@
-use Rattle.std.proofs.Common.{◌≡◌, ◌≤◌, ◌∙◌, ◌*◌, inl, inr, min, refl, sym, ap, subst, arith, ℕ, suc, ◌+◌, ◌-◌}
+use Rattle.std.proofs.Common.{◌≡◌, ◌∙◌, ◌*◌, inl, inr, min, refl, sym, ap, subst, arith, ℕ, suc, ◌+◌, ◌-◌}
 use Rattle.asc_base.specs.declared.settings.Config.{Config}
 use Rattle.encrypted_run.specs.Refined.{loaded}
 use Rattle.oram_contents.specs.Entries.{AreKeys}
