@@ -142,7 +142,7 @@ module _ {M W L : Type 0} (memory_of : M → MemoryState) (tap_of : W → TapSta
 
 -- ---- what a run tells, instruction by instruction
 -- lines noted after lines noted
-noted_then : (before middle after first rest : List (List ℕ)) → middle ≡ before ++ first → after ≡ middle ++ rest
+pub noted_then : (before middle after first rest : List (List ℕ)) → middle ≡ before ++ first → after ≡ middle ++ rest
     → after ≡ before ++ (first ++ rest)
 noted_then before middle after first rest one other =
     other ∙ (ap (λ l. l ++ rest) one ∙ append_assoc before first rest)
@@ -163,7 +163,7 @@ along_more ways sets (first ∷ marked) (suc at) line below is =
     (omega (arith, below)) is
 
 -- an instruction on just its lines
-alone : (ways : ℕ) (machine next : Machine) (lists now : Lines) (lines : List (List ℕ)) (done : Done)
+pub alone : (ways : ℕ) (machine next : Machine) (lists now : Lines) (lines : List (List ℕ)) (done : Done)
     → ((more : List (List ℕ)) → AreLines more
     → fed_step ways machine (feed_of lists (lines ++ more))
     ≡ Some (record { machine = next; feed = feed_of now more; done = done }))
@@ -229,7 +229,7 @@ module _ {M W L : Type 0} (tap_of : W → TapState) where
   )
 
   -- nothing was answered since
-  nothing_more : (s : TimedLines M W L) → NotesMore tap_of s [] s
+  pub nothing_more : (s : TimedLines M W L) → NotesMore tap_of s [] s
   nothing_more s = (sym (append-nil (noted tap_of s)), tt)
 
   pub time_halts : (ways before cycles at until : ℕ) (machine : Machine) (lists : Lines) (s : TimedLines M W L)

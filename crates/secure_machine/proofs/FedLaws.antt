@@ -1,5 +1,5 @@
 -- Runs of the machine that is fed, instruction by instruction, and how they end.
-use Rattle.std.proofs.Common.{◌≡◌, ◌+◌, ◌∙◌, ◌++◌, ℕ, zero, suc, Bool, true, false, if◌then◌else◌, List, [], ◌∷◌, Option, None, Some, refl, sym, ap, subst, arith, append_assoc}
+use Rattle.std.proofs.Common.{◌≡◌, ◌≤◌, ◌+◌, ◌∙◌, ◌++◌, ℕ, zero, suc, Bool, true, false, if◌then◌else◌, List, [], ◌∷◌, Option, None, Some, refl, sym, ap, subst, arith, append_assoc}
 use Rattle.std.specs.Int.{from_le_bytes, w32}
 use Rattle.std.specs.Option.{option_and_then}
 use Rattle.asc_base.specs.declared.stop.Stop.{Stop}
@@ -10,6 +10,7 @@ use Rattle.fed_run.specs.Fed.{Feed, FedStep, FedRun, Ends as EndsAs, asks, fed_l
 use Rattle.fed_run.proofs.Feeds.{AreLines-append}
 use Rattle.fed_run.proofs.GoOn.{map-found, then-found, run-parts}
 use Rattle.fed_run.proofs.HonestLaws.{fed_run-zero, fed_run-suc}
+use Rattle.play_run.proofs.Costs.{word-low}
 use Rattle.rv32_core.specs.FlatMachine.{bytes_at, effected, trap_at}
 use Rattle.rv32_core.specs.FlatRun.{FlatEnding, Exited, Trapped, Budget as FlatBudget}
 use Rattle.rv32_core.specs.LineList.{LineUse, fetch_line, word_lines}
@@ -133,6 +134,21 @@ step_trapped : (ways : ℕ) (machine : Machine) (feed : Feed) (step : FedStep) (
 step_trapped ways machine feed step kind pc found =
     step_cases (λ s. s.done.ended ≡ Traps-as kind pc → s.machine ≡ machine) ways machine feed step
     (λ now word fetched rest how. word_trapped ways machine word now step kind pc rest how) (λ how. refl)
+    (is_inside machine.core machine.core.pc 4) found
+
+-- ---- what an instruction costs at most
+word_cheap : (ways : ℕ) (machine : Machine) (word : ℕ) (feed : Feed) (step : FedStep)
+    → fed_word ways machine word feed ≡ Some step → step.done.cost ≤ 34 + machine.core.size
+word_cheap ways machine word feed step found =
+    let uses = map-found (word_on machine word) (fed_uses ways feed (word_lines machine word)) step found in
+    subst (λ n. n ≤ 34 + machine.core.size) (ap (λ (z : FedStep). z.done.cost) uses.2)
+    (word-low machine (uses.0).memory word)
+
+pub step_cheap : (ways : ℕ) (machine : Machine) (feed : Feed) (step : FedStep) → fed_step ways machine feed ≡ Some step
+    → step.done.cost ≤ 34 + machine.core.size
+step_cheap ways machine feed step found =
+    step_cases (λ s. s.done.cost ≤ 34 + machine.core.size) ways machine feed step
+    (λ now word fetched rest. word_cheap ways machine word now step rest) (omega arith)
     (is_inside machine.core machine.core.pc 4) found
 
 -- ---- one instruction

@@ -18,3 +18,6 @@ pub mod FedChains
 pub mod FedReports
 pub mod Playing
 pub mod PlayedLaws
+pub mod SpentChains
+pub mod SpentRuns
+pub mod SpentReports

@@ -92,7 +92,7 @@ module _ {M W L : Type 0} (memory_of : M → MemoryState) (tap_of : W → TapSta
       (subst (λ m. TimedStep keys m s.count (timed s) request answer (timed t)) at
       (subst (λ (z : Keys). TimedStep z (levels s) s.count (timed s) request answer (timed t)) is h.1))
 
-  chain_timed : {B A : Type 0} (plan : Plan LineRequest (List ℕ) B A) (s t : Lines) (a : A) (keys : Keys) (n : ℕ)
+  pub chain_timed : {B A : Type 0} (plan : Plan LineRequest (List ℕ) B A) (s t : Lines) (a : A) (keys : Keys) (n : ℕ)
       → keys_in leaf_of s ≡ keys → levels s ≡ n → keys.shape.lines ≡ s.count → Ends Step plan s t a
       → Ends (TimedStep keys n keys.shape.lines) plan (timed s) (timed t) a × IsSameLines s t
   chain_timed (Done x) s t a keys n is at count ends =
@@ -103,7 +103,7 @@ module _ {M W L : Type 0} (memory_of : M → MemoryState) (tap_of : W → TapSta
       (ap levels_of one.0.leaves ∙ at) (count ∙ sym one.0.count) rest in
       ((x, timed mid, step_timed s mid q (Ok x) keys n is at count one, calls), same_then one.0 same)
 
-  chain_timed_stops : {B A : Type 0} (plan : Plan LineRequest (List ℕ) B A) (s t : Lines) (stop : Stop) (left : B)
+  pub chain_timed_stops : {B A : Type 0} (plan : Plan LineRequest (List ℕ) B A) (s t : Lines) (stop : Stop) (left : B)
       (keys : Keys) (n : ℕ) → keys_in leaf_of s ≡ keys → levels s ≡ n → keys.shape.lines ≡ s.count
       → Stops Step plan s t stop left
       → Stops (TimedStep keys n keys.shape.lines) plan (timed s) (timed t) stop left × IsSameLines s t
@@ -132,7 +132,7 @@ module _ {M W L : Type 0} (memory_of : M → MemoryState) (tap_of : W → TapSta
     pub fetches : u.fetches ≡ t.fetches
     pub clock : u.clock ≡ min (t.clock + cost) (2 ^ 64 - 1)
 
-  spent_to : (cost : ℕ) (t u : Lines) → IsSpent cost t u → t.clock + cost < 2 ^ 64 → timed u ≡ spent cost (timed t)
+  pub spent_to : (cost : ℕ) (t u : Lines) → IsSpent cost t u → t.clock + cost < 2 ^ 64 → timed u ≡ spent cost (timed t)
   spent_to cost t u x low =
       let clock : u.clock ≡ t.clock + cost = omega (arith, x.clock, low) in
       λ i. record {
@@ -145,6 +145,19 @@ module _ {M W L : Type 0} (memory_of : M → MemoryState) (tap_of : W → TapSta
   forged_spent : (cost : ℕ) (keys : Keys) (t u : Lines) → IsSpent cost t u
       → Forgery keys (timed t).oram.port.tap.log → Forgery keys (timed u).oram.port.tap.log
   forged_spent cost keys t u x forged = subst (λ (w : W). Forgery keys (tap_of w).log) (sym x.tap) forged
+
+  -- so many lines at most
+  lines_small : (s : Lines) → Ready memory_of tap_of levels_of s → s.count ≤ 2 ^ 18
+  lines_small s ready =
+      let is = ready.serving.serves.rests.stands.step.follows.is_of.is_config in
+      omega (arith, config_lines s.oram.now.port.clock.config is, is.memory.size_to, ready.lines)
+
+  -- so the clock stays small from image line to image line
+  pub limit_small : (config : Config) (at line : ℕ) (marked : List ℕ) (s : Lines) → at < length marked
+      → line ≡ get_or marked at line → IsStrictlyIncreasing marked → get_or marked at 0 < s.count
+      → Ready memory_of tap_of levels_of s → IsConfig config → (config.time + olat_of config.shape.levels + at) + 1 < 2 ^ 64
+  limit_small config at line marked s below is rise inside ready is_config =
+      omega (arith, times_small config is_config, rising_place marked at rise below, inside, lines_small s ready)
 
   module _ (config : Config) (whole : Play) where
     -- the time of the settings is the port's
@@ -289,12 +302,6 @@ module _ {M W L : Type 0} (memory_of : M → MemoryState) (tap_of : W → TapSta
       ),
     )
 
-    -- so many lines at most
-    lines_small : (s : Lines) → Ready memory_of tap_of levels_of s → s.count ≤ 2 ^ 18
-    lines_small s ready =
-        let is = ready.serving.serves.rests.stands.step.follows.is_of.is_config in
-        omega (arith, config_lines s.oram.now.port.clock.config is, is.memory.size_to, ready.lines)
-
     -- the line at a place, and those behind it
     marked_at : (at line : ℕ) (marked : List ℕ) → at < length marked → line ≡ get_or marked at line
         → drop at marked ≡ line ∷ drop (at + 1) marked
@@ -302,12 +309,6 @@ module _ {M W L : Type 0} (memory_of : M → MemoryState) (tap_of : W → TapSta
         let e : suc at ≡ at + 1 = omega arith in
         drop-cons marked at line below ∙ (ap (λ n. n ∷ drop (suc at) marked) (sym is) ∙ ap (λ n. line ∷ drop n marked)
         e)
-
-    limit_small : (at line : ℕ) (marked : List ℕ) (s : Lines) → at < length marked → line ≡ get_or marked at line
-        → IsStrictlyIncreasing marked → get_or marked at 0 < s.count → Ready memory_of tap_of levels_of s
-        → IsConfig config → (config.time + olat_of config.shape.levels + at) + 1 < 2 ^ 64
-    limit_small at line marked s below is rise inside ready is_config =
-        omega (arith, times_small config is_config, rising_place marked at rise below, inside, lines_small s ready)
 
     pub image_next : (at line : ℕ) (memory : List ℕ) (machine : Machine) (marked : List ℕ) (cache after : Contents)
         (s t : Lines) → at < length marked → line ≡ get_or marked at line → IsStrictlyIncreasing marked
@@ -327,7 +328,7 @@ module _ {M W L : Type 0} (memory_of : M → MemoryState) (tap_of : W → TapSta
         let e : limit + 1 ≡ config.time + olat_of config.shape.levels + (at + 1) = omega arith in
         subst (λ n. InImage memory_of tap_of leaf_of levels_of config whole n memory machine (drop (at + 1) marked)
         after t) e
-        (step limit (omega arith) (limit_small at line marked s below is rise inside ready is_config)
+        (step limit (omega arith) (limit_small config at line marked s below is rise inside ready is_config)
         (subst (λ l. InImage memory_of tap_of leaf_of levels_of config whole limit memory machine l cache s)
         (marked_at at line marked below is) known))
 
@@ -344,7 +345,7 @@ module _ {M W L : Type 0} (memory_of : M → MemoryState) (tap_of : W → TapSta
         → StoppedInPlay memory_of tap_of leaf_of levels_of config whole 0 s.clock stop t
     image_stops at line memory machine marked cache s t stop below is rise inside ready is_config step known =
         let limit : ℕ = config.time + olat_of config.shape.levels + at in
-        step limit (omega arith) (limit_small at line marked s below is rise inside ready is_config)
+        step limit (omega arith) (limit_small config at line marked s below is rise inside ready is_config)
         (subst (λ l. InImage memory_of tap_of leaf_of levels_of config whole limit memory machine l cache s)
         (marked_at at line marked below is) known)
 

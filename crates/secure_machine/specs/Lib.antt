@@ -10,3 +10,4 @@ pub mod Answered
 pub mod Fed
 pub mod Plays
 pub mod Judged
+pub mod Spent

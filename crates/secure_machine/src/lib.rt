@@ -58,6 +58,7 @@ ghost use Rattle.secure_machine.specs.Finish.{IsRightEnding};
 ghost use Rattle.secure_machine.specs.Judged.{ShowsEnding, EndsReplayed, WantsReplayed, SaysWanting, log_end};
 ghost use Rattle.secure_machine.specs.Run.{Reported, Wanting, IsFlatReport, IsUnprepared, IsTiedOr, IsTiedButLast, chip_keys, start_of, IsInBudget, DrawsLeaves};
 ghost use Rattle.secure_machine.specs.LastMove.{EndsWithMove};
+ghost use Rattle.secure_machine.specs.Spent.{IsSpentOn};
 ghost use Rattle.secure_machine.specs.Same.{oram_over};
 ghost use Rattle.play_run.specs.Timed.{Serving};
 
@@ -197,6 +198,8 @@ fn run_prepared<M: UntrustedMemory, W: Watch, L: LeafFn>(
         → IfOk result (λ report. (evidence : Evidence) → report.ending ≡ Ending.Integrity evidence → ⊥) }
     ensures fed { IfOk result (λ report.
         IsFed config.now image.now files.input report (answered_lines (W.state bus.new.tap.now).log.events)) }
+    ensures spent { IfOk result (λ report.
+        IsSpentOn config.now image.now files.input report (W.state bus.new.tap.now).log) }
     ensures plays { AreKeys (keys_of oram.port.tree oram.tagger (L.leaf_of oram.port.leaves))
         → CallsPlay (keys_of oram.port.tree oram.tagger (L.leaf_of oram.port.leaves)) (L.levels oram.port.leaves)
         config.now
@@ -307,6 +310,8 @@ pub fn run<M: UntrustedMemory, W: Watch, L: LeafFn>(
         → IfOk result (λ report. (evidence : Evidence) → report.ending ≡ Ending.Integrity evidence → ⊥) }
     ensures fed { IfOk result (λ report.
         IsFed config.now image.now input.now report (answered_lines (W.state bus.new.tap.now).log.events)) }
+    ensures spent { IfOk result (λ report.
+        IsSpentOn config.now image.now input.now report (W.state bus.new.tap.now).log) }
     ensures order { LogOrder (chip_keys config.now codec tagger (L.leaf_of leaf)) (W.state bus.new.tap.now).log }
     ensures verdict { IfOk result (λ report. ShowsEnding (chip_keys config.now codec tagger (L.leaf_of leaf))
         config.now.stash report.ending (W.state bus.new.tap.now).log) }

@@ -30,7 +30,7 @@ ghost use Rattle.secure_machine.specs.Answered.{answered_lines};
 ghost use Rattle.secure_machine.specs.Fed.{noted, over_image, over_loaded, IsFedStep, IsStarvedStep, HaltsFed, CauseFed, IsFedRun};
 ghost use Rattle.secure_machine.specs.FlatEnds.{HaltsFlat, HaltsRun, IsFlat, ending_by};
 ghost use Rattle.secure_machine.specs.Refines.{IsForged, StandFor, Knows, IsUnblamed, EndsUnblamed, CauseUnblamed};
-ghost use Rattle.std.specs.Prelude.{◌≡◌, ◌<◌, ◌*◌, ◌%◌, ℕ, Some, OnOk, OnErr, IfOk, IfErr, MatchResult, vec_len};
+ghost use Rattle.std.specs.Prelude.{◌≡◌, ◌<◌, ◌*◌, ◌%◌, ℕ, Some, OnOk, OnErr, IfOk, IfErr, MatchResult, vec_len, length};
 ghost use Rattle.std.specs.List.{count_by};
 ghost use Rattle.data_cache.specs.Contents.{CacheBelow};
 ghost use Rattle.elf_loader.specs.Memory.{IsImage};
@@ -42,6 +42,8 @@ ghost use Rattle.secure_machine.specs.Goes.{Breaks};
 ghost use Rattle.secure_machine.specs.Judged.{CauseReplayed, EndsReplayed, WantsReplayed};
 ghost use Rattle.secure_machine.specs.Runs.{Onwards, BreaksOff, HaltsOver, Ready};
 ghost use Rattle.secure_machine.specs.Same.{IsSameLines, keys_in, oram_over, timed_of};
+ghost use Rattle.secure_machine.specs.Spent.{ClockSpent, StopSpent, CauseSpent, HaltsSpent, EndsSpent};
+ghost use Rattle.play_run.specs.Spent.{waits, fed_cost, IsSpent};
 ghost use Rattle.play_run.specs.Timed.{Serving, KeepsNoted};
 ghost use Rattle.bus_watch.specs.Same.{IsSameBus};
 
@@ -156,6 +158,13 @@ fn load_line<M: UntrustedMemory, W: Watch, L: LeafFn>(
         (λ _. InImage M.state W.state L.leaf_of L.levels config whole (limit + 1) image.now.bytes.items machine marked
         cache.new lines.new)
         (λ stop. StoppedInPlay M.state W.state L.leaf_of L.levels config whole 0 lines.old.clock stop lines.new) }
+    ensures spends { (config : Config) (levels costs limit : ℕ) → config.time + olat_of config.shape.levels ≤ limit
+        → limit + 1 < 2 ^ 64 → lines.old.clock ≤ limit
+        → ClockSpent M.state W.state L.levels config levels costs lines.old
+        → MatchResult result
+        (λ _. ClockSpent M.state W.state L.levels config levels (costs + 1) lines.new
+        × (lines.new.clock ≤ limit + 1))
+        (λ stop. StopSpent M.state W.state L.levels config levels costs lines.old.clock stop lines.new) }
 {
     match cache.write_line(lines, line, &line_of(image, line)) {
         Ok(()) => {}
@@ -202,6 +211,14 @@ fn load<M: UntrustedMemory, W: Watch, L: LeafFn>(
         → MatchResult result
         (λ _. InRun M.state W.state L.leaf_of L.levels config whole 0 config.budget machine cache.new lines.new)
         (λ halted. HaltsInPlay M.state W.state L.leaf_of L.levels config whole halted lines.new) }
+    ensures spends { (config : Config) (levels costs : ℕ)
+        → lines.old.clock ≤ config.time + olat_of config.shape.levels
+        → ClockSpent M.state W.state L.levels config levels costs lines.old
+        → let all = costs + length image.now.marked.items in
+        MatchResult result
+        (λ _. ClockSpent M.state W.state L.levels config levels all lines.new)
+        (λ halted. (halted.instructions ≡ 0) × CauseSpent M.state W.state L.levels config levels all
+        halted.instructions halted.cycles halted.cause lines.new) }
 {
     for at in 0..image.marked.len() {
         let start = lines.clock;
@@ -263,6 +280,13 @@ fn step<M: UntrustedMemory, W: Watch, L: LeafFn>(
         (λ done. LeavesInPlay M.state W.state L.leaf_of L.levels config whole before left lines.old.clock
         (machine_of core.new files.new) cache.new done.ended lines.new)
         (λ stop. StoppedInPlay M.state W.state L.leaf_of L.levels config whole before lines.old.clock stop lines.new) }
+    ensures spends { (config : Config) (levels costs ways : ℕ) (lists : Lines) → IsCore core.old
+        → StandsAs lines.old.count ways cache.old lists → lines.old.clock < config.time
+        → ClockSpent M.state W.state L.levels config levels costs lines.old
+        → MatchResult result
+        (λ done. ClockSpent M.state W.state L.levels config levels (costs + done.cost) lines.new
+        × (lines.old.clock + done.cost ≤ lines.new.clock))
+        (λ stop. StopSpent M.state W.state L.levels config levels costs lines.old.clock stop lines.new) }
 {
     let done = match step_cached(core, files, base, cache, lines) {
         Ok(done) => done,
@@ -324,6 +348,15 @@ fn instruction<M: UntrustedMemory, W: Watch, L: LeafFn>(
         (λ _. InRun M.state W.state L.leaf_of L.levels config whole (before + 1) left (machine_of core.new files.new)
         cache.new lines.new)
         (λ halted. HaltsInPlay M.state W.state L.leaf_of L.levels config whole halted lines.new) }
+    ensures spends { (config : Config) (levels costs ways : ℕ) (lists : Lines) → IsCore core.old
+        → StandsAs lines.old.count ways cache.old lists
+        → ClockSpent M.state W.state L.levels config levels costs lines.old
+        → MatchResult result
+        (λ _. (done : DoneValue) × (done.ended ≡ No) × IsFedStep W.state ways (machine_of core.old files.old) lists
+        lines.old lines.new cache.new (machine_of core.new files.new) done
+        × ClockSpent M.state W.state L.levels config levels (costs + done.cost) lines.new)
+        (λ halted. HaltsSpent M.state W.state L.levels config levels costs ways before (machine_of core.old files.old)
+        lists lines.old lines.new halted) }
 {
     let time = lines.time();
     let start = lines.clock;
@@ -384,6 +417,12 @@ fn play<M: UntrustedMemory, W: Watch, L: LeafFn>(
         → InImage M.state W.state L.leaf_of L.levels config whole 0 image.now.bytes.items
         (machine_of core.old files.old) image.now.marked.items cache.old lines.old
         → HaltsInPlay M.state W.state L.leaf_of L.levels config whole result lines.new }
+    ensures spends { (config : Config) (levels costs ways : ℕ) (sets : Sets) → IsCore core.old
+        → StandsAs lines.old.count ways cache.old (over_image image.now sets)
+        → lines.old.clock ≤ config.time + olat_of config.shape.levels
+        → ClockSpent M.state W.state L.levels config levels costs lines.old
+        → HaltsSpent M.state W.state L.levels config levels (costs + length image.now.marked.items) ways 0
+        (machine_of core.old files.old) (over_loaded ways image.now sets) lines.old lines.new result }
 {
     match load(image, cache, lines, base, budget) {
         Ok(()) => {}
@@ -469,6 +508,11 @@ fn finish<M: UntrustedMemory, W: Watch, L: LeafFn>(
         (W.state lines.new.tap.now))
         (λ _. WantsReplayed (keys_in L.leaf_of lines.old) lines.old.oram.now.port.tree.stash
         (W.state lines.new.tap.now)) }
+    ensures spends { (config : Config) (levels costs : ℕ)
+        → CauseSpent M.state W.state L.levels config levels costs halted.instructions halted.cycles halted.cause
+        lines.old
+        → IfOk result (λ (ending, end). EndsSpent config levels
+        (costs + waits levels (W.state lines.new.tap.now).log) halted.instructions halted.cycles ending) }
 {
     match halted.cause {
         Cause::Ends { ending, until } => match lines.idle_until(until) {
@@ -554,6 +598,22 @@ pub(crate) fn drive<M: UntrustedMemory, W: Watch, L: LeafFn>(
         oram.old.port.tree.stash course.ending (W.state bus.new.tap.now))
         (λ _. WantsReplayed (keys_of oram.old.port.tree oram.old.tagger (L.leaf_of oram.old.port.leaves))
         oram.old.port.tree.stash (W.state bus.new.tap.now)) }
+    ensures spends { (ways : ℕ) (sets : Sets) → IsCore core.old
+        → StandsAs oram.old.port.clock.config.shape.lines ways cache.old (over_image image.now sets)
+        → let config = oram.old.port.clock.config in
+        let levels = L.levels oram.old.port.leaves in
+        IsSpent levels 0 (record {
+          oram = oram_over M.state W.state oram.old bus.old.memory.now bus.old.tap.now;
+          clock = 0;
+          fetches = 0;
+        })
+        → IfOk result (λ course. (lines : List (List ℕ))
+        × (answered_lines (W.state bus.new.tap.now).log.events
+        ≡ answered_lines (W.state bus.old.tap.now).log.events ++ lines)
+        × EndsSpent config levels (length image.now.marked.items
+        + fed_cost ways course.instructions (machine_of core.old files.old)
+        (feed_of (over_loaded ways image.now sets) lines)
+        + waits levels (W.state bus.new.tap.now).log) course.instructions course.cycles course.ending) }
 {
     let mut lines = TimedLines::new(bus.memory, bus.tap, oram);
     let halted = play(image, base, budget, core, files, cache, &mut lines);

@@ -43,6 +43,8 @@ use Rattle.secure_machine.specs.Judged.{ShowsEnding, EndsReplayed, WantsReplayed
 use Rattle.secure_machine.specs.declared.report.Ending.{Ending}
 use Rattle.secure_machine.proofs.Replaying.{start_order, start_right}
 use Rattle.secure_machine.proofs.run.Given as given
+use Rattle.secure_machine.specs.Spent.{IsSpentOn}
+use Rattle.secure_machine.proofs.SpentReports.{unprepared_spent}
 use Rattle.secure_machine.proofs.run.Goals as goal
 
 pub returns-in_err-files-clause-pace_err : goal.returns-in_err-files-clause-pace_err
@@ -719,3 +721,16 @@ returns-in-Ok-clause-contents g c =
 pub returns-in-Ok-clause-contents_err : goal.returns-in-Ok-clause-contents_err
 returns-in-Ok-clause-contents_err g c =
     on_err_so _ _ c.run_prepared.result (replayed g c).1 (λ w. inl w.mirror)
+
+pub returns-in-Ok-clause-spent : goal.returns-in-Ok-clause-spent
+returns-in-Ok-clause-spent g c =
+    let log = (g.W.Watch.state c.run_prepared.new.bus.tap.now).log in
+    let input : c.in_ok-files.files.input ≡ c.args.input.now = ap (λ (f : FilesState). f.input) c.in_ok-files.ensures in
+    IfOk-weaker c.run_prepared.result _ _ (λ report spent. subst (λ (l : List ℕ).
+    IsSpentOn c.args.config.now c.args.image.now l report log) input spent) c.run_prepared.ensures.spent
+
+pub returns-in-Err-Device-clause-spent : goal.returns-in-Err-Device-clause-spent
+returns-in-Err-Device-clause-spent g c =
+    let tap = g.W.Watch.state c.args.bus.now.tap.now in
+    unprepared_spent c.args.config.now c.args.image.now c.args.input.now c.unprepared.result tap tap
+    (g.W.Watch.state c.prepare.new.self.tap.now).log (c.unprepared.ensures tap)

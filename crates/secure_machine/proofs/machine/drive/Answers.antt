@@ -1,4 +1,4 @@
-use Rattle.std.proofs.Common.{◌≡◌, ◌++◌, ◌∙◌, inl, inr, sym, ap, subst, arith}
+use Rattle.std.proofs.Common.{◌≡◌, ◌++◌, ◌∙◌, ℕ, ◌+◌, inl, inr, length, refl, sym, ap, subst, arith}
 use Rattle.data_cache.specs.Cached.{StandsAs}
 use Rattle.encrypted_run.specs.Refined.{loaded}
 use Rattle.fed_run.specs.Answered.{feed_of}
@@ -11,6 +11,9 @@ use Rattle.secure_machine.proofs.LineChains.{same_then, halts_replayed}
 use Rattle.secure_machine.proofs.Refining.{keys_same, at_parts, keys_by, forged_first, StandBy}
 use Rattle.play_run.specs.Given.{CallsPlay}
 use Rattle.secure_machine.proofs.Playing.{at_same, begins, halts_config, ended_first}
+use Rattle.play_run.specs.Spent.{fed_cost, waits}
+use Rattle.secure_machine.specs.Spent.{EndsSpent}
+use Rattle.secure_machine.proofs.SpentRuns.{clock_begins}
 use Rattle.secure_machine.proofs.machine.drive.Goals as goal
 
 pub returns-clause-refines : goal.returns-clause-refines
@@ -101,3 +104,32 @@ returns-clause-replays g c =
     c.new-lines.result c.play-halted.new.lines c.args.oram.now c.args.bus.now.memory.now c.args.bus.now.tap.now
     c.new-lines.ensures.memory c.new-lines.ensures.tap c.new-lines.ensures.oram c.play-halted.ensures.halts
     c.in_ok-ending.ensures.replays
+
+pub returns-clause-spends : goal.returns-clause-spends
+returns-clause-spends g c ways sets core stands known =
+    let config = c.args.oram.now.port.clock.config in
+    let levels = g.L.LeafFn.levels c.args.oram.now.port.leaves in
+    let machine = machine_of c.args.core.now c.args.files.now in
+    let started = over_loaded ways c.args.image.now sets in
+    let halted = c.play-halted.result in
+    let log = (g.W.Watch.state c.finish.new.lines.tap.now).log in
+    let begun = clock_begins g.M.UntrustedMemory.state g.W.Watch.state g.L.LeafFn.levels config levels
+    c.new-lines.result c.args.oram.now c.args.bus.now.memory.now c.args.bus.now.tap.now c.new-lines.ensures.memory c.new-lines.ensures.tap
+    c.new-lines.ensures.oram c.new-lines.ensures.clock c.new-lines.ensures.fetches refl refl known in
+    let (lines, k, (more, whole), count, cause) = c.play-halted.ensures.spends config levels 0 ways sets core
+    (subst (λ n. StandsAs n ways c.args.cache.now (over_image c.args.image.now sets)) (sym c.new-lines.ensures.count)
+    stands) (omega (arith, c.new-lines.ensures.clock)) begun in
+    let all : k ≡ halted.instructions = omega (arith, count) in
+    let marked : ℕ = length c.args.image.now.marked.items in
+    let e : 0 + marked + fed_cost ways k machine (feed_of started lines)
+    ≡ marked + fed_cost ways halted.instructions machine (feed_of started lines) =
+    (let none : 0 + marked ≡ marked = omega arith in
+    ap (λ m. m + fed_cost ways k machine (feed_of started lines)) none
+    ∙ ap (λ n. marked + fed_cost ways n machine (feed_of started lines)) all) in (
+      lines,
+      c.finish.ensures.noted ∙ (more
+          ∙ ap (λ w. answered_lines (g.W.Watch.state w).log.events ++ lines) c.new-lines.ensures.tap),
+      subst (λ n. EndsSpent config levels (n + waits levels log) halted.instructions halted.cycles
+          c.in_ok-ending.ending) e
+          (c.in_ok-ending.ensures.spends config levels _ cause),
+    )

@@ -1,4 +1,4 @@
-use Rattle.std.proofs.Common.{ℕ, ◌≡◌, Err, Some, inl, inr, refl, sym, ap, subst, ◌∙◌}
+use Rattle.std.proofs.Common.{ℕ, ◌≡◌, ◌+◌, Ok, Err, Some, inl, inr, refl, sym, ap, subst, ◌∙◌}
 use Rattle.std.proofs.lemmas.Result.{IfOk-weaker}
 use Rattle.asc_base.specs.declared.stop.Stop.{Stop}
 use Rattle.asc_base.specs.declared.stop.Stop.TheVariants.{TimeUp}
@@ -22,6 +22,9 @@ use Rattle.secure_machine.specs.Plays.{CauseInPlay, play_ending}
 use Rattle.secure_machine.proofs.Playing.{wait_in_play, wait_stopped}
 use Rattle.secure_machine.specs.Judged.{CauseReplayed, EndsReplayed}
 use Rattle.secure_machine.proofs.Replaying.{own_replayed, stopped_replayed}
+use Rattle.play_run.proofs.WaitSteps.{wait-same}
+use Rattle.secure_machine.specs.Spent.{CauseSpent, EndsSpent}
+use Rattle.secure_machine.proofs.SpentRuns.{stop_spends, ended_stop_spends}
 use Rattle.secure_machine.proofs.machine.finish.Goals as goal
 
 pub returns-in-Ok-clause-settled : goal.returns-in-Ok-clause-settled
@@ -263,3 +266,46 @@ returns-in-Stops-clause-replays g c calls cause =
     stopped_replayed keys old.port.tree.stash c.in-Stops.stop old.port c.ending_of-in-Stops.result
     c.ending_of-in-Stops.ensures.named c.ending_of-in-Stops.ensures.wanted
     (subst (λ (cause : Cause). CauseReplayed keys old.port.tree.stash cause old) c.in-Stops.is cause)
+
+pub returns-in-Ok-clause-spends : goal.returns-in-Ok-clause-spends
+returns-in-Ok-clause-spends g c config levels costs known =
+    let keys = keys_in g.L.LeafFn.leaf_of c.args.lines.now in
+    let old = (timed_of g.M.UntrustedMemory.state g.W.Watch.state c.args.lines.now).oram in
+    let new = (timed_of g.M.UntrustedMemory.state g.W.Watch.state c.idle_until.new.self).oram in
+    let same = wait-same levels keys (g.L.LeafFn.levels c.args.lines.now.oram.now.port.leaves) c.in-Ends.until old new
+    (Ok _) c.in-Ok.ensures.step in
+    subst (λ n. EndsSpent config levels (costs + n) c.args.halted.instructions c.args.halted.cycles c.in-Ends.ending)
+    (sym same)
+    (subst (λ (cause : Cause). CauseSpent g.M.UntrustedMemory.state g.W.Watch.state g.L.LeafFn.levels config levels
+    costs c.args.halted.instructions c.args.halted.cycles cause c.args.lines.now) c.in-Ends.is known)
+
+pub returns-in-Err-clause-spends : goal.returns-in-Err-clause-spends
+returns-in-Err-clause-spends g c config levels costs known =
+    let width = g.L.LeafFn.levels c.args.lines.now.oram.now.port.leaves in
+    let keys = keys_in g.L.LeafFn.leaf_of c.args.lines.now in
+    let old = (timed_of g.M.UntrustedMemory.state g.W.Watch.state c.args.lines.now).oram in
+    let new = (timed_of g.M.UntrustedMemory.state g.W.Watch.state c.idle_until.new.self).oram in
+    let by = subst (λ (cause : Cause). HaltsBy c.args.budget width c.args.halted.instructions
+    c.args.halted.cycles cause c.requires.halts.0 old) c.in-Ends.is c.requires.halts.1 in
+    let fits : FitKeys keys old.port = record { shape = refl; pads = refl } in
+    let in_time : (at : ℕ) → c.in-Err.stop ≡ TimeUp at → ⊥ = λ at is.
+    wait_in_time keys width old new fits by.1 c.in-Ends.until at
+    (subst (λ (s : Stop). OramStep keys width old (Wait c.in-Ends.until) (Err s) new) is c.in-Err.ensures.step) in
+    let same = wait-same levels keys width c.in-Ends.until old new (Err c.in-Err.stop) c.in-Err.ensures.step in
+    let spent = subst (λ n. EndsSpent config levels (costs + n) c.args.halted.instructions c.args.halted.cycles
+    c.in-Ends.ending) (sym same)
+    (subst (λ (cause : Cause). CauseSpent g.M.UntrustedMemory.state g.W.Watch.state g.L.LeafFn.levels config levels
+    costs c.args.halted.instructions c.args.halted.cycles cause c.args.lines.now) c.in-Ends.is known) in
+    IfOk-weaker c.ending_of.result _ _ (λ (ending, end) named.
+    ended_stop_spends config levels _ c.args.halted.instructions c.args.halted.cycles c.in-Ends.ending ending
+    c.in-Err.stop in_time named spent) c.ending_of.ensures.named
+
+pub returns-in-Stops-clause-spends : goal.returns-in-Stops-clause-spends
+returns-in-Stops-clause-spends g c config levels costs known =
+    let old = (timed_of g.M.UntrustedMemory.state g.W.Watch.state c.args.lines.now).oram in
+    let (spent, late) = subst (λ (cause : Cause). CauseSpent g.M.UntrustedMemory.state g.W.Watch.state
+    g.L.LeafFn.levels config levels costs c.args.halted.instructions c.args.halted.cycles cause c.args.lines.now)
+    c.in-Stops.is known in
+    IfOk-weaker c.ending_of-in-Stops.result _ _ (λ (ending, end) named.
+    stop_spends config levels costs c.args.halted.instructions c.args.halted.cycles c.in-Stops.stop ending old.port
+    named spent late) c.ending_of-in-Stops.ensures.named

@@ -1,4 +1,4 @@
-use Rattle.std.proofs.Common.{◌+◌, ◌∙◌, inl, inr, min, refl, sym, ap, subst, arith}
+use Rattle.std.proofs.Common.{◌<◌, ◌+◌, ◌∙◌, inl, inr, min, refl, sym, ap, subst, arith}
 use Rattle.asc_base.specs.declared.settings.Config.{Config}
 use Rattle.rv32_core.specs.FlatMachine.{FlatStep}
 use Rattle.rv32_core.specs.StepPlan.{machine_of}
@@ -12,6 +12,8 @@ use Rattle.secure_machine.specs.Fed.{HaltsFed}
 use Rattle.secure_machine.proofs.FedChains.{exit_halts, trap_halts, stop_halts, time_halts}
 use Rattle.secure_machine.specs.Plays.{HaltsInPlay}
 use Rattle.secure_machine.proofs.Playing.{no_time_left, went_on, exited, trapped}
+use Rattle.secure_machine.specs.Spent.{HaltsSpent}
+use Rattle.secure_machine.proofs.SpentRuns.{exit_spends, trap_spends, stopped_spends, stops_later, time_spends}
 use Rattle.secure_machine.proofs.machine.instruction.Goals as goal
 
 pub returns-in-No-clause-refines : goal.returns-in-No-clause-refines
@@ -192,3 +194,63 @@ returns-in-Trap-clause-plays g c config whole left lawful calls is_config core k
     (c.time-time.ensures ∙ sym same)
     (c.in-Ok.ensures.plays config whole c.args.before left lawful calls is_config core
     (omega (arith, c.if-start-time.false, c.time-time.ensures)) known))
+
+pub returns-then-start-time-clause-spends : goal.returns-then-start-time-clause-spends
+returns-then-start-time-clause-spends g c config levels costs ways lists core stands known =
+    let machine = machine_of c.args.core.now c.args.files.now in
+    subst (HaltsSpent g.M.UntrustedMemory.state g.W.Watch.state g.L.LeafFn.levels config levels costs ways c.args.before
+    machine lists c.args.lines.now c.args.lines.now) (sym c.ended.ensures)
+    (time_spends g.M.UntrustedMemory.state g.W.Watch.state g.L.LeafFn.levels config levels costs ways c.args.before
+    c.time-time.result machine lists c.args.lines.now known)
+
+pub returns-in-Err-clause-spends : goal.returns-in-Err-clause-spends
+returns-in-Err-clause-spends g c config levels costs ways lists core stands known =
+    let machine = machine_of c.args.core.now c.args.files.now in
+    let early : c.args.lines.now.clock < config.time =
+    omega (arith, c.if-start-time.false, c.time-time.ensures, ap (λ (c : Config). c.time) known.config_is) in
+    subst (HaltsSpent g.M.UntrustedMemory.state g.W.Watch.state g.L.LeafFn.levels config levels costs ways c.args.before
+    machine lists c.args.lines.now c.step.new.lines) (sym c.stopped.ensures)
+    (stopped_spends g.M.UntrustedMemory.state g.W.Watch.state g.L.LeafFn.levels config levels costs ways c.args.before
+    c.args.lines.now.clock c.in-Err.stop machine lists c.args.lines.now c.step.new.lines
+    (c.in-Err.ensures.fed ways lists core stands).0
+    (c.in-Err.ensures.spends config levels costs ways lists core stands early known)
+    (λ at is some. stops_later g.M.UntrustedMemory.state g.W.Watch.state g.L.LeafFn.levels config levels
+    g.L.LeafFn.leaf_of c.args.lines.now.clock c.in-Err.stop c.args.lines.now c.step.new.lines known.config_is early
+    c.in-Err.ensures.breaks at is))
+
+pub returns-in-No-clause-spends : goal.returns-in-No-clause-spends
+returns-in-No-clause-spends g c config levels costs ways lists core stands known =
+    let early : c.args.lines.now.clock < config.time =
+    omega (arith, c.if-start-time.false, c.time-time.ensures, ap (λ (c : Config). c.time) known.config_is) in (
+      c.in-Ok.done,
+      c.in-No.is,
+      c.in-Ok.ensures.fed ways lists core stands,
+      (c.in-Ok.ensures.spends config levels costs ways lists core stands early known).0,
+    )
+
+pub returns-in-Exit-clause-spends : goal.returns-in-Exit-clause-spends
+returns-in-Exit-clause-spends g c config levels costs ways lists core stands known =
+    let machine = machine_of c.args.core.now c.args.files.now in
+    let next = machine_of c.step.new.core c.step.new.files in
+    let early : c.args.lines.now.clock < config.time =
+    omega (arith, c.if-start-time.false, c.time-time.ensures, ap (λ (c : Config). c.time) known.config_is) in
+    let (spent, onward) = c.in-Ok.ensures.spends config levels costs ways lists core stands early known in
+    subst (HaltsSpent g.M.UntrustedMemory.state g.W.Watch.state g.L.LeafFn.levels config levels costs ways c.args.before
+    machine lists c.args.lines.now c.step.new.lines) (sym c.ended-in-Exit.ensures)
+    (exit_spends g.M.UntrustedMemory.state g.W.Watch.state g.L.LeafFn.levels config levels costs ways c.args.before
+    c.in-Exit.status c.min.result machine next lists c.args.lines.now c.step.new.lines c.step.new.cache c.in-Ok.done
+    c.in-Exit.is (c.in-Ok.ensures.fed ways lists core stands) spent)
+
+pub returns-in-Trap-clause-spends : goal.returns-in-Trap-clause-spends
+returns-in-Trap-clause-spends g c config levels costs ways lists core stands known =
+    let start = c.args.lines.now.clock in
+    let machine = machine_of c.args.core.now c.args.files.now in
+    let next = machine_of c.step.new.core c.step.new.files in
+    let early : c.args.lines.now.clock < config.time =
+    omega (arith, c.if-start-time.false, c.time-time.ensures, ap (λ (c : Config). c.time) known.config_is) in
+    let (spent, onward) = c.in-Ok.ensures.spends config levels costs ways lists core stands early known in
+    subst (HaltsSpent g.M.UntrustedMemory.state g.W.Watch.state g.L.LeafFn.levels config levels costs ways c.args.before
+    machine lists c.args.lines.now c.step.new.lines) (sym c.ended-in-Trap.ensures)
+    (trap_spends g.M.UntrustedMemory.state g.W.Watch.state g.L.LeafFn.levels config levels costs ways c.args.before
+    c.in-Trap.pc start c.in-Trap.kind machine next lists c.args.lines.now c.step.new.lines c.step.new.cache
+    c.in-Ok.done (c.in-Ok.ensures.fed ways lists core stands) spent onward)

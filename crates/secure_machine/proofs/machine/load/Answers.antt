@@ -1,4 +1,4 @@
-use Rattle.std.proofs.Common.{ℕ, List, [], ◌∙◌, refl, sym, subst, arith, take, ◌+◌, ◌<◌, drop, length}
+use Rattle.std.proofs.Common.{◌≡◌, ℕ, List, [], ◌∙◌, refl, sym, subst, arith, take, ◌+◌, ◌<◌, drop, length}
 use Rattle.std.proofs.lemmas.List.{take_all}
 use Rattle.data_cache.specs.Cached.{StandsAs}
 use Rattle.data_cache.specs.CacheLists.{Sets}
@@ -20,6 +20,9 @@ use Rattle.asc_base.specs.TreeShape.{olat_of}
 use Rattle.play_run.specs.Given.{CallsPlay}
 use Rattle.secure_machine.specs.Plays.{HaltsInPlay}
 use Rattle.secure_machine.proofs.Playing.{at_same, image_first, image_next, image_stops, image_all}
+use Rattle.secure_machine.specs.Spent.{ClockSpent, CauseSpent}
+use Rattle.secure_machine.proofs.SpentChains.{image_limit}
+use Rattle.secure_machine.proofs.SpentRuns.{line_stop_spends}
 use Rattle.secure_machine.proofs.machine.load.Goals as goal
 
 pub returns-in-Err-clause-halts : goal.returns-in-Err-clause-halts
@@ -75,6 +78,22 @@ loop-at-preserved g c = record {
       (at_same g.M.UntrustedMemory.state g.W.Watch.state g.L.LeafFn.leaf_of g.L.LeafFn.levels
       (λ z n. CallsPlay z n config) lines c.loop-at.lines same calls))
       (c.loop-at.invariant.plays config whole machine lawful calls is_config known);
+  spends = λ config levels costs low known.
+      let marked = c.args.image.now.marked.items in
+      let (spent, most) = c.loop-at.invariant.spends config levels costs low known in
+      let below : c.loop-at.at < length marked = omega (arith, c.loop-at-test.true, c.len-at-end.ensures) in
+      let limit : ℕ = config.time + olat_of config.shape.levels + c.loop-at.at in
+      let (more, bound) = c.in-Ok.ensures.spends config levels (costs + c.loop-at.at) limit (omega arith)
+      (image_limit g.M.UntrustedMemory.state g.W.Watch.state g.L.LeafFn.leaf_of g.L.LeafFn.levels config
+      levels (costs + c.loop-at.at) c.loop-at.at c.index.result.now marked c.loop-at.lines below c.index.ensures
+      c.requires.image.marked_rise
+      (omega (arith, c.requires.image.marked_below c.loop-at.at 0 below, c.loop-at.invariant.onwards.same.count))
+      c.loop-at.invariant.onwards.ready spent) most spent in (
+        subst (λ n. ClockSpent g.M.UntrustedMemory.state g.W.Watch.state g.L.LeafFn.levels config levels n
+            c.load_line.new.lines)
+            (let e : costs + c.loop-at.at + 1 ≡ costs + (c.loop-at.at + 1) = omega arith in e) more,
+        omega (arith, bound),
+      );
 }
 
 pub returns-clause-refines : goal.returns-clause-refines
@@ -132,6 +151,11 @@ loop-at-init g c = record {
       image_first g.M.UntrustedMemory.state g.W.Watch.state g.L.LeafFn.leaf_of g.L.LeafFn.levels config whole 0
       (config.time + olat_of config.shape.levels + 0) c.args.image.now.bytes.items machine
       c.args.image.now.marked.items c.args.cache.now c.args.lines.now (omega arith) known;
+  spends = λ config levels costs low known. (
+    subst (λ n. ClockSpent g.M.UntrustedMemory.state g.W.Watch.state g.L.LeafFn.levels config levels n c.args.lines.now)
+        (let e : costs ≡ costs + 0 = omega arith in e) known,
+    omega (arith, low),
+  );
 }
 
 pub returns-in-Err-clause-plays : goal.returns-in-Err-clause-plays
@@ -162,3 +186,32 @@ returns-clause-plays g c config whole machine lawful calls is_config known =
     c.args.image.now.marked.items c.loop-at.cache c.loop-at.lines
     (omega (arith, c.loop-at-test.false, c.loop-at.auto.at-end, c.len-at-end.ensures))
     (c.loop-at.invariant.plays config whole machine lawful calls is_config known)
+
+pub returns-in-Err-clause-spends : goal.returns-in-Err-clause-spends
+returns-in-Err-clause-spends g c config levels costs low known =
+    let marked = c.args.image.now.marked.items in
+    let (spent, most) = c.loop-at.invariant.spends config levels costs low known in
+    let below : c.loop-at.at < length marked = omega (arith, c.loop-at-test.true, c.len-at-end.ensures) in
+    let limit : ℕ = config.time + olat_of config.shape.levels + c.loop-at.at in
+    let stopped = c.in-Err.ensures.spends config levels (costs + c.loop-at.at) limit (omega arith)
+    (image_limit g.M.UntrustedMemory.state g.W.Watch.state g.L.LeafFn.leaf_of g.L.LeafFn.levels config levels
+    (costs + c.loop-at.at) c.loop-at.at c.index.result.now marked c.loop-at.lines below c.index.ensures
+    c.requires.image.marked_rise
+    (omega (arith, c.requires.image.marked_below c.loop-at.at 0 below, c.loop-at.invariant.onwards.same.count))
+    c.loop-at.invariant.onwards.ready spent) most spent in
+    subst (λ (h : Halted). (h.instructions ≡ 0) × CauseSpent g.M.UntrustedMemory.state g.W.Watch.state g.L.LeafFn.levels
+    config levels (costs + length marked) h.instructions h.cycles h.cause c.load_line.new.lines)
+    (sym c.stopped.ensures) (
+      refl,
+      line_stop_spends g.M.UntrustedMemory.state g.W.Watch.state g.L.LeafFn.levels config levels (costs + c.loop-at.at)
+          (costs + length marked) c.loop-at.lines.clock c.in-Err.stop c.load_line.new.lines (omega (arith, below))
+          stopped,
+    )
+
+pub returns-clause-spends : goal.returns-clause-spends
+returns-clause-spends g c config levels costs low known =
+    let marked = c.args.image.now.marked.items in
+    let all : c.loop-at.at ≡ length marked =
+    omega (arith, c.loop-at-test.false, c.loop-at.auto.at-end, c.len-at-end.ensures) in
+    subst (λ n. ClockSpent g.M.UntrustedMemory.state g.W.Watch.state g.L.LeafFn.levels config levels (costs + n)
+    c.loop-at.lines) all (c.loop-at.invariant.spends config levels costs low known).0

@@ -1,4 +1,4 @@
-use Rattle.std.proofs.Common.{◌≡◌, ℕ, List, take, drop, ◌+◌}
+use Rattle.std.proofs.Common.{◌≡◌, ◌≤◌, ℕ, List, take, drop, ◌+◌}
 use Rattle.data_cache.specs.Cached.{StandsAs}
 use Rattle.data_cache.specs.CacheLists.{Sets}
 use Rattle.fed_run.specs.Fed.{sets_along}
@@ -16,6 +16,7 @@ use Rattle.secure_machine.specs.Refines.{Knows}
 use Rattle.secure_machine.specs.Same.{keys_in}
 use Rattle.data_cache.specs.Contents.{CacheBelow}
 use Rattle.secure_machine.specs.Runs.{Onwards}
+use Rattle.secure_machine.specs.Spent.{ClockSpent}
 use Rattle.secure_machine.proofs.machine.load.Given as goal
 
 -- so many lines are written
@@ -40,4 +41,8 @@ invariant-loop-at g l = record {
       → InImage g.M.UntrustedMemory.state g.W.Watch.state g.L.LeafFn.leaf_of g.L.LeafFn.levels config whole
       (config.time + olat_of config.shape.levels + l.at) l.fn.image.bytes.items machine
       (drop l.at l.fn.image.marked.items) l.cache l.lines;
+  spends : (config : Config) (levels costs : ℕ) → l.fn.lines.clock ≤ config.time + olat_of config.shape.levels
+      → ClockSpent g.M.UntrustedMemory.state g.W.Watch.state g.L.LeafFn.levels config levels costs l.fn.lines
+      → ClockSpent g.M.UntrustedMemory.state g.W.Watch.state g.L.LeafFn.levels config levels (costs + l.at) l.lines
+      × (l.lines.clock ≤ config.time + olat_of config.shape.levels + l.at);
 }

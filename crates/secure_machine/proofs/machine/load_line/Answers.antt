@@ -12,6 +12,7 @@ use Rattle.secure_machine.specs.Answered.{answered_lines}
 use Rattle.secure_machine.specs.Fed.{over_image}
 use Rattle.secure_machine.proofs.FedChains.{line_fed, line_fed_stop}
 use Rattle.secure_machine.proofs.Playing.{line_in_play, line_stopped}
+use Rattle.secure_machine.proofs.SpentChains.{chain_spends, chain_stop_spent}
 use Rattle.secure_machine.proofs.machine.load_line.Goals as goal
 
 pub returns-in-Err-clause-breaks : goal.returns-in-Err-clause-breaks
@@ -96,3 +97,24 @@ returns-clause-plays g c config whole machine marked limit lawful calls far smal
       fetches = c.spend.ensures.fetches;
       clock = c.spend.ensures.spent;
     })
+
+pub returns-in-Err-clause-spends : goal.returns-in-Err-clause-spends
+returns-in-Err-clause-spends g c config levels costs limit far small low known =
+    chain_stop_spent g.M.UntrustedMemory.state g.W.Watch.state g.L.LeafFn.leaf_of g.L.LeafFn.levels config levels
+    costs (write_line_plan c.args.cache.now c.args.line c.line_of.result) c.args.lines.now c.write_line.new.store
+    c.in-Err.stop c.write_line.new.self c.requires.ready known c.in-Err.ensures.err
+
+pub returns-clause-spends : goal.returns-clause-spends
+returns-clause-spends g c config levels costs limit far small low known =
+    let (spent, onward, bound) = chain_spends g.M.UntrustedMemory.state g.W.Watch.state g.L.LeafFn.leaf_of
+    g.L.LeafFn.levels config levels costs (write_line_plan c.args.cache.now c.args.line c.line_of.result) limit 1
+    c.args.lines.now c.write_line.new.store c.spend.new.self c.write_line.new.self c.requires.ready low far small known
+    c.in-Ok.ensures.ok (record {
+      same = c.spend.ensures.same;
+      memory = c.spend.ensures.memory;
+      tap = c.spend.ensures.tap;
+      oram = c.spend.ensures.oram;
+      fetches = c.spend.ensures.fetches;
+      clock = c.spend.ensures.spent;
+    }) in
+    (spent, bound)

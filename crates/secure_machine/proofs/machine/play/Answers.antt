@@ -1,4 +1,4 @@
-use Rattle.std.proofs.Common.{◌≡◌, ◌∙◌, ◌*◌, inl, inr, min, refl, sym, ap, subst, arith, ℕ, suc, ◌+◌, ◌-◌}
+use Rattle.std.proofs.Common.{◌≡◌, ◌∙◌, ◌*◌, inl, inr, min, refl, sym, ap, subst, arith, ℕ, suc, ◌+◌, ◌-◌, length}
 use Rattle.asc_base.specs.declared.settings.Config.{Config}
 use Rattle.encrypted_run.specs.Refined.{loaded}
 use Rattle.oram_contents.specs.Entries.{AreKeys}
@@ -17,6 +17,8 @@ use Rattle.secure_machine.proofs.FedChains.{fed_none, fed_more, fed_halts, load_
 use Rattle.play_run.specs.Given.{CallsPlay}
 use Rattle.secure_machine.specs.Plays.{HaltsInPlay, CauseInPlay, InRun}
 use Rattle.secure_machine.proofs.Playing.{at_same, none_left}
+use Rattle.secure_machine.specs.Spent.{HaltsSpent}
+use Rattle.secure_machine.proofs.SpentRuns.{spent_none, spent_more, spent_halts, load_spends, budget_spends}
 use Rattle.secure_machine.proofs.machine.play.Goals as goal
 
 pub returns-in-Err-instruction : goal.returns-in-Err-instruction
@@ -69,6 +71,15 @@ returns-in-Err-instruction g c =
           c.in-Err-instruction.ensures.plays config whole left lawful_now calls_now is_config
           (c.loop-before.invariant.core core)
           (c.loop-before.invariant.plays config whole (suc left) lawful calls is_config core budget known sum);
+      spends = λ config levels costs ways sets core stands low known.
+          let all : ℕ = costs + length c.args.image.now.marked.items in
+          let first = c.loop-before.invariant.spends config levels costs ways sets core stands low known in
+          spent_halts g.M.UntrustedMemory.state g.W.Watch.state g.L.LeafFn.levels config levels all ways
+          c.loop-before.before machine (machine_of c.loop-before.core c.loop-before.files)
+          (over_loaded ways c.args.image.now sets) c.args.lines.now c.loop-before.lines c.instruction.new.lines
+          c.loop-before.cache c.in-Err-instruction.halted first
+          (c.in-Err-instruction.ensures.spends config levels (all + first.total) ways first.now
+          (c.loop-before.invariant.core core) first.stands first.spent);
     }
 
 pub loop-before-preserved : goal.loop-before-preserved
@@ -119,6 +130,16 @@ loop-before-preserved g c =
           c.in-Ok-instruction.ensures.plays config whole left lawful_now calls_now is_config
           (c.loop-before.invariant.core core)
           (c.loop-before.invariant.plays config whole (suc left) lawful calls is_config core budget known before);
+      spends = λ config levels costs ways sets core stands low known.
+          let all : ℕ = costs + length c.args.image.now.marked.items in
+          let first = c.loop-before.invariant.spends config levels costs ways sets core stands low known in
+          let (done, going, step, spent) = c.in-Ok-instruction.ensures.spends config levels (all + first.total) ways
+          first.now (c.loop-before.invariant.core core) first.stands first.spent in
+          spent_more g.M.UntrustedMemory.state g.W.Watch.state g.L.LeafFn.levels config levels all ways
+          c.loop-before.before machine (machine_of c.loop-before.core c.loop-before.files)
+          (machine_of c.instruction.new.core c.instruction.new.files) (over_loaded ways c.args.image.now sets)
+          c.args.lines.now c.loop-before.lines c.instruction.new.lines c.loop-before.cache c.instruction.new.cache done
+          going first step spent;
     }
 
 pub returns-in-Err-clause-refines : goal.returns-in-Err-clause-refines
@@ -154,6 +175,12 @@ loop-before-init g c =
           0 n
           machine c.load.new.cache c.load.new.lines) e
           (c.in-Ok.ensures.plays config whole machine lawful calls is_config known);
+      spends = λ config levels costs ways sets core stands low known.
+          let (none, standing) = c.in-Ok.ensures.fed ways sets stands in
+          spent_none g.M.UntrustedMemory.state g.W.Watch.state g.L.LeafFn.levels config levels
+          (costs + length c.args.image.now.marked.items) ways machine (over_loaded ways c.args.image.now sets)
+          c.args.lines.now c.load.new.lines c.load.new.cache none standing
+          (c.in-Ok.ensures.spends config levels costs low known);
     }
 
 pub returns-clause-halts : goal.returns-clause-halts
@@ -241,3 +268,32 @@ returns-clause-plays g c config whole lawful calls is_config core budget known =
     (none_left g.M.UntrustedMemory.state g.W.Watch.state g.L.LeafFn.leaf_of g.L.LeafFn.levels config whole
     c.loop-before.before next c.loop-before.cache c.loop-before.lines c.min.result c.time.result c.time.ensures
     c.min.ensures (c.loop-before.invariant.plays config whole 0 lawful calls is_config core budget known sum)))
+
+pub returns-in-Err-clause-spends : goal.returns-in-Err-clause-spends
+returns-in-Err-clause-spends g c config levels costs ways sets core stands low known =
+    let (none, fed) = c.in-Err.ensures.fed ways sets stands in
+    let (first, cause) = c.in-Err.ensures.spends config levels costs low known in
+    load_spends g.M.UntrustedMemory.state g.W.Watch.state g.L.LeafFn.levels config levels
+    (costs + length c.args.image.now.marked.items) ways (machine_of c.args.core.now c.args.files.now)
+    (over_loaded ways c.args.image.now sets) c.args.lines.now c.load.new.lines c.in-Err.halted none first cause
+
+pub returns-clause-spends : goal.returns-clause-spends
+returns-clause-spends g c config levels costs ways sets core stands low known =
+    let next = machine_of c.loop-before.core c.loop-before.files in
+    let all : ℕ = costs + length c.args.image.now.marked.items in
+    let first = c.loop-before.invariant.spends config levels costs ways sets core stands low known in
+    let done : c.loop-before.before ≡ c.args.budget
+    = omega (arith, c.loop-before-test.false, c.loop-before.auto.before-end) in
+    spent_halts g.M.UntrustedMemory.state g.W.Watch.state g.L.LeafFn.levels config levels all ways c.loop-before.before
+    (machine_of c.args.core.now c.args.files.now) next (over_loaded ways c.args.image.now sets) c.args.lines.now
+    c.loop-before.lines c.loop-before.lines c.loop-before.cache c.ended.result first
+    (subst (HaltsSpent g.M.UntrustedMemory.state g.W.Watch.state g.L.LeafFn.levels config levels (all + first.total)
+    ways c.loop-before.before next first.now c.loop-before.lines c.loop-before.lines) (sym c.ended.ensures)
+    (subst (λ n. HaltsSpent g.M.UntrustedMemory.state g.W.Watch.state g.L.LeafFn.levels config levels
+    (all + first.total) ways c.loop-before.before next first.now c.loop-before.lines c.loop-before.lines (record {
+      instructions = n;
+      cycles = c.loop-before.lines.clock;
+      cause = Ends Budget c.min.result;
+    })) done
+    (budget_spends g.M.UntrustedMemory.state g.W.Watch.state g.L.LeafFn.levels config levels (all + first.total) ways
+    c.loop-before.before c.min.result next first.now c.loop-before.lines first.spent)))

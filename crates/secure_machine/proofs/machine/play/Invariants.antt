@@ -1,7 +1,8 @@
-use Rattle.std.proofs.Common.{◌≡◌, ◌*◌, ◌⊎◌, ℕ, List, ◌+◌}
+use Rattle.std.proofs.Common.{◌≡◌, ◌≤◌, ◌*◌, ◌⊎◌, ℕ, List, ◌+◌, length}
 use Rattle.data_cache.specs.Cached.{StandsAs}
 use Rattle.data_cache.specs.CacheLists.{Sets}
 use Rattle.asc_base.specs.Settings.{IsConfig}
+use Rattle.asc_base.specs.TreeShape.{olat_of}
 use Rattle.asc_base.specs.declared.settings.Config.{Config}
 use Rattle.data_cache.specs.Contents.{CacheBelow}
 use Rattle.encrypted_run.specs.Refined.{loaded}
@@ -16,6 +17,8 @@ use Rattle.secure_machine.specs.Runs.{Onwards}
 use Rattle.secure_machine.specs.Same.{keys_in}
 use Rattle.secure_machine.proofs.FedChains.{FedSoFar}
 use Rattle.secure_machine.proofs.FlatLaws.{Reaches}
+use Rattle.secure_machine.specs.Spent.{ClockSpent}
+use Rattle.secure_machine.proofs.SpentRuns.{SpentSoFar}
 use Rattle.secure_machine.proofs.machine.play.Given as goal
 
 -- so many instructions are finished
@@ -45,4 +48,11 @@ invariant-loop-before g l = record {
       → l.before + left ≡ l.fn.budget
       → InRun g.M.UntrustedMemory.state g.W.Watch.state g.L.LeafFn.leaf_of g.L.LeafFn.levels config whole l.before left
       (machine_of l.core l.files) l.cache l.lines;
+  spends : (config : Config) (levels costs ways : ℕ) (sets : Sets) → IsCore l.fn.core
+      → StandsAs l.fn.lines.count ways l.fn.cache (over_image l.fn.image sets)
+      → l.fn.lines.clock ≤ config.time + olat_of config.shape.levels
+      → ClockSpent g.M.UntrustedMemory.state g.W.Watch.state g.L.LeafFn.levels config levels costs l.fn.lines
+      → SpentSoFar g.M.UntrustedMemory.state g.W.Watch.state g.L.LeafFn.levels config levels
+      (costs + length l.fn.image.marked.items) ways l.before (machine_of l.fn.core l.fn.files)
+      (over_loaded ways l.fn.image sets) l.fn.lines l.lines l.cache (machine_of l.core l.files);
 }

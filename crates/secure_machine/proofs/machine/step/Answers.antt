@@ -10,6 +10,7 @@ use Rattle.data_cache.specs.Cached.{cache_access}
 use Rattle.secure_machine.proofs.LineChains.{LinesStep, chain_goes, chain_breaks, spent_on}
 use Rattle.secure_machine.proofs.FedChains.{instruction_fed, instruction_starved, spent_fed}
 use Rattle.secure_machine.proofs.Playing.{instruction_in_play, instruction_stopped}
+use Rattle.secure_machine.proofs.SpentChains.{chain_stop_spent, instruction_spends}
 use Rattle.secure_machine.proofs.machine.step.Goals as goal
 
 pub returns-in-Err-clause-breaks : goal.returns-in-Err-clause-breaks
@@ -128,6 +129,29 @@ returns-clause-plays g c config whole before left lawful calls is_config core ea
     (machine_of c.step_cached.new.core c.step_cached.new.files, c.in-Ok.done) c.args.lines.now
     c.step_cached.new.store c.spend.new.self lawful calls is_config c.requires.ready core c.requires.size early known
     c.in-Ok.ensures.ok (record {
+      same = c.spend.ensures.same;
+      memory = c.spend.ensures.memory;
+      tap = c.spend.ensures.tap;
+      oram = c.spend.ensures.oram;
+      fetches = c.spend.ensures.fetches;
+      clock = c.spend.ensures.spent;
+    })
+
+pub returns-in-Err-clause-spends : goal.returns-in-Err-clause-spends
+returns-in-Err-clause-spends g c config levels costs ways lists core stands early known =
+    chain_stop_spent g.M.UntrustedMemory.state g.W.Watch.state g.L.LeafFn.leaf_of g.L.LeafFn.levels config levels
+    costs (through (cache_access c.args.core.now.base) (step_plan (machine_of c.args.core.now c.args.files.now))
+    c.args.cache.now) c.args.lines.now c.step_cached.new.store c.in-Err.stop
+    (c.step_cached.new.cache, machine_of c.step_cached.new.core c.step_cached.new.files) c.requires.ready known
+    c.in-Err.ensures.err
+
+pub returns-clause-spends : goal.returns-clause-spends
+returns-clause-spends g c config levels costs ways lists core stands early known =
+    instruction_spends g.M.UntrustedMemory.state g.W.Watch.state g.L.LeafFn.leaf_of g.L.LeafFn.levels config
+    levels costs ways (machine_of c.args.core.now c.args.files.now) c.args.lines.now c.step_cached.new.store
+    c.spend.new.self c.args.cache.now c.step_cached.new.cache lists
+    (machine_of c.step_cached.new.core c.step_cached.new.files, c.in-Ok.done) c.requires.ready core c.requires.size
+    stands early known c.in-Ok.ensures.ok (record {
       same = c.spend.ensures.same;
       memory = c.spend.ensures.memory;
       tap = c.spend.ensures.tap;
