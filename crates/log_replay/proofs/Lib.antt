@@ -20,3 +20,7 @@ pub mod FrontAsks
 pub mod Along
 pub mod AlongStops
 pub mod Requests
+pub mod FirstReads
+pub mod SlotSplits
+pub mod OrderRows
+pub mod VerdictRows

@@ -8,5 +8,7 @@
 #![tactic(auto)]
 
 mod laws;
+mod rows;
 
 pub use laws::logs_say_all;
+pub use rows::{logs_have_rows, verdicts_have_rows};
