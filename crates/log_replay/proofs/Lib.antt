@@ -24,3 +24,4 @@ pub mod FirstReads
 pub mod SlotSplits
 pub mod OrderRows
 pub mod VerdictRows
+pub mod AlteredRows

@@ -17,7 +17,8 @@ use Rattle.oram_contents.specs.Slots.{drawn_events}
 use Rattle.oram_contents.specs.Starts.{empty_log}
 use Rattle.oram_contents.specs.Verdict.{is_first, judged, put_events, IsOfPoint}
 use Rattle.posmap_counters.specs.Counters.{first_counter}
-use Rattle.log_replay.specs.Order.{Behind, Nothing, Appends, Answers, SlotNotes, chosen_events, behind_events, events_of}
+use Rattle.log_replay.specs.Order.{Behind, Nothing, Appends, Answers, SlotNotes, chosen_events, behind_events}
+use Rattle.log_replay.specs.Order.{events_of, accepted_events, IsTaken}
 use Rattle.log_replay.specs.Order.{IsNextPoint, MayStand, IsDone, AreInOrder, LogOrder}
 use Rattle.log_replay.specs.Rows.{log_of, dummy_events, block_events, fetched, displaced}
 use Rattle.log_replay.proofs.FirstReads.{read_empty}
@@ -173,6 +174,30 @@ module _ (keys : Keys) where
       let x = first_slot keys (log_of (drawn_events keys 256 (Some 0) (Dummy 0))) 256 (Some 0) (Dummy 0)
       (record { 0 = keys.leaf_of (Dummy 0) }) [] [] tt tt o refl in
       let bad : (let o : Option ℕ = Some 0 in o ≡ None) = x.next.1 in cc
+
+  pub tagged_dummy : (m : Message) → LogOrder keys (log_of (drawn_events keys 256 None (Dummy 0) ++ Tagged m ∷ [])) → ⊥
+  tagged_dummy m o =
+      let x = first_slot keys (log_of (drawn_events keys 256 None (Dummy 0) ++ Tagged m ∷ [])) 256 None (Dummy 0)
+      (record { 0 = keys.leaf_of (Dummy 0) }) (Tagged m ∷ []) [] (tt, tt) tt o refl in
+      let notes : put_events x.s.put ++ (chosen_events x.s.chosen ++ behind_events x.s.behind) ≡ Tagged m ∷ [] =
+      subst (λ (q : Point). accepted_events q x.s.found ++ (put_events x.s.put ++ (chosen_events x.s.chosen
+      ++ behind_events x.s.behind)) ≡ Tagged m ∷ []) x.point_is x.tail_is in
+      elim x.done [
+        | inl d ↦ by_notes x.s.put x.s.chosen x.s.behind notes
+            (subst (λ (q : Point). IsTaken keys d.joined q x.s) x.point_is d.taken).1
+            (subst (λ (q : Point). IsOfPoint x.s.put q) x.point_is d.put)
+        | inr b ↦ by_notes x.s.put x.s.chosen x.s.behind notes b.0.behind
+            (subst (λ put. IsOfPoint put (Dummy 0)) (sym b.0.put) tt)
+      ]
+    where
+      by_notes : (put : Option Message) (chosen : Option ℕ) (behind : Behind)
+          → put_events put ++ (chosen_events chosen ++ behind_events behind) ≡ Tagged m ∷ [] → behind ≡ Nothing
+          → IsOfPoint put (Dummy 0) → ⊥
+      by_notes (Some k) chosen behind is bare own = own
+      by_notes None (Some index) behind is bare own = cc
+      by_notes None None Nothing is bare own = cc
+      by_notes None None (Appends k) is bare own = cc
+      by_notes None None (Answers line value) is bare own = cc
 
   pub unasked_block : (a : ℕ) (c : Counter) → LogOrder keys (log_of (drawn_events keys 256 None (real a c))) → ⊥
   unasked_block a c o =

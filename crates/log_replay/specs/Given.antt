@@ -1,5 +1,5 @@
--- What one call of an encrypted memory does to what its log says: where it is answered, the memory is still what the log
--- says, and a stop is one that the log shows.
+-- What one call of an encrypted memory does to what its log says: where it is answered, the memory is still what the
+-- log says, and a stop is one that the log shows.
 use Rattle.std.specs.Prelude.{◌≡◌, ℕ, None, Ok, Err}
 use Rattle.asc_base.specs.declared.stop.Stop.{Stop}
 use Rattle.oram_contents.specs.Entries.{Keys}

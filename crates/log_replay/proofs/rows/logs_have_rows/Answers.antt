@@ -1,5 +1,6 @@
 use Rattle.log_replay.proofs.OrderRows.{none, dummy, first, appended, bare, second, no_slot, no_point, other_number}
-use Rattle.log_replay.proofs.OrderRows.{same_number, asked_dummy, unasked_block, other_leaf, accepted, other_line}
+use Rattle.log_replay.proofs.OrderRows.{same_number, asked_dummy, tagged_dummy, unasked_block, other_leaf, accepted}
+use Rattle.log_replay.proofs.OrderRows.{other_line}
 use Rattle.log_replay.proofs.OrderRows.{other_value, other_block, own_block, unread}
 use Rattle.log_replay.proofs.rows.logs_have_rows.Goals as goal
 
@@ -16,6 +17,7 @@ returns c = record {
   other_number = other_number;
   same_number = same_number;
   asked_dummy = asked_dummy;
+  tagged_dummy = tagged_dummy;
   unasked_block = unasked_block;
   other_leaf = other_leaf;
   accepted = accepted;
