@@ -128,12 +128,16 @@ module _ (keys : Keys) (stash : ℕ) where
     }
 
   pub breaks_off : (level : ℕ) → level ≤ keys.shape.levels → BreaksOffReading keys stash (broken_log keys level)
+  unfolding only_slot
   breaks_off level within = record {
     before = empty_log;
     last = only_slot (along keys.shape.levels false 256 (keys.leaf_of (Dummy 0)) (level + 1)) 256 None (Dummy 0);
     right = refl;
     start = 256;
-    leaf = keys.leaf_of (Dummy 0);
+    asked = None;
+    point = Dummy 0;
+    leaf = record { 0 = keys.leaf_of (Dummy 0) };
+    events = refl;
     level = level;
     within = within;
     moves = refl;
@@ -147,26 +151,26 @@ module _ (keys : Keys) (stash : ℕ) where
 
   -- the moves of a log that breaks off in reads end with a read
   ends_read : (log : LogLists) (b : BreaksOffReading keys stash log) → log.moves
-      ≡ (b.before.moves ++ along keys.shape.levels false b.start b.leaf b.level)
-      ++ move_along keys.shape.levels false b.start b.leaf b.level ∷ []
+      ≡ (b.before.moves ++ along keys.shape.levels false b.start b.leaf.0 b.level)
+      ++ move_along keys.shape.levels false b.start b.leaf.0 b.level ∷ []
   ends_read log b =
-      b.moves ∙ ap (λ l. b.before.moves ++ l) (next_move keys.shape.levels b.start b.leaf b.level)
-      ∙ sym (append_assoc b.before.moves (along keys.shape.levels false b.start b.leaf b.level)
-      (move_along keys.shape.levels false b.start b.leaf b.level ∷ []))
+      b.moves ∙ ap (λ l. b.before.moves ++ l) (next_move keys.shape.levels b.start b.leaf.0 b.level)
+      ∙ sym (append_assoc b.before.moves (along keys.shape.levels false b.start b.leaf.0 b.level)
+      (move_along keys.shape.levels false b.start b.leaf.0 b.level ∷ []))
 
   pub no_moves : (events : List Event) → BreaksOffReading keys stash (log_of events) → ⊥
   no_moves events b = omega (
     arith,
     ap length (ends_read (log_of events) b),
-    length-append (b.before.moves ++ along keys.shape.levels false b.start b.leaf b.level)
-        (move_along keys.shape.levels false b.start b.leaf b.level ∷ []),
+    length-append (b.before.moves ++ along keys.shape.levels false b.start b.leaf.0 b.level)
+        (move_along keys.shape.levels false b.start b.leaf.0 b.level ∷ []),
   )
 
   pub written : (at bucket : ℕ) (moves : List Move) (events : List Event)
       → BreaksOffReading keys stash (moved_log (moves ++ write_move at bucket ∷ []) events) → ⊥
   written at bucket moves events b =
-      let same = last_same (write_move at bucket) (move_along keys.shape.levels false b.start b.leaf b.level) moves
-      (b.before.moves ++ along keys.shape.levels false b.start b.leaf b.level)
+      let same = last_same (write_move at bucket) (move_along keys.shape.levels false b.start b.leaf.0 b.level) moves
+      (b.before.moves ++ along keys.shape.levels false b.start b.leaf.0 b.level)
       (ends_read (moved_log (moves ++ write_move at bucket ∷ []) events) b) in
       let bad : true ≡ false = ap (λ (m : Move). m.write) same in cc
 
