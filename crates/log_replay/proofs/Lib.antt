@@ -20,3 +20,8 @@ pub mod FrontAsks
 pub mod Along
 pub mod AlongStops
 pub mod Requests
+pub mod FirstReads
+pub mod SlotSplits
+pub mod OrderRows
+pub mod VerdictRows
+pub mod AlteredRows

@@ -25,8 +25,8 @@ use Rattle.log_replay.specs.Judged.{IsBeforeLast, BreaksOffReading, ShowsStop, E
 use Rattle.log_replay.specs.Order.{events_of, IsNextPoint, IsTaken, LogOrder}
 use Rattle.log_replay.proofs.ReplayedLogs.{IsReplayedLog, slot_done, slot_order}
 use Rattle.log_replay.proofs.StopMoves.{whole_says}
-use Rattle.log_replay.proofs.StopShows.{slot_of, before_last, shows_refused, shows_wrong, shows_full, shows_none}
-use Rattle.log_replay.proofs.StopShows.{says_read, says_cut}
+use Rattle.log_replay.proofs.StopShows.{slot_of, before_last, last_events, shows_refused, shows_wrong, shows_full}
+use Rattle.log_replay.proofs.StopShows.{shows_none, says_read, says_cut}
 
 -- a stop leaves a log in order that shows it and says the buckets
 pub record LogStops (keys : Keys) (stash : ℕ) (stop : Stop) (log : LogLists) (mirror : List (List ℕ)) : Type 0 where
@@ -63,6 +63,13 @@ module _ (keys : Keys) (stash : ℕ) (old : LogLists) (now : Contents) (dummies 
       bare_before =
           before_last keys stash old new now base.always.past base.contents_are base.right start asked p None None
           b.altered bare_adds b.noted tt
+
+      bare_events : bare_before.events ≡ drawn_events keys start asked p
+      unfolding bare_before
+      bare_events =
+          last_events keys stash old new now base.always.past base.contents_are base.right start asked p None None
+          b.altered bare_adds b.noted tt
+          ∙ bare_is keys start asked p
 
       bare_says : (end : LogEnd) (before : List Move) (level : ℕ)
           → new.moves ≡ before ++ along keys.shape.levels false start (keys.leaf_of p) (level + 1)
@@ -117,7 +124,10 @@ module _ (keys : Keys) (stash : ℕ) (old : LogLists) (now : Contents) (dummies 
       last = bare_before r.begins;
       right = base.right;
       start = start;
-      leaf = keys.leaf_of p;
+      asked = asked;
+      point = p;
+      leaf = record { 0 = keys.leaf_of p };
+      events = bare_events r.begins;
       level = r.level;
       within = r.within;
       moves = r.moves;

@@ -132,6 +132,10 @@ module _ (keys : Keys) (stash : ℕ) (old new : LogLists) (now : Contents)
     });
   }
 
+  pub last_events : before_last.events ≡ events_of keys (slot_of start asked p found put)
+  unfolding before_last
+  last_events = refl
+
   shown : verdict_on keys stash new ≡ slot_verdict keys stash p (keys.leaf_of p) gave put
   shown =
       slot_shows keys stash (first_fold keys) old new start asked p (note_of p found) put extra past

@@ -49,16 +49,20 @@ module _ (keys : Keys) (stash : ℕ) where
     pub right : verdict_on before ≡ None
     pub wrong : verdict_on log ≡ Some stop
 
-  -- Nothing is wrong before the last slot of a log, whose reads broke off: it has no more moves than these.
+  -- Nothing is wrong before the last slot of a log, whose reads broke off: nothing is noted of it but its point, and the
+  -- log's moves end with reads from its start on, along the path of its leaf.
   pub record BreaksOffReading (log : LogLists) : Type 0 where
     pub before : LogLists
     pub last : IsBeforeLast before log
     pub right : verdict_on before ≡ None
     pub start : ℕ
-    pub leaf : ℕ
+    pub asked : Option ℕ
+    pub point : Point
+    pub leaf : Leaf
+    pub events : last.events ≡ Access start asked ∷ Drawn point leaf ∷ []
     pub level : ℕ
     pub within : level ≤ keys.shape.levels
-    pub moves : log.moves ≡ before.moves ++ along keys.shape.levels false start leaf (level + 1)
+    pub moves : log.moves ≡ before.moves ++ along keys.shape.levels false start leaf.0 (level + 1)
 
   -- What a log shows where a stop ended it. Evidence and a full stash come exactly at the first slot, or the first
   -- appended message, that the log shows to be wrong, and as it shows it. Else nothing in it is wrong, as far as its

@@ -2,3 +2,4 @@ pub mod Order
 pub mod Judged
 pub mod Replayed
 pub mod Given
+pub mod Rows

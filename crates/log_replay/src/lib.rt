@@ -2,11 +2,14 @@
 //! was noted in each slot, and which stop came.
 //!
 //! `specs/Order.antt` has the order of a log's events, `specs/Judged.antt` what a log shows of a stop and says of the
-//! buckets, and `specs/Replayed.antt` when an encrypted memory is what its log says.
+//! buckets, `specs/Replayed.antt` when an encrypted memory is what its log says, and `specs/Rows.antt` logs that are
+//! computed with.
 //!
 //! The crate has laws alone; the calls do nothing.
 #![tactic(auto)]
 
 mod laws;
+mod rows;
 
 pub use laws::logs_say_all;
+pub use rows::{altered_logs_have_rows, logs_have_rows, verdicts_have_rows};

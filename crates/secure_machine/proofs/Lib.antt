@@ -6,6 +6,7 @@ pub mod NotedLines
 pub mod Asked
 pub mod Replaying
 pub mod LineChains
+pub mod Marked
 pub mod Settles
 pub mod Starts
 pub mod ImageZeros

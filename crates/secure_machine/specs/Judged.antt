@@ -1,6 +1,5 @@
 -- What a run's log shows of how the run ended, and what it says of the buckets then.
 use Rattle.std.specs.Prelude.{◌≡◌, ◌⊎◌, ℕ, List, None}
-use Rattle.asc_base.specs.declared.stop.Stop.{Stop}
 use Rattle.asc_base.specs.declared.stop.Stop.TheVariants as why
 use Rattle.bus_watch.specs.Log.{TapState, LogLists}
 use Rattle.log_replay.specs.Judged.{verdict_on, IsFirstVerdict, BreaksOffReading, ShowsStop, EndsLog, SaysMirror}

@@ -1,5 +1,6 @@
 pub mod Goes
 pub mod Same
+pub mod Marked
 pub mod Finish
 pub mod Runs
 pub mod Run

@@ -1,7 +1,8 @@
 //! The lines of an encrypted memory, asked for at a clock.
 
-ghost use Rattle.std.specs.Prelude.{◌≡◌};
+ghost use Rattle.std.specs.Prelude.{◌≡◌, IsSome, Some};
 
+use asc_base::Stop;
 use asc_outside::UntrustedMemory;
 use bus_watch::Watch;
 use leaf_function::LeafFn;
@@ -24,6 +25,10 @@ pub struct TimedLines<'o, 'b, M: UntrustedMemory, W: Watch, L: LeafFn> {
     /// How many fetches were answered.
     pub fetches: u64,
 }
+
+/// A line was stopped. Why, the encrypted memory keeps, so that answers stay small.
+#[derive(Clone, Copy, Debug, PartialEq, Eq)]
+pub struct Stopped;
 
 impl<'o, 'b, M: UntrustedMemory, W: Watch, L: LeafFn> TimedLines<'o, 'b, M, W, L> {
     /// The lines of an encrypted memory, at time 0.
@@ -58,5 +63,13 @@ impl<'o, 'b, M: UntrustedMemory, W: Watch, L: LeafFn> TimedLines<'o, 'b, M, W, L
         ensures { result ≡ self.now.oram.now.port.clock.config.time }
     {
         self.oram.port.clock.config.time
+    }
+
+    /// Why a line was stopped.
+    pub(crate) fn stopped(&self) -> Stop
+        requires { IsSome self.now.oram.now.stop }
+        ensures { self.now.oram.now.stop ≡ Some result }
+    {
+        self.oram.stop.unwrap()
     }
 }

@@ -48,7 +48,7 @@ ghost use Rattle.play_run.specs.Timed.{Serving, KeepsNoted};
 ghost use Rattle.bus_watch.specs.Same.{IsSameBus};
 
 use crate::image::line_of;
-use crate::lines::TimedLines;
+use crate::lines::{Stopped, TimedLines};
 use crate::report::Ending;
 use asc_base::{NoMemory, Stop};
 use asc_outside::UntrustedMemory;
@@ -168,7 +168,7 @@ fn load_line<M: UntrustedMemory, W: Watch, L: LeafFn>(
 {
     match cache.write_line(lines, line, &line_of(image, line)) {
         Ok(()) => {}
-        Err(stop) => return Err(stop),
+        Err(Stopped) => return Err(lines.stopped()),
     }
     lines.spend(1);
     Ok(())
@@ -290,7 +290,7 @@ fn step<M: UntrustedMemory, W: Watch, L: LeafFn>(
 {
     let done = match step_cached(core, files, base, cache, lines) {
         Ok(done) => done,
-        Err(stop) => return Err(stop),
+        Err(Stopped) => return Err(lines.stopped()),
     };
     lines.spend(done.cost);
     Ok(done)

@@ -6,7 +6,7 @@ ghost use Rattle.oram_frontend.specs.Oram.{OramStep, CanServe, Wait};
 ghost use Rattle.secure_machine.specs.Same.{IsSameLines, timed_of, keys_in};
 ghost use Rattle.play_run.specs.Timed.{CanAsk, Serving};
 
-use crate::lines::TimedLines;
+use crate::lines::{Stopped, TimedLines};
 use asc_base::{Line, Stop};
 use asc_outside::UntrustedMemory;
 use bus_watch::{Bus, Watch};
@@ -72,9 +72,10 @@ impl<'o, 'b, M: UntrustedMemory, W: Watch, L: LeafFn> LineStore for TimedLines<'
     ghost use Rattle.std.specs.Prelude.{None};
     ghost use Rattle.std.proofs.Common.{subst, sym, ap};
     ghost use Rattle.secure_machine.specs.Same.{IsSameLines, timed_of, keys_in};
-    ghost use Rattle.play_run.specs.Timed.{CanAsk, TimedStep, answers_lines, answers_serve};
+    ghost use Rattle.secure_machine.specs.Marked.{MarkedStep};
+    ghost use Rattle.play_run.specs.Timed.{CanAsk, answers_lines, answers_serve};
 
-    type Stop = Stop;
+    type Stop = Stopped;
 
     ghost lines = { λ s. s.count };
 
@@ -83,10 +84,10 @@ impl<'o, 'b, M: UntrustedMemory, W: Watch, L: LeafFn> LineStore for TimedLines<'
     ghost ready = { λ s. CanAsk (L.levels s.oram.now.port.leaves) s.count (timed_of M.state W.state s) };
 
     ghost step = { λ s request answer t. IsSameLines s t
-        × TimedStep (keys_in L.leaf_of s) (L.levels s.oram.now.port.leaves) s.count (timed_of M.state W.state s) request
-        answer (timed_of M.state W.state t) };
+        × MarkedStep (keys_in L.leaf_of s) (L.levels s.oram.now.port.leaves) s.count (timed_of M.state W.state s)
+        request answer (timed_of M.state W.state t) };
 
-    fn fetch(&mut self, line: u32) -> Result<Line, Stop> {
+    fn fetch(&mut self, line: u32) -> Result<Line, Stopped> {
         let mut bus = Bus::new(self.memory, self.tap);
         match self.oram.fetch(&mut bus, self.clock, line) {
             Ok((value, end)) => {
@@ -94,11 +95,11 @@ impl<'o, 'b, M: UntrustedMemory, W: Watch, L: LeafFn> LineStore for TimedLines<'
                 self.fetches += 1;
                 Ok(line_of(&value.0))
             }
-            Err(stop) => Err(stop),
+            Err(_) => Err(Stopped),
         }
     }
 
-    fn store(&mut self, line: u32, value: &Line) -> Result<(), Stop> {
+    fn store(&mut self, line: u32, value: &Line) -> Result<(), Stopped> {
         are_whole(&value.0);
         let mut bus = Bus::new(self.memory, self.tap);
         match self.oram.store(&mut bus, self.clock, line, value) {
@@ -106,7 +107,7 @@ impl<'o, 'b, M: UntrustedMemory, W: Watch, L: LeafFn> LineStore for TimedLines<'
                 self.clock = end;
                 Ok(())
             }
-            Err(stop) => Err(stop),
+            Err(_) => Err(Stopped),
         }
     }
 

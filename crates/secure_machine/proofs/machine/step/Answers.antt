@@ -2,7 +2,7 @@ use Rattle.std.proofs.Common.{◌*◌, ◌∙◌, ap, sym}
 use Rattle.fed_run.proofs.Left.{step_left}
 use Rattle.secure_machine.proofs.Refining.{stop_forged, stop_unblamed, chain_forged, instruction_core}
 use Rattle.secure_machine.proofs.Refining.{instruction_known, lines_in, spent_is, ForgedBy, SteppedBy}
-use Rattle.request_plan.specs.Plan.{through}
+use Rattle.request_plan.specs.Plan.{Ends, Stops, through}
 use Rattle.rv32_core.specs.Machine.{Machine}
 use Rattle.rv32_core.specs.declared.outcome.Done.{Done}
 use Rattle.rv32_core.specs.StepPlan.{machine_of, step_plan}
@@ -11,15 +11,49 @@ use Rattle.secure_machine.proofs.LineChains.{LinesStep, chain_goes, chain_breaks
 use Rattle.secure_machine.proofs.FedChains.{instruction_fed, instruction_starved, spent_fed}
 use Rattle.secure_machine.proofs.Playing.{instruction_in_play, instruction_stopped}
 use Rattle.secure_machine.proofs.SpentChains.{chain_stop_spent, instruction_spends}
+use Rattle.secure_machine.proofs.Marked.{unmarked, is_kept, stopped_with}
+use Rattle.secure_machine.proofs.machine.step.Given as given
 use Rattle.secure_machine.proofs.machine.step.Goals as goal
+
+-- the plan of the instruction over the lines ended, or was stopped with what they keep
+ends : (g : given.Over) (c : goal.After-spend g)
+    → Ends (LinesStep g.M.UntrustedMemory.state g.W.Watch.state g.L.LeafFn.leaf_of g.L.LeafFn.levels)
+    (through (cache_access c.args.core.now.base) (step_plan (machine_of c.args.core.now c.args.files.now))
+    c.args.cache.now) c.args.lines.now c.step_cached.new.store
+    (c.step_cached.new.cache, (machine_of c.step_cached.new.core c.step_cached.new.files, c.in-Ok.done))
+ends g c =
+    unmarked g.M.UntrustedMemory.state g.W.Watch.state g.L.LeafFn.leaf_of g.L.LeafFn.levels
+    (through (cache_access c.args.core.now.base) (step_plan (machine_of c.args.core.now c.args.files.now))
+    c.args.cache.now) c.args.lines.now c.step_cached.new.store
+    (c.step_cached.new.cache, (machine_of c.step_cached.new.core c.step_cached.new.files, c.in-Ok.done))
+    c.in-Ok.ensures.ok
+
+stops : (g : given.Over) (c : goal.After-stopped g)
+    → Stops (LinesStep g.M.UntrustedMemory.state g.W.Watch.state g.L.LeafFn.leaf_of g.L.LeafFn.levels)
+    (through (cache_access c.args.core.now.base) (step_plan (machine_of c.args.core.now c.args.files.now))
+    c.args.cache.now) c.args.lines.now c.step_cached.new.store c.stopped.result
+    (c.step_cached.new.cache, machine_of c.step_cached.new.core c.step_cached.new.files)
+stops g c =
+    stopped_with g.M.UntrustedMemory.state g.W.Watch.state g.L.LeafFn.leaf_of g.L.LeafFn.levels
+    (through (cache_access c.args.core.now.base) (step_plan (machine_of c.args.core.now c.args.files.now))
+    c.args.cache.now) c.args.lines.now c.step_cached.new.store c.in-Err.field-0
+    (c.step_cached.new.cache, machine_of c.step_cached.new.core c.step_cached.new.files) c.stopped.result
+    c.stopped.ensures c.in-Err.ensures.err
+
+pub stopped-requires : goal.stopped-requires
+stopped-requires g c =
+    is_kept g.M.UntrustedMemory.state g.W.Watch.state g.L.LeafFn.leaf_of g.L.LeafFn.levels
+    (through (cache_access c.args.core.now.base) (step_plan (machine_of c.args.core.now c.args.files.now))
+    c.args.cache.now) c.args.lines.now c.step_cached.new.store c.in-Err.field-0
+    (c.step_cached.new.cache, machine_of c.step_cached.new.core c.step_cached.new.files) c.in-Err.ensures.err
 
 pub returns-in-Err-clause-breaks : goal.returns-in-Err-clause-breaks
 returns-in-Err-clause-breaks g c =
     chain_breaks g.M.UntrustedMemory.state g.W.Watch.state g.L.LeafFn.leaf_of g.L.LeafFn.levels
     (through (cache_access c.args.core.now.base) (step_plan (machine_of c.args.core.now c.args.files.now))
-    c.args.cache.now) c.args.lines.now c.step_cached.new.store c.in-Err.stop
+    c.args.cache.now) c.args.lines.now c.step_cached.new.store c.stopped.result
     (c.step_cached.new.cache, machine_of c.step_cached.new.core c.step_cached.new.files) c.requires.ready
-    c.in-Err.ensures.err
+    (stops g c)
 
 pub returns-clause-onwards : goal.returns-clause-onwards
 returns-clause-onwards g c =
@@ -29,7 +63,7 @@ returns-clause-onwards g c =
     (through (cache_access c.args.core.now.base) (step_plan (machine_of c.args.core.now c.args.files.now))
     c.args.cache.now) c.args.lines.now c.step_cached.new.store
     (c.step_cached.new.cache, (machine_of c.step_cached.new.core c.step_cached.new.files, c.in-Ok.done))
-    c.requires.ready c.in-Ok.ensures.ok)
+    c.requires.ready (ends g c))
     c.spend.ensures.same (sym c.spend.ensures.memory) (sym c.spend.ensures.tap) (sym c.spend.ensures.oram)
     (sym c.spend.ensures.fetches) c.spend.ensures.ready
 
@@ -37,13 +71,13 @@ pub returns-in-Err-clause-refines : goal.returns-in-Err-clause-refines
 returns-in-Err-clause-refines g c memory lawful core known = (
   stop_forged g.M.UntrustedMemory.state g.W.Watch.state g.L.LeafFn.leaf_of g.L.LeafFn.levels
       (through (cache_access c.args.core.now.base) (step_plan (machine_of c.args.core.now c.args.files.now))
-      c.args.cache.now) c.args.lines.now c.step_cached.new.store c.in-Err.stop
+      c.args.cache.now) c.args.lines.now c.step_cached.new.store c.stopped.result
       (c.step_cached.new.cache, machine_of c.step_cached.new.core c.step_cached.new.files) lawful c.requires.ready
-      c.in-Err.ensures.err,
+      (stops g c),
   step_left (LinesStep g.M.UntrustedMemory.state g.W.Watch.state g.L.LeafFn.leaf_of g.L.LeafFn.levels)
       c.args.core.now.base (machine_of c.args.core.now c.args.files.now) c.args.cache.now c.args.lines.now
-      c.step_cached.new.store c.in-Err.stop
-      (c.step_cached.new.cache, machine_of c.step_cached.new.core c.step_cached.new.files) c.in-Err.ensures.err,
+      c.step_cached.new.store c.stopped.result
+      (c.step_cached.new.cache, machine_of c.step_cached.new.core c.step_cached.new.files) (stops g c),
 )
 
 pub returns-clause-refines : goal.returns-clause-refines
@@ -57,21 +91,21 @@ returns-clause-refines g c memory lawful core known =
     c.spend.new.self c.spend.ensures.memory c.spend.ensures.tap c.spend.ensures.oram
     (instruction_known g.M.UntrustedMemory.state g.W.Watch.state g.L.LeafFn.leaf_of g.L.LeafFn.levels c.args.lines.now
     c.step_cached.new.store (machine_of c.args.core.now c.args.files.now) c.args.cache.now c.step_cached.new.cache
-    memory end lawful core (c.requires.size ∙ ap (λ n. 64 * n) (sym count)) known c.in-Ok.ensures.ok)
+    memory end lawful core (c.requires.size ∙ ap (λ n. 64 * n) (sym count)) known (ends g c))
 
 pub returns-clause-core : goal.returns-clause-core
 returns-clause-core g c is =
     instruction_core g.M.UntrustedMemory.state g.W.Watch.state g.L.LeafFn.leaf_of g.L.LeafFn.levels c.args.lines.now
     c.step_cached.new.store (machine_of c.args.core.now c.args.files.now) c.args.cache.now c.step_cached.new.cache
-    (machine_of c.step_cached.new.core c.step_cached.new.files, c.in-Ok.done) is c.in-Ok.ensures.ok
+    (machine_of c.step_cached.new.core c.step_cached.new.files, c.in-Ok.done) is (ends g c)
 
 pub returns-in-Err-clause-forged : goal.returns-in-Err-clause-forged
 returns-in-Err-clause-forged g c lawful =
     stop_forged g.M.UntrustedMemory.state g.W.Watch.state g.L.LeafFn.leaf_of g.L.LeafFn.levels
     (through (cache_access c.args.core.now.base) (step_plan (machine_of c.args.core.now c.args.files.now))
-    c.args.cache.now) c.args.lines.now c.step_cached.new.store c.in-Err.stop
+    c.args.cache.now) c.args.lines.now c.step_cached.new.store c.stopped.result
     (c.step_cached.new.cache, machine_of c.step_cached.new.core c.step_cached.new.files) lawful c.requires.ready
-    c.in-Err.ensures.err
+    (stops g c)
 
 pub returns-clause-forged : goal.returns-clause-forged
 returns-clause-forged g c lawful forged =
@@ -82,26 +116,26 @@ returns-clause-forged g c lawful forged =
     (through (cache_access c.args.core.now.base) (step_plan (machine_of c.args.core.now c.args.files.now))
     c.args.cache.now) c.args.lines.now c.step_cached.new.store
     (c.step_cached.new.cache, (machine_of c.step_cached.new.core c.step_cached.new.files, c.in-Ok.done)) lawful
-    c.in-Ok.ensures.ok forged)
+    (ends g c) forged)
 
 pub returns-in-Err-clause-honest : goal.returns-in-Err-clause-honest
 returns-in-Err-clause-honest g c memory lawful known =
     stop_unblamed g.M.UntrustedMemory.state g.W.Watch.state g.L.LeafFn.leaf_of g.L.LeafFn.levels
     (through (cache_access c.args.core.now.base) (step_plan (machine_of c.args.core.now c.args.files.now))
-    c.args.cache.now) c.args.lines.now c.step_cached.new.store c.in-Err.stop
+    c.args.cache.now) c.args.lines.now c.step_cached.new.store c.stopped.result
     (c.step_cached.new.cache, machine_of c.step_cached.new.core c.step_cached.new.files) c.args.cache.now memory lawful
-    c.requires.ready known c.in-Err.ensures.err
+    c.requires.ready known (stops g c)
 
 pub returns-in-Err-clause-fed : goal.returns-in-Err-clause-fed
 returns-in-Err-clause-fed g c ways lists core stands = (
   instruction_starved g.M.UntrustedMemory.state g.W.Watch.state g.L.LeafFn.leaf_of g.L.LeafFn.levels ways
       (machine_of c.args.core.now c.args.files.now) c.args.lines.now c.step_cached.new.store c.args.cache.now lists
-      c.in-Err.stop (c.step_cached.new.cache, machine_of c.step_cached.new.core c.step_cached.new.files) core
-      c.requires.size stands c.in-Err.ensures.err,
+      c.stopped.result (c.step_cached.new.cache, machine_of c.step_cached.new.core c.step_cached.new.files) core
+      c.requires.size stands (stops g c),
   step_left (LinesStep g.M.UntrustedMemory.state g.W.Watch.state g.L.LeafFn.leaf_of g.L.LeafFn.levels)
       c.args.core.now.base (machine_of c.args.core.now c.args.files.now) c.args.cache.now c.args.lines.now
-      c.step_cached.new.store c.in-Err.stop
-      (c.step_cached.new.cache, machine_of c.step_cached.new.core c.step_cached.new.files) c.in-Err.ensures.err,
+      c.step_cached.new.store c.stopped.result
+      (c.step_cached.new.cache, machine_of c.step_cached.new.core c.step_cached.new.files) (stops g c),
 )
 
 pub returns-clause-fed : goal.returns-clause-fed
@@ -112,15 +146,15 @@ returns-clause-fed g c ways lists core stands =
     c.step_cached.new.cache c.in-Ok.done c.spend.ensures.tap c.spend.ensures.same.count
     (instruction_fed g.M.UntrustedMemory.state g.W.Watch.state g.L.LeafFn.leaf_of g.L.LeafFn.levels ways machine
     c.args.lines.now c.step_cached.new.store c.args.cache.now c.step_cached.new.cache lists (next, c.in-Ok.done) core
-    c.requires.size stands c.in-Ok.ensures.ok)
+    c.requires.size stands (ends g c))
 
 pub returns-in-Err-clause-plays : goal.returns-in-Err-clause-plays
 returns-in-Err-clause-plays g c config whole before left lawful calls is_config core early known =
     instruction_stopped g.M.UntrustedMemory.state g.W.Watch.state g.L.LeafFn.leaf_of g.L.LeafFn.levels config
     whole before left (machine_of c.args.core.now c.args.files.now) c.args.cache.now c.args.lines.now
-    c.step_cached.new.store c.in-Err.stop
+    c.step_cached.new.store c.stopped.result
     (c.step_cached.new.cache, machine_of c.step_cached.new.core c.step_cached.new.files) lawful calls c.requires.ready
-    core c.requires.size early known c.in-Err.ensures.err
+    core c.requires.size early known (stops g c)
 
 pub returns-clause-plays : goal.returns-clause-plays
 returns-clause-plays g c config whole before left lawful calls is_config core early known =
@@ -128,7 +162,7 @@ returns-clause-plays g c config whole before left lawful calls is_config core ea
     whole before left (machine_of c.args.core.now c.args.files.now) c.args.cache.now c.step_cached.new.cache
     (machine_of c.step_cached.new.core c.step_cached.new.files, c.in-Ok.done) c.args.lines.now
     c.step_cached.new.store c.spend.new.self lawful calls is_config c.requires.ready core c.requires.size early known
-    c.in-Ok.ensures.ok (record {
+    (ends g c) (record {
       same = c.spend.ensures.same;
       memory = c.spend.ensures.memory;
       tap = c.spend.ensures.tap;
@@ -141,9 +175,9 @@ pub returns-in-Err-clause-spends : goal.returns-in-Err-clause-spends
 returns-in-Err-clause-spends g c config levels costs ways lists core stands early known =
     chain_stop_spent g.M.UntrustedMemory.state g.W.Watch.state g.L.LeafFn.leaf_of g.L.LeafFn.levels config levels
     costs (through (cache_access c.args.core.now.base) (step_plan (machine_of c.args.core.now c.args.files.now))
-    c.args.cache.now) c.args.lines.now c.step_cached.new.store c.in-Err.stop
+    c.args.cache.now) c.args.lines.now c.step_cached.new.store c.stopped.result
     (c.step_cached.new.cache, machine_of c.step_cached.new.core c.step_cached.new.files) c.requires.ready known
-    c.in-Err.ensures.err
+    (stops g c)
 
 pub returns-clause-spends : goal.returns-clause-spends
 returns-clause-spends g c config levels costs ways lists core stands early known =
@@ -151,7 +185,7 @@ returns-clause-spends g c config levels costs ways lists core stands early known
     levels costs ways (machine_of c.args.core.now c.args.files.now) c.args.lines.now c.step_cached.new.store
     c.spend.new.self c.args.cache.now c.step_cached.new.cache lists
     (machine_of c.step_cached.new.core c.step_cached.new.files, c.in-Ok.done) c.requires.ready core c.requires.size
-    stands early known c.in-Ok.ensures.ok (record {
+    stands early known (ends g c) (record {
       same = c.spend.ensures.same;
       memory = c.spend.ensures.memory;
       tap = c.spend.ensures.tap;

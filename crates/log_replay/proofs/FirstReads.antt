@@ -1,0 +1,63 @@
+-- Over buckets that were never written a path is read to an empty hand.
+use Rattle.std.proofs.Common.{◌≡◌, ◌+◌, ◌*◌, ◌⊎◌, inl, inr, ℕ, zero, suc, List, [], map, get_or, replicate}
+use Rattle.std.proofs.Common.{Ok, Result, refl, sym, ◌∙◌, ap}
+use Rattle.std.specs.List.{range_with_len}
+use Rattle.asc_base.specs.TreeShape.{bucket_of}
+use Rattle.asc_base.specs.declared.block.Entry.{Entry}
+use Rattle.asc_base.specs.declared.stop.Evidence.{Evidence}
+use Rattle.asc_outside.specs.Memory.{zero_bucket, zero_buckets}
+use Rattle.bucket_codec.specs.Bucket.{seed_in, opened, empty_slots}
+use Rattle.oram_contents.specs.Contents.{IsReadTo}
+use Rattle.oram_contents.specs.Entries.{Keys}
+use Rattle.oram_contents.specs.PathRead.{reply_at, then_join, join_bucket, join_buckets}
+use Rattle.oram_contents.specs.Starts.{first_contents}
+
+no_seed : seed_in zero_bucket ≡ 0
+unfolding seed_in zero_bucket
+no_seed = refl
+
+no_seed_at_all : seed_in [] ≡ 0
+unfolding seed_in
+no_seed_at_all = refl
+
+zero_at : (n b : ℕ) → (get_or (replicate n zero_bucket) b [] ≡ zero_bucket)
+    ⊎ (get_or (replicate n zero_bucket) b [] ≡ [])
+zero_at zero b = inr refl
+zero_at (suc n) zero = inl refl
+zero_at (suc n) (suc b) = zero_at n b
+
+module _ (keys : Keys) where
+  unsown : (bytes : List ℕ) → seed_in bytes ≡ 0 → opened keys.pads keys.shape bytes ≡ Ok empty_slots
+  unfolding opened
+  unsown bytes is = rw is refl
+
+  -- a bucket of zero bytes has four empty slots, and so has one that isn't there
+  pub opens_empty : (n b : ℕ) → opened keys.pads keys.shape (get_or (replicate n zero_bucket) b []) ≡ Ok empty_slots
+  opens_empty n b = elim (zero_at n b) [
+    | inl is ↦ ap (opened keys.pads keys.shape) is ∙ unsown zero_bucket no_seed
+    | inr is ↦ ap (opened keys.pads keys.shape) is ∙ unsown [] no_seed_at_all
+  ]
+
+  joins_none : (start leaf level from many : ℕ)
+      → join_buckets keys.shape.levels leaf level (map (opened keys.pads keys.shape)
+      (map (λ l. reply_at (zero_buckets keys.shape.buckets) [] (start + 40 * l)
+      (bucket_of keys.shape.levels leaf l)) (range_with_len from many))) [] ≡ Ok []
+  joins_none start leaf level from zero = refl
+  joins_none start leaf level from (suc many) =
+      ap (λ r. then_join (join_bucket keys.shape.levels leaf level r []) (join_buckets keys.shape.levels leaf
+      (level + 1) (map (opened keys.pads keys.shape) (map (λ l. reply_at (zero_buckets keys.shape.buckets) []
+      (start + 40 * l) (bucket_of keys.shape.levels leaf l)) (range_with_len (from + 1) many)))))
+      (opens_empty keys.shape.buckets (bucket_of keys.shape.levels leaf from))
+      ∙ joins_none start leaf (level + 1) (from + 1) many
+
+  pub read_empty : (start leaf : ℕ) → IsReadTo keys.pads keys.shape start leaf [] (first_contents keys) []
+  read_empty start leaf = joins_none start leaf 0 0 (keys.shape.levels + 1)
+
+  pub reads_only_empty : (start leaf : ℕ) (joined : List Entry)
+      → IsReadTo keys.pads keys.shape start leaf [] (first_contents keys) joined → joined ≡ []
+  reads_only_empty start leaf joined read =
+      let none : IsReadTo keys.pads keys.shape start leaf [] (first_contents keys) [] = read_empty start leaf in
+      same_hand (sym read ∙ none)
+    where
+      same_hand : (let left : Result (List Entry) Evidence = Ok joined in left ≡ Ok []) → joined ≡ []
+      same_hand is = cc

@@ -1,0 +1,17 @@
+use Rattle.log_replay.proofs.VerdictRows.{dummy_right, first_right, right, missing, full, breaks_off, no_moves, written}
+use Rattle.log_replay.proofs.VerdictRows.{buckets, other_buckets}
+use Rattle.log_replay.proofs.rows.verdicts_have_rows.Goals as goal
+
+pub returns : goal.returns
+returns c = record {
+  dummy = dummy_right;
+  first = first_right;
+  right = right;
+  missing = missing;
+  full = full;
+  breaks_off = breaks_off;
+  no_moves = no_moves;
+  written = written;
+  buckets = buckets;
+  other_buckets = other_buckets;
+}

@@ -1,0 +1,78 @@
+-- Logs that are computed with, of one slot or two: in which no reply was altered, or one.
+use Rattle.std.specs.Prelude.{◌≡◌, ◌<◌, ◌+◌, ℕ, false, List, [], ◌∷◌, ◌++◌, length, None, Some}
+use Rattle.asc_base.specs.declared.block.Counter.{Counter}
+use Rattle.asc_base.specs.declared.block.Entry.{Entry}
+use Rattle.asc_base.specs.declared.block.Message.{Message}
+use Rattle.asc_base.specs.declared.block.Point.TheVariants.{Dummy}
+use Rattle.bucket_codec.specs.Bucket.{bucket_text}
+use Rattle.bus_watch.specs.Log.{LogLists}
+use Rattle.bus_watch.specs.Path.{along}
+use Rattle.bus_watch.specs.declared.log.Altered.{Altered}
+use Rattle.bus_watch.specs.declared.log.Event.{Event}
+use Rattle.bus_watch.specs.declared.log.Event.TheVariants.{Accepted, Tagged, Chosen, Answered}
+use Rattle.bus_watch.specs.declared.log.Move.{Move}
+use Rattle.oram_contents.specs.Entries.{Keys, AreKeys, real}
+use Rattle.oram_contents.specs.Slots.{drawn_events}
+
+-- a log of these events
+abbrev pub log_of : List Event → LogLists
+log_of events = record { moves = []; events = events; altered = [] }
+
+-- a log of these moves and events
+abbrev pub moved_log : List Move → List Event → LogLists
+moved_log moves events = record { moves = moves; events = events; altered = [] }
+
+-- a slot of the dummy of a number, at whose end a rate is chosen
+abbrev pub dummy_events : Keys → ℕ → List Event
+dummy_events keys n = drawn_events keys 256 None (Dummy n) ++ Chosen 0 ∷ []
+
+-- a slot of a block under a counter, in which this is noted
+abbrev pub block_events : Keys → ℕ → Counter → List Event → List Event
+block_events keys a c more = drawn_events keys 256 (Some 0) (real a c) ++ more
+
+-- a message is put back, and a line is answered
+abbrev pub fetched : Message → ℕ → List ℕ → List Event
+fetched m line value = Tagged m ∷ Answered line (record { 0 = value }) ∷ []
+
+-- a message is put back, a rate is chosen, and another message is appended
+abbrev pub displaced : Message → Message → List Event
+displaced m other = Tagged m ∷ Chosen 0 ∷ Tagged other ∷ []
+
+-- a log whose first slot broke off in its reads, behind the one at a level
+abbrev pub broken_log : Keys → ℕ → LogLists
+broken_log keys level =
+    moved_log (along keys.shape.levels false 256 (keys.leaf_of (Dummy 0)) (level + 1))
+    (drawn_events keys 256 None (Dummy 0))
+
+-- an entry of a block's line with a tag, at the leaf of the block's point
+abbrev pub found_entry : Keys → ℕ → Counter → List ℕ → List ℕ → Entry
+found_entry keys a c l tag = record {
+  address = record { 0 = a };
+  leaf = record { 0 = keys.leaf_of (real a c) };
+  line = record { 0 = l };
+  tag = tag;
+}
+
+-- the root's reply is altered to a bucket of such an entry
+abbrev pub found_reply : Keys → ℕ → Counter → List ℕ → List ℕ → Altered
+found_reply keys a c l tag = record {
+  time = 256;
+  bucket = 0;
+  bytes = bucket_text keys.pads 1 (Some (found_entry keys a c l tag) ∷ None ∷ None ∷ None ∷ []);
+  before = 2;
+}
+
+-- a log of one slot with that reply, in which a message is accepted
+abbrev pub found_log : Keys → ℕ → Counter → List ℕ → List ℕ → Message → List ℕ → LogLists
+found_log keys a c l tag message found = record {
+  moves = [];
+  events = block_events keys a c (Accepted message found ∷ []);
+  altered = found_reply keys a c l tag ∷ [];
+}
+
+-- such an entry can stand in a bucket: its block is one of the shape, its line has 64 bytes and its tag 16
+pub record CanStand (keys : Keys) (a : ℕ) (l tag : List ℕ) : Type 0 where
+  pub lawful : AreKeys keys
+  pub inside : a < keys.shape.total
+  pub line : length l ≡ 64
+  pub tagged : length tag ≡ 16

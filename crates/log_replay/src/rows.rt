@@ -1,0 +1,113 @@
+//! Logs in order and logs that aren't, in numbers. The functions do nothing: each states laws in its contract.
+
+ghost use Rattle.std.specs.Prelude.{◌≡◌, ◌≤◌, ℕ, true, false, List, [], ◌∷◌, ◌++◌, None, Some};
+ghost use Rattle.asc_base.specs.declared.block.Counter.{Counter};
+ghost use Rattle.asc_base.specs.declared.block.Message.{Message};
+ghost use Rattle.asc_base.specs.declared.block.Point.TheVariants.{Dummy};
+ghost use Rattle.asc_base.specs.declared.stop.Evidence.TheVariants.{Missing};
+ghost use Rattle.asc_base.specs.declared.stop.Stop.{Stop};
+ghost use Rattle.asc_base.specs.declared.stop.Stop.TheVariants.{Integrity, StashFull};
+ghost use Rattle.asc_outside.specs.Memory.{zero_buckets};
+ghost use Rattle.bus_watch.specs.Log.{LogLists, write_move};
+ghost use Rattle.bus_watch.specs.declared.log.Event.{Event};
+ghost use Rattle.bus_watch.specs.declared.log.Event.TheVariants.{Access, Drawn, Accepted, Tagged, Chosen, Answered};
+ghost use Rattle.bus_watch.specs.declared.log.Move.{Move};
+ghost use Rattle.oram_contents.specs.Counts.{zero_line};
+ghost use Rattle.oram_contents.specs.Entries.{Keys, real, message_of};
+ghost use Rattle.oram_contents.specs.Fold.{Whole};
+ghost use Rattle.oram_contents.specs.Slots.{drawn_events};
+ghost use Rattle.oram_contents.specs.Starts.{empty_log};
+ghost use Rattle.oram_contents.specs.Verdict.{is_first};
+ghost use Rattle.pmmac_tags.specs.Tag.{tag};
+ghost use Rattle.posmap_counters.specs.Counters.{first_counter};
+ghost use Rattle.log_replay.specs.Judged.{verdict_on, IsFirstVerdict, BreaksOffReading, SaysMirror};
+ghost use Rattle.log_replay.specs.Order.{LogOrder};
+ghost use Rattle.log_replay.specs.Rows.{log_of, moved_log, dummy_events, block_events, fetched, displaced, broken_log};
+ghost use Rattle.log_replay.specs.Rows.{CanStand, found_log};
+
+/// Logs in order, in which no reply was altered, and logs that aren't. The empty log is in order; the slot of the
+/// first dummy; a block's first slot, in which any line of it is put back, and zeros are answered, or behind which
+/// another block's message is appended; a slot of which nothing is noted but its point, be it the first or behind a
+/// dummy. Refused are a log that doesn't begin with a slot, a dummy with another number, or that was asked for, or in
+/// which something is put back, a block's slot that nobody asked for, a leaf that isn't the point's, a line that was
+/// accepted though nothing was at hand, another line's number or value in an answer, another block's message that is
+/// put back, the slot's own that is appended, and a slot behind one of which nothing is noted.
+pub fn logs_have_rows()
+    ensures none { (keys : Keys) → LogOrder keys empty_log }
+    ensures dummy { (keys : Keys) → LogOrder keys (log_of (dummy_events keys 0)) }
+    ensures first { (keys : Keys) (a : ℕ) (c : Counter) (l : List ℕ) → LogOrder keys
+        (log_of (block_events keys a first_counter (fetched (message_of a c l) a zero_line))) }
+    ensures appended { (keys : Keys) (a b : ℕ) (c d : Counter) (l k : List ℕ) → (b ≡ a → ⊥) → LogOrder keys
+        (log_of (block_events keys a first_counter (displaced (message_of a c l) (message_of b d k)))) }
+    ensures bare { (keys : Keys) (a : ℕ) (c : Counter) → LogOrder keys (log_of (block_events keys a c [])) }
+    ensures second { (keys : Keys) → LogOrder keys
+        (log_of (dummy_events keys 0 ++ drawn_events keys 1008 None (Dummy 1))) }
+    ensures no_slot { (keys : Keys) (line : ℕ) (events : List Event) → LogOrder keys
+        (log_of (Answered line (record { 0 = zero_line }) ∷ events)) → ⊥ }
+    ensures no_point { (keys : Keys) → LogOrder keys (log_of (Access 256 None ∷ Chosen 0 ∷ [])) → ⊥ }
+    ensures other_number { (keys : Keys) → LogOrder keys (log_of (dummy_events keys 1)) → ⊥ }
+    ensures same_number { (keys : Keys) → LogOrder keys
+        (log_of (dummy_events keys 0 ++ drawn_events keys 1008 None (Dummy 0))) → ⊥ }
+    ensures asked_dummy { (keys : Keys) → LogOrder keys (log_of (drawn_events keys 256 (Some 0) (Dummy 0))) → ⊥ }
+    ensures tagged_dummy { (keys : Keys) (m : Message) → LogOrder keys
+        (log_of (drawn_events keys 256 None (Dummy 0) ++ Tagged m ∷ [])) → ⊥ }
+    ensures unasked_block { (keys : Keys) (a : ℕ) (c : Counter) → LogOrder keys
+        (log_of (drawn_events keys 256 None (real a c))) → ⊥ }
+    ensures other_leaf { (keys : Keys) (leaf : ℕ) → (leaf ≡ keys.leaf_of (Dummy 0) → ⊥) → LogOrder keys
+        (log_of (Access 256 None ∷ Drawn (Dummy 0) (record { 0 = leaf }) ∷ Chosen 0 ∷ [])) → ⊥ }
+    ensures accepted { (keys : Keys) (a : ℕ) (c : Counter) (l tag : List ℕ) → LogOrder keys
+        (log_of (block_events keys a c (Accepted (message_of a c l) tag ∷ []))) → ⊥ }
+    ensures other_line { (keys : Keys) (a line : ℕ) (c : Counter) (l : List ℕ) → (line ≡ a → ⊥) → LogOrder keys
+        (log_of (block_events keys a first_counter (fetched (message_of a c l) line zero_line))) → ⊥ }
+    ensures other_value { (keys : Keys) (a : ℕ) (c : Counter) (l value : List ℕ) → (value ≡ zero_line → ⊥)
+        → LogOrder keys (log_of (block_events keys a first_counter (fetched (message_of a c l) a value))) → ⊥ }
+    ensures other_block { (keys : Keys) (a b : ℕ) (c : Counter) (l : List ℕ) → (b ≡ a → ⊥) → LogOrder keys
+        (log_of (block_events keys a first_counter (Tagged (message_of b c l) ∷ Chosen 0 ∷ []))) → ⊥ }
+    ensures own_block { (keys : Keys) (a : ℕ) (c d : Counter) (l k : List ℕ) → LogOrder keys
+        (log_of (block_events keys a first_counter (displaced (message_of a c l) (message_of a d k)))) → ⊥ }
+    ensures unread { (keys : Keys) (a : ℕ) (c : Counter) → is_first c ≡ false → LogOrder keys
+        (log_of (block_events keys a c (drawn_events keys 1008 None (Dummy 0)))) → ⊥ }
+{}
+
+/// Logs of one slot in which the root's reply was altered to a bucket with an entry of the slot's block. The entry is
+/// accepted where it has the valid tag of its line under the point's counter. Refused are another tag, another message
+/// or tag than those that stood in the reply, and any entry of a block that was never accessed.
+pub fn altered_logs_have_rows()
+    ensures found { (keys : Keys) (a : ℕ) (c : Counter) (l t : List ℕ) → CanStand keys a l t
+        → is_first c ≡ false
+        → t ≡ tag keys.tags (message_of a c l) → LogOrder keys (found_log keys a c l t (message_of a c l) t) }
+    ensures other_tag { (keys : Keys) (a : ℕ) (c : Counter) (l t : List ℕ) → CanStand keys a l t
+        → (t ≡ tag keys.tags (message_of a c l) → ⊥)
+        → LogOrder keys (found_log keys a c l t (message_of a c l) t) → ⊥ }
+    ensures other_message { (keys : Keys) (a : ℕ) (c : Counter) (l t : List ℕ) → CanStand keys a l t
+        → (m : Message) (u : List ℕ) → (m ≡ message_of a c l → ⊥) → LogOrder keys (found_log keys a c l t m u) → ⊥ }
+    ensures other_found { (keys : Keys) (a : ℕ) (c : Counter) (l t : List ℕ) → CanStand keys a l t
+        → (m : Message) (u : List ℕ) → (u ≡ t → ⊥) → LogOrder keys (found_log keys a c l t m u) → ⊥ }
+    ensures unexpected { (keys : Keys) (a : ℕ) (c : Counter) (l t : List ℕ) → CanStand keys a l t
+        → (m : Message) (u : List ℕ) → is_first c ≡ true → LogOrder keys (found_log keys a c l t m u) → ⊥ }
+{}
+
+/// What logs show to be wrong. Nothing is wrong in the slot of the first dummy, so no stop is its first verdict, nor
+/// in a block's first slot. A block that was accessed before is missing where no bucket was ever written, and a
+/// message that is appended is one too many for a stash of none. Reads broke off where no more moves are noted than
+/// those down to a level, and not where none is noted, or a write came last. An empty log says buckets of zeros alone.
+pub fn verdicts_have_rows()
+    ensures dummy { (keys : Keys) (stash : ℕ) → verdict_on keys stash (log_of (dummy_events keys 0)) ≡ None }
+    ensures first { (keys : Keys) (stash a : ℕ) → verdict_on keys stash
+        (log_of (block_events keys a first_counter [])) ≡ None }
+    ensures right { (keys : Keys) (stash : ℕ) (stop : Stop) → IsFirstVerdict keys stash
+        (log_of (dummy_events keys 0)) stop → ⊥ }
+    ensures missing { (keys : Keys) (stash a : ℕ) (c : Counter) → is_first c ≡ false → IsFirstVerdict keys stash
+        (log_of (block_events keys a c [])) (Integrity (Missing (record { 0 = a }) c)) }
+    ensures full { (keys : Keys) (a b : ℕ) (c : Counter) (l : List ℕ) → IsFirstVerdict keys 0
+        (log_of (block_events keys a first_counter (Chosen 0 ∷ Tagged (message_of b c l) ∷ []))) (StashFull 1) }
+    ensures breaks_off { (keys : Keys) (stash level : ℕ) → level ≤ keys.shape.levels
+        → BreaksOffReading keys stash (broken_log keys level) }
+    ensures no_moves { (keys : Keys) (stash : ℕ) (events : List Event) → BreaksOffReading keys stash
+        (log_of events) → ⊥ }
+    ensures written { (keys : Keys) (stash at bucket : ℕ) (moves : List Move) (events : List Event)
+        → BreaksOffReading keys stash (moved_log (moves ++ write_move at bucket ∷ []) events) → ⊥ }
+    ensures buckets { (keys : Keys) → SaysMirror keys empty_log Whole (zero_buckets keys.shape.buckets) }
+    ensures other_buckets { (keys : Keys) (mirror : List (List ℕ)) → SaysMirror keys empty_log Whole mirror
+        → mirror ≡ zero_buckets keys.shape.buckets }
+{}
