@@ -15,7 +15,7 @@ mod report;
 mod store;
 
 pub use laws::requests_keep_pace;
-pub use lines::TimedLines;
+pub use lines::{Stopped, TimedLines};
 pub use report::{Ending, Report};
 
 #[cfg(test)]
