@@ -1,5 +1,6 @@
 -- The lines of a file's segments, one after another.
-use Rattle.std.proofs.Common.{◌≡◌, ◌∙◌, ℕ, ◌+◌, ◌<◌, ◌≤◌, List, [], ◌∷◌, ◌++◌, length, drop, append_assoc, ap, sym, refl, arith, append-nil, min, Bool, true, false}
+use Rattle.std.proofs.Common.{◌≡◌, ◌∙◌, ℕ, ◌+◌, ◌<◌, ◌≤◌, List, [], ◌∷◌, ◌++◌, length, drop, append_assoc, ap, sym}
+use Rattle.std.proofs.Common.{refl, arith, append-nil, min, Bool, true, false}
 use Rattle.std.specs.Int.{from_le_bytes, w32}
 use Rattle.std.specs.Prelude.{slice_index, nat_lt, if◌then◌else◌}
 use Rattle.std.specs.List.{flat_map}

@@ -1,5 +1,6 @@
 -- The command `disasm`: it judges the settings, reads the ELF file, and prints the statements of its program.
-use Rattle.std.specs.Prelude.{ℕ, ◌+◌, ◌/◌, ◌%◌, ◌^◌, ◌==◌, nat_lt, Bool, ◌&&◌, if◌then◌else◌, List, [], ◌∷◌, ◌++◌, take, drop, codes}
+use Rattle.std.specs.Prelude.{ℕ, ◌+◌, ◌/◌, ◌%◌, ◌^◌, ◌==◌, nat_lt, Bool, ◌&&◌, if◌then◌else◌, List, [], ◌∷◌, ◌++◌, take}
+use Rattle.std.specs.Prelude.{drop, codes}
 use Rattle.std.specs.List.{flat_map}
 use Rattle.std.specs.Int.{from_le_bytes, w32}
 use Rattle.asc_outside.specs.Host.{Files}

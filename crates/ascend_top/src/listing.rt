@@ -1,5 +1,6 @@
 //! The lines of a program's statements.
-ghost use Rattle.std.specs.Prelude.{◌≡◌, ◌++◌, ◌<◌, ◌≤◌, ◌+◌, ◌/◌, ◌%◌, ◌^◌, ◌∷◌, [], OnOk, IfOk, length, nat_lt, if◌then◌else◌};
+ghost use Rattle.std.specs.Prelude.{◌≡◌, ◌++◌, ◌<◌, ◌≤◌, ◌+◌, ◌/◌, ◌%◌, ◌^◌, ◌∷◌, [], OnOk, IfOk, length, nat_lt};
+ghost use Rattle.std.specs.Prelude.{if◌then◌else◌};
 ghost use Rattle.elf_loader.specs.Elf.{header_at, header_count};
 ghost use Rattle.elf_loader.specs.Faults.{IsReadable};
 ghost use Rattle.ascend_top.specs.Disasm.{column, hex_digit, lines_of, listing_of, segment_lines, word_line};

@@ -49,8 +49,8 @@ module _ (keys : Keys) (stash : ℕ) where
     pub right : verdict_on before ≡ None
     pub wrong : verdict_on log ≡ Some stop
 
-  -- Nothing is wrong before the last slot of a log, whose reads broke off: nothing is noted of it but its point, and the
-  -- log's moves end with reads from its start on, along the path of its leaf.
+  -- Nothing is wrong before the last slot of a log, whose reads broke off: nothing is noted of it but its point, and
+  -- the log's moves end with reads from its start on, along the path of its leaf.
   pub record BreaksOffReading (log : LogLists) : Type 0 where
     pub before : LogLists
     pub last : IsBeforeLast before log

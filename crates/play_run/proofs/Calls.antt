@@ -20,7 +20,8 @@ use Rattle.run_play.specs.Halt as cut
 use Rattle.run_play.specs.Halt.{Refused, Overfull, MoveFails}
 use Rattle.run_play.specs.Requests.{Standing, requested}
 use Rattle.run_play.specs.Slots.{Slot, passed}
-use Rattle.play_run.specs.Given.{IsWhole, told_line, waited, RequestPlays, RequestStops, WaitPlays, WaitStops, CallsPlay}
+use Rattle.play_run.specs.Given.{IsWhole, told_line, waited, RequestPlays, RequestStops, WaitPlays, WaitStops}
+use Rattle.play_run.specs.Given.{CallsPlay}
 
 module _ (keys : Keys) (lawful : AreKeys keys) (levels : ℕ) (config : Config) where
   -- a request is for a line of the settings

@@ -1,6 +1,7 @@
 -- Chains of requests for lines with a clock, and what they note: an instruction is that of the machine that is fed with
 -- the lines that were answered.
-use Rattle.std.proofs.Common.{◌≡◌, ◌<◌, ◌*◌, ◌+◌, ◌++◌, ◌∙◌, ℕ, zero, suc, List, [], ◌∷◌, Result, Ok, Some, length, take, get_or, refl, sym, ap, subst, arith, append_assoc, append-nil}
+use Rattle.std.proofs.Common.{◌≡◌, ◌<◌, ◌*◌, ◌+◌, ◌++◌, ◌∙◌, ℕ, zero, suc, List, [], ◌∷◌, Result, Ok, Some, length}
+use Rattle.std.proofs.Common.{take, get_or, refl, sym, ap, subst, arith, append_assoc, append-nil}
 use Rattle.asc_base.specs.declared.block.Line.{Line}
 use Rattle.asc_base.specs.declared.block.Point.{Point}
 use Rattle.asc_base.specs.declared.stop.Stop.{Stop}
@@ -32,7 +33,8 @@ use Rattle.secure_machine.specs.declared.lines.TimedLines.{TimedLines}
 use Rattle.secure_machine.specs.declared.machine.Cause.TheVariants.{Ends as EndsBy, Stops as StopsBy}
 use Rattle.secure_machine.specs.declared.machine.Halted.{Halted}
 use Rattle.secure_machine.specs.declared.report.Ending.TheVariants.{Exit, Trap, Budget, TimeUp}
-use Rattle.secure_machine.proofs.FedLaws.{Reaches, reaches_none, reaches_more, cause_reached, unbegun_time, unbegun_budget}
+use Rattle.secure_machine.proofs.FedLaws.{Reaches, reaches_none, reaches_more, cause_reached, unbegun_time}
+use Rattle.secure_machine.proofs.FedLaws.{unbegun_budget}
 use Rattle.secure_machine.proofs.FedLaws.{starved_stops, exit_ends, trap_ends}
 use Rattle.secure_machine.proofs.LineChains.{LinesStep}
 use Rattle.secure_machine.proofs.NotedLines.{fetch_lines, store_lines, stop_lines}

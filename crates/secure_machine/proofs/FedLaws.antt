@@ -1,12 +1,14 @@
 -- Runs of the machine that is fed, instruction by instruction, and how they end.
-use Rattle.std.proofs.Common.{◌≡◌, ◌≤◌, ◌+◌, ◌∙◌, ◌++◌, ℕ, zero, suc, Bool, true, false, if◌then◌else◌, List, [], ◌∷◌, Option, None, Some, refl, sym, ap, subst, arith, append_assoc}
+use Rattle.std.proofs.Common.{◌≡◌, ◌≤◌, ◌+◌, ◌∙◌, ◌++◌, ℕ, zero, suc, Bool, true, false, if◌then◌else◌, List, [], ◌∷◌}
+use Rattle.std.proofs.Common.{Option, None, Some, refl, sym, ap, subst, arith, append_assoc}
 use Rattle.std.specs.Int.{from_le_bytes, w32}
 use Rattle.std.specs.Option.{option_and_then}
 use Rattle.asc_base.specs.declared.stop.Stop.{Stop}
 use Rattle.asc_base.specs.declared.stop.Stop.TheVariants as why
 use Rattle.data_cache.specs.CacheLists.{Lines, sets_after}
 use Rattle.fed_run.specs.Answered.{AreLines, feed_of}
-use Rattle.fed_run.specs.Fed.{Feed, FedStep, FedRun, Ends as EndsAs, asks, fed_line, fed_use, fed_uses, fed_after, fed_word, fed_step, fed_on, fed_from, fed_run, fed_before, fed_gone_on, one_before}
+use Rattle.fed_run.specs.Fed.{Feed, FedStep, FedRun, Ends as EndsAs, asks, fed_line, fed_use, fed_uses, fed_after}
+use Rattle.fed_run.specs.Fed.{fed_word, fed_step, fed_on, fed_from, fed_run, fed_before, fed_gone_on, one_before}
 use Rattle.fed_run.proofs.Feeds.{AreLines-append}
 use Rattle.fed_run.proofs.GoOn.{map-found, then-found, run-parts}
 use Rattle.fed_run.proofs.HonestLaws.{fed_run-zero, fed_run-suc}
@@ -25,7 +27,8 @@ use Rattle.secure_machine.specs.FlatEnds.{ending_by}
 use Rattle.secure_machine.specs.declared.machine.Cause.{Cause}
 use Rattle.secure_machine.specs.declared.machine.Cause.TheVariants.{Ends, Stops}
 use Rattle.secure_machine.specs.declared.report.Ending.{Ending}
-use Rattle.secure_machine.specs.declared.report.Ending.TheVariants.{Exit, Trap, Budget, TimeUp, StashFull, Integrity, Device}
+use Rattle.secure_machine.specs.declared.report.Ending.TheVariants.{Exit, Trap, Budget, TimeUp, StashFull, Integrity}
+use Rattle.secure_machine.specs.declared.report.Ending.TheVariants.{Device}
 use Rattle.secure_machine.proofs.FlatLaws.{effected_trap}
 
 -- ---- where no line is left

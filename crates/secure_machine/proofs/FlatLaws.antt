@@ -9,7 +9,8 @@ use Rattle.rv32_core.specs.FlatMachine.{FlatStep, flat_step, effected, bytes_at}
 use Rattle.rv32_core.specs.FlatRun.{FlatRun, Budget as FlatBudget, finished_before, flat_run, run_from, gone_on}
 use Rattle.rv32_core.specs.Machine.{Machine, is_inside, cost_of_word, effect_of_word}
 use Rattle.rv32_core.specs.declared.effect.Effect.{Effect}
-use Rattle.rv32_core.specs.declared.effect.Effect.TheVariants.{Passes, Sets, Jumps, Loads, Stores, Answers, Breaks, Reads, Writes, Exits, Traps}
+use Rattle.rv32_core.specs.declared.effect.Effect.TheVariants.{Passes, Sets, Jumps, Loads, Stores, Answers, Breaks}
+use Rattle.rv32_core.specs.declared.effect.Effect.TheVariants.{Reads, Writes, Exits, Traps}
 use Rattle.rv32_core.specs.declared.outcome.Done.{Done}
 use Rattle.rv32_core.specs.declared.outcome.Ended.{Ended}
 use Rattle.rv32_core.specs.declared.outcome.Ended.TheVariants.{No, Exit as Exits-as, Trap as Traps-as}
@@ -17,12 +18,14 @@ use Rattle.rv32_core.specs.declared.outcome.TrapKind.{TrapKind}
 use Rattle.rv32_core.specs.declared.outcome.TrapKind.TheVariants.{FetchFault}
 use Rattle.rv32_core.proofs.FlatRunLaws.{flat_run-zero, flat_run-suc, flat_run-goes_on}
 use Rattle.rv32_core.proofs.ItemLaws.{step-if}
-use Rattle.secure_machine.specs.FlatEnds.{FlatEnds, EndsFlat, CauseFlat, HaltsFlat, IsFlat, CauseRuns, HaltsRun, ending_by}
+use Rattle.secure_machine.specs.FlatEnds.{FlatEnds, EndsFlat, CauseFlat, HaltsFlat, IsFlat, CauseRuns, HaltsRun}
+use Rattle.secure_machine.specs.FlatEnds.{ending_by}
 use Rattle.secure_machine.specs.declared.machine.Cause.{Cause}
 use Rattle.secure_machine.specs.declared.machine.Cause.TheVariants.{Ends, Stops}
 use Rattle.secure_machine.specs.declared.machine.Halted.{Halted}
 use Rattle.secure_machine.specs.declared.report.Ending.{Ending}
-use Rattle.secure_machine.specs.declared.report.Ending.TheVariants.{Exit, Trap, Budget, TimeUp, StashFull, Integrity, Device}
+use Rattle.secure_machine.specs.declared.report.Ending.TheVariants.{Exit, Trap, Budget, TimeUp, StashFull, Integrity}
+use Rattle.secure_machine.specs.declared.report.Ending.TheVariants.{Device}
 
 -- So many instructions finish, and the flat run goes on at a machine and its bytes.
 abbrev pub Reaches : ℕ → Machine → List ℕ → Machine → List ℕ → Type 0

@@ -1,5 +1,6 @@
 -- Chains of requests for lines with a clock are chains of an encrypted memory's calls, and so refine a list of bytes.
-use Rattle.std.proofs.Common.{zero, suc, ◌+◌, [], ◌∷◌, take, get_or, ◌≡◌, ◌<◌, ◌*◌, ◌⊎◌, ◌∙◌, inl, inr, ℕ, List, Result, Ok, Err, length, refl, sym, ap, subst, arith}
+use Rattle.std.proofs.Common.{zero, suc, ◌+◌, [], ◌∷◌, take, get_or, ◌≡◌, ◌<◌, ◌*◌, ◌⊎◌, ◌∙◌, inl, inr, ℕ, List, Result}
+use Rattle.std.proofs.Common.{Ok, Err, length, refl, sym, ap, subst, arith}
 use Rattle.request_plan.specs.Plan.{Plan, Done, Ask, Ends, Stops, through}
 use Rattle.request_plan.proofs.Keeps.{Ends-has}
 use Rattle.fed_run.proofs.RunChains.{outcomes-through}

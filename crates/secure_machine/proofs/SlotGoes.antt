@@ -35,7 +35,8 @@ use Rattle.rate_enforcer.proofs.Steps.{of_slot}
 use Rattle.rate_enforcer.specs.Stops.{IsEndOf}
 use Rattle.rate_enforcer.specs.declared.clock.Clock.{Clock}
 use Rattle.secure_machine.specs.Goes.{Breaks, PaceAt}
-use Rattle.secure_machine.proofs.PortGoes.{still_asked, goes_then, breaks_then, step_goes, plan_goes, open_breaks, close_breaks}
+use Rattle.secure_machine.proofs.PortGoes.{still_asked, goes_then, breaks_then, step_goes, plan_goes, open_breaks}
+use Rattle.secure_machine.proofs.PortGoes.{close_breaks}
 use Rattle.secure_machine.proofs.PortGoes.{resting_pace}
 
 -- a port of which only the clock's stop and end are set

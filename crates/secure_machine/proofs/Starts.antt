@@ -1,5 +1,6 @@
 -- Before the first slot.
-use Rattle.std.proofs.Common.{◌≡◌, ◌≤◌, ◌<◌, ◌+◌, ◌*◌, ◌^◌, ◌∙◌, ℕ, List, [], Option, None, Some, IsSome, option_map, Result, Ok, Err, IfOk, OnErr, length, refl, sym}
+use Rattle.std.proofs.Common.{◌≡◌, ◌≤◌, ◌<◌, ◌+◌, ◌*◌, ◌^◌, ◌∙◌, ℕ, List, [], Option, None, Some, IsSome, option_map}
+use Rattle.std.proofs.Common.{Result, Ok, Err, IfOk, OnErr, length, refl, sym}
 use Rattle.std.proofs.Common.{ap, subst, arith}
 use Rattle.std.specs.Prelude.{All}
 use Rattle.std.proofs.lemmas.List.Elements.{All-nil}

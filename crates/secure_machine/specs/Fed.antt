@@ -20,7 +20,8 @@ use Rattle.secure_machine.specs.declared.machine.Cause.{Cause}
 use Rattle.secure_machine.specs.declared.machine.Cause.TheVariants.{Ends, Stops}
 use Rattle.secure_machine.specs.declared.machine.Halted.{Halted}
 use Rattle.secure_machine.specs.declared.report.Ending.{Ending}
-use Rattle.secure_machine.specs.declared.report.Ending.TheVariants.{Exit, Trap, Budget, TimeUp, StashFull, Integrity, Device}
+use Rattle.secure_machine.specs.declared.report.Ending.TheVariants.{Exit, Trap, Budget, TimeUp, StashFull, Integrity}
+use Rattle.secure_machine.specs.declared.report.Ending.TheVariants.{Device}
 use Rattle.secure_machine.specs.declared.report.Report.{Report}
 
 -- ---- how the machine that is fed ends

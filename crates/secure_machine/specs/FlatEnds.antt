@@ -12,7 +12,8 @@ use Rattle.secure_machine.specs.declared.machine.Cause.{Cause}
 use Rattle.secure_machine.specs.declared.machine.Cause.TheVariants.{Ends, Stops}
 use Rattle.secure_machine.specs.declared.machine.Halted.{Halted}
 use Rattle.secure_machine.specs.declared.report.Ending.{Ending}
-use Rattle.secure_machine.specs.declared.report.Ending.TheVariants.{Exit, Trap, Budget, TimeUp, StashFull, Integrity, Device}
+use Rattle.secure_machine.specs.declared.report.Ending.TheVariants.{Exit, Trap, Budget, TimeUp, StashFull, Integrity}
+use Rattle.secure_machine.specs.declared.report.Ending.TheVariants.{Device}
 
 -- the flat machine's next instruction ends so, and leaves this machine
 abbrev pub StepsTo : Machine → List ℕ → Ended → Machine → Type 0

@@ -15,7 +15,7 @@ mod report;
 mod store;
 
 pub use laws::requests_keep_pace;
-pub use lines::TimedLines;
+pub use lines::{Stopped, TimedLines};
 pub use report::{Ending, Report};
 
 #[cfg(test)]
@@ -56,7 +56,8 @@ ghost use Rattle.play_run.specs.Shows.{IsPlayed};
 ghost use Rattle.secure_machine.specs.Plays.{play_report, play_with};
 ghost use Rattle.secure_machine.specs.Finish.{IsRightEnding};
 ghost use Rattle.secure_machine.specs.Judged.{ShowsEnding, EndsReplayed, WantsReplayed, SaysWanting, log_end};
-ghost use Rattle.secure_machine.specs.Run.{Reported, Wanting, IsFlatReport, IsUnprepared, IsTiedOr, IsTiedButLast, chip_keys, start_of, IsInBudget, DrawsLeaves};
+ghost use Rattle.secure_machine.specs.Run.{Reported, Wanting, IsFlatReport, IsUnprepared, IsTiedOr, IsTiedButLast};
+ghost use Rattle.secure_machine.specs.Run.{chip_keys, start_of, IsInBudget, DrawsLeaves};
 ghost use Rattle.secure_machine.specs.LastMove.{EndsWithMove};
 ghost use Rattle.secure_machine.specs.Spent.{IsSpentOn};
 ghost use Rattle.secure_machine.specs.Same.{oram_over};
@@ -243,6 +244,9 @@ fn run_prepared<M: UntrustedMemory, W: Watch, L: LeafFn>(
 /// held blocks, a reply that the tap keeps, the mirror and the memory's own write can want any. Where the memory fails
 /// before the first slot the ending is `Device`, and all numbers are 0. The run's schedule ends less than a slot's
 /// cycles after the time of the settings.
+///
+/// Whatever the memory replies, the log tells how the run ended: it notes slots in order, the verdict on them is the
+/// ending, and the buckets are those that it says.
 pub fn run<M: UntrustedMemory, W: Watch, L: LeafFn>(
     alloc: Global,
     config: &Config,

@@ -12,7 +12,8 @@ ghost use Rattle.play_run.specs.Given.{CallsPlay};
 ghost use Rattle.play_run.specs.Shows.{RunShows};
 ghost use Rattle.play_run.specs.Stands.{numbers_of, StandsInImage};
 ghost use Rattle.run_play.specs.Play.{Play};
-ghost use Rattle.secure_machine.specs.Plays.{CallsInPlay, InImage, InRun, LeavesInPlay, StoppedInPlay, HaltsInPlay, EndedInPlay, play_ending};
+ghost use Rattle.secure_machine.specs.Plays.{CallsInPlay, InImage, InRun, LeavesInPlay, StoppedInPlay, HaltsInPlay};
+ghost use Rattle.secure_machine.specs.Plays.{EndedInPlay, play_ending};
 ghost use Rattle.encrypted_run.specs.Refined.{Computes, loaded};
 ghost use Rattle.fed_run.specs.Answered.{feed_of};
 ghost use Rattle.fed_run.specs.Fed.{Feed};
@@ -27,10 +28,12 @@ ghost use Rattle.rv32_core.specs.StepPlan.{machine_of};
 ghost use Rattle.rv32_core.specs.declared.outcome.Done.{Done as DoneValue};
 ghost use Rattle.rv32_core.specs.declared.outcome.Ended.TheVariants.{No};
 ghost use Rattle.secure_machine.specs.Answered.{answered_lines};
-ghost use Rattle.secure_machine.specs.Fed.{noted, over_image, over_loaded, IsFedStep, IsStarvedStep, HaltsFed, CauseFed, IsFedRun};
+ghost use Rattle.secure_machine.specs.Fed.{noted, over_image, over_loaded, IsFedStep, IsStarvedStep, HaltsFed};
+ghost use Rattle.secure_machine.specs.Fed.{CauseFed, IsFedRun};
 ghost use Rattle.secure_machine.specs.FlatEnds.{HaltsFlat, HaltsRun, IsFlat, ending_by};
 ghost use Rattle.secure_machine.specs.Refines.{IsForged, StandFor, Knows, IsUnblamed, EndsUnblamed, CauseUnblamed};
-ghost use Rattle.std.specs.Prelude.{◌≡◌, ◌<◌, ◌*◌, ◌%◌, ℕ, Some, OnOk, OnErr, IfOk, IfErr, MatchResult, vec_len, length};
+ghost use Rattle.std.specs.Prelude.{◌≡◌, ◌<◌, ◌*◌, ◌%◌, ℕ, Some, OnOk, OnErr, IfOk, IfErr, MatchResult, vec_len};
+ghost use Rattle.std.specs.Prelude.{length};
 ghost use Rattle.std.specs.List.{count_by};
 ghost use Rattle.data_cache.specs.Contents.{CacheBelow};
 ghost use Rattle.elf_loader.specs.Memory.{IsImage};
@@ -186,7 +189,8 @@ fn load<M: UntrustedMemory, W: Watch, L: LeafFn>(
     requires ready { Ready M.state W.state L.levels lines.old }
     requires below { CacheBelow lines.old.count cache.old }
     ensures onwards { OnOk result (Onwards M.state W.state L.leaf_of L.levels lines.old lines.new) }
-    ensures halts { IfErr result (λ halted. HaltsOver M.state W.state L.leaf_of L.levels budget halted lines.old lines.new) }
+    ensures halts { IfErr result (λ halted.
+        HaltsOver M.state W.state L.leaf_of L.levels budget halted lines.old lines.new) }
     ensures below { OnOk result (CacheBelow lines.new.count cache.new) }
     ensures none { IfErr result (λ halted. (machine : Machine) (memory : List ℕ)
         → HaltsFlat 0 machine memory halted machine) }
@@ -318,7 +322,8 @@ fn instruction<M: UntrustedMemory, W: Watch, L: LeafFn>(
     ensures forged { AreKeys (keys_in L.leaf_of lines.old) → IsForged M.state W.state L.leaf_of L.levels lines.old
         → IsForged M.state W.state L.leaf_of L.levels lines.new }
     ensures onwards { OnOk result (Onwards M.state W.state L.leaf_of L.levels lines.old lines.new) }
-    ensures halts { IfErr result (λ halted. HaltsOver M.state W.state L.leaf_of L.levels budget halted lines.old lines.new) }
+    ensures halts { IfErr result (λ halted.
+        HaltsOver M.state W.state L.leaf_of L.levels budget halted lines.old lines.new) }
     ensures below { OnOk result (CacheBelow lines.new.count cache.new) }
     ensures refines { (memory : List ℕ) → AreKeys (keys_in L.leaf_of lines.old) → IsCore core.old
         → Knows M.state W.state L.leaf_of L.levels cache.old memory lines.old

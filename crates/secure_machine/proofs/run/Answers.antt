@@ -1,4 +1,5 @@
-use Rattle.std.proofs.Common.{◌≡◌, ◌<◌, ◌+◌, ◌^◌, ◌∙◌, ℕ, List, [], refl, sym, ap, subst, inl, inr, arith, length, IfOk, OnErr}
+use Rattle.std.proofs.Common.{◌≡◌, ◌<◌, ◌+◌, ◌^◌, ◌∙◌, ℕ, List, [], refl, sym, ap, subst, inl, inr, arith, length}
+use Rattle.std.proofs.Common.{IfOk, OnErr}
 use Rattle.std.proofs.lemmas.Result.{IfOk-weaker}
 use Rattle.std.proofs.Math.Pow.{pow_mono}
 use Rattle.std.specs.List.{count_by}
@@ -692,8 +693,9 @@ replayed g c =
       stop = laws.stop keys lawful levels;
       between = laws.between keys lawful levels;
     } in (
-      IfOk-weaker c.run_prepared.result _ _ (λ report. subst (λ (z : Keys). EndsReplayed z config.stash report.ending tap)
-          c.in_ok-oram.ensures.keys) (c.run_prepared.ensures.replays calls),
+      IfOk-weaker c.run_prepared.result _ _ (λ report. subst (λ (z : Keys).
+          EndsReplayed z config.stash report.ending tap) c.in_ok-oram.ensures.keys)
+          (c.run_prepared.ensures.replays calls),
       on_err_so _ _ c.run_prepared.result (c.run_prepared.ensures.replays_err calls)
           (subst (λ (z : Keys). WantsReplayed z config.stash tap) c.in_ok-oram.ensures.keys),
     )
