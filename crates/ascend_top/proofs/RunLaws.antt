@@ -14,12 +14,15 @@ use Rattle.bus_schedule.specs.Scheduled.{log_code}
 use Rattle.bus_schedule.specs.Shown.{indices_of}
 use Rattle.bus_schedule.specs.Timetable.{public_of}
 use Rattle.epoch_learner.specs.Stands.{KeepsPace}
+use Rattle.log_replay.specs.Judged.{SaysMirror}
+use Rattle.log_replay.specs.Order.{LogOrder}
 use Rattle.oram_contents.specs.Forgery.{Forgery}
 use Rattle.rate_enforcer.specs.Counts.{is_answered, is_dummy, is_real}
 use Rattle.play_run.specs.Shows.{IsPlayed}
 use Rattle.secure_machine.specs.Answered.{answered_lines}
 use Rattle.secure_machine.specs.Fed.{IsFed}
 use Rattle.secure_machine.specs.Finish.{IsRightEnding}
+use Rattle.secure_machine.specs.Judged.{ShowsEnding, log_end}
 use Rattle.secure_machine.specs.Plays.{play_report, play_with}
 use Rattle.secure_machine.specs.Run.{DrawsLeaves, IsFlatReport, IsInBudget, IsTiedButLast, IsTiedOr, IsUnprepared}
 use Rattle.secure_machine.specs.declared.report.Ending.TheVariants.{Device, Integrity}
@@ -173,6 +176,7 @@ module _ (config : Config) (image : Image) (input key : List ℕ) (lent : Lent) 
     (budget : IsInBudget config lent.tap'.log)
     (asked : lent.memory'.moved ≡ lent.memory.moved + length lent.tap'.log.moves)
     (unaltered : IsSome lent.memory.told → lent.tap'.log.altered ≡ []) (leaves : DrawsLeaves config lent.tap'.log)
+    (order : LogOrder (keys_from config key) lent.tap'.log)
   where
     pub ran_of : {E : Type 0} (result : Result RunReport E) → IfOk result (λ r. KeepsPace config r.last lent.tap'.log)
         → IfOk result (λ r. r.last < config.time + olat_of config.shape.levels)
@@ -192,11 +196,14 @@ module _ (config : Config) (image : Image) (input key : List ℕ) (lent : Lent) 
         → (lent.tap'.log.altered ≡ []
         → IfOk result (λ r. IsPlayed config (play_with config image input) (play_report r) lent.tap'.log))
         → IfOk result (λ r. IsFed config image input r (answered_lines lent.tap'.log.events))
+        → IfOk result (λ r. ShowsEnding (keys_from config key) config.stash r.ending lent.tap'.log)
+        → IfOk result (λ r. SaysMirror (keys_from config key) lent.tap'.log (log_end r.ending) lent.tap'.mirror
+        ⊎ IsUnprepared r lent.tap lent.tap')
         → IfOk result (IsRunOf config image input key lent)
     ran_of (Err none) pace in_time real dummies tied device right choices code fetches flat honest refines plays played
-        fed = tt
+        fed verdict contents = tt
     ran_of (Ok report) pace in_time real dummies tied device right choices code fetches flat honest refines plays played
-        fed = record {
+        fed verdict contents = record {
           pace = pace;
           in_time = in_time;
           leaves = leaves;
@@ -219,6 +226,9 @@ module _ (config : Config) (image : Image) (input key : List ℕ) (lent : Lent) 
           plays = plays;
           played = played;
           fed = fed;
+          order = order;
+          verdict = verdict;
+          contents = contents;
         }
 
 -- Where the steps of `run` or `gen` before its run were done, and it began so, its run and the steps after it end its

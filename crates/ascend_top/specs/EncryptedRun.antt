@@ -14,6 +14,8 @@ use Rattle.bus_watch.specs.Log.{TapState}
 use Rattle.elf_loader.specs.declared.image.Image.{Image}
 use Rattle.epoch_learner.specs.Stands.{KeepsPace}
 use Rattle.leaf_function.specs.Leaf.{leaf, leaf_key}
+use Rattle.log_replay.specs.Judged.{SaysMirror}
+use Rattle.log_replay.specs.Order.{LogOrder}
 use Rattle.oram_contents.specs.Entries.{Keys}
 use Rattle.oram_contents.specs.Forgery.{Forgery}
 use Rattle.pmmac_tags.specs.Tag.{tag_key}
@@ -22,6 +24,7 @@ use Rattle.play_run.specs.Shows.{IsPlayed}
 use Rattle.secure_machine.specs.Answered.{answered_lines}
 use Rattle.secure_machine.specs.Fed.{IsFed}
 use Rattle.secure_machine.specs.Finish.{IsRightEnding}
+use Rattle.secure_machine.specs.Judged.{ShowsEnding, log_end}
 use Rattle.secure_machine.specs.Plays.{play_report, play_with}
 use Rattle.secure_machine.specs.LastMove.{EndsWithMove}
 use Rattle.secure_machine.specs.Run.{DrawsLeaves, IsFlatReport, IsInBudget, IsTiedButLast, IsTiedOr, IsUnprepared}
@@ -56,7 +59,8 @@ keys_from config master =
 -- asked, and over a memory that told its buckets no reply was altered; where none was, the report is the flat run's,
 -- and the run doesn't end by evidence; a failure has its cause; and the ending is right. Report and log are those of
 -- the program's Play, or of the Play cut by a stop, or the log shows a forgery; and whatever was answered, the report is
--- that of the machine that is fed with the answered lines.
+-- that of the machine that is fed with the answered lines. And whatever was answered, its log notes slots in order, the
+-- verdict on the log is the ending, and the buckets are those that the log says, where the bus was prepared.
 pub record IsRunOf (config : Config) (image : Image) (input key : List ℕ) (lent : Lent) (report : Report)
     : Type 0 where
   pub pace : KeepsPace config report.last lent.tap'.log
@@ -83,6 +87,10 @@ pub record IsRunOf (config : Config) (image : Image) (input key : List ℕ) (len
   pub played : lent.tap'.log.altered ≡ []
       → IsPlayed config (play_with config image input) (play_report report) lent.tap'.log
   pub fed : IsFed config image input report (answered_lines lent.tap'.log.events)
+  pub order : LogOrder (keys_from config key) lent.tap'.log
+  pub verdict : ShowsEnding (keys_from config key) config.stash report.ending lent.tap'.log
+  pub contents : SaysMirror (keys_from config key) lent.tap'.log (log_end report.ending) lent.tap'.mirror
+      ⊎ IsUnprepared report lent.tap lent.tap'
 
 -- The same of a run that found no memory, in it or for the text of its trace: up to some time the log keeps the pace,
 -- and it is on time up to the cycle after its last move.

@@ -1,9 +1,12 @@
-use Rattle.std.proofs.Common.{◌≡◌, ℕ, List, IfOk, inl, inr, ap, subst}
+use Rattle.std.proofs.Common.{◌≡◌, ◌⊎◌, ℕ, List, IfOk, inl, inr, ap, subst}
 use Rattle.std.proofs.lemmas.Result.{IfOk-weaker}
 use Rattle.leaf_function.specs.Leaf.{Keyed, leaf}
 use Rattle.oram_contents.specs.Entries.{Keys}
 use Rattle.oram_contents.specs.Forgery.{Forgery}
-use Rattle.secure_machine.specs.Run.{chip_keys}
+use Rattle.log_replay.specs.Judged.{SaysMirror}
+use Rattle.log_replay.specs.Order.{LogOrder}
+use Rattle.secure_machine.specs.Judged.{ShowsEnding, log_end}
+use Rattle.secure_machine.specs.Run.{IsUnprepared, chip_keys}
 use Rattle.ascend_top.specs.EncryptedRun.{IsRunOf, keys_from, lent_as}
 use Rattle.ascend_top.proofs.RunLaws.{ran_of}
 use Rattle.ascend_top.proofs.TraceLaws.{levels_few}
@@ -33,9 +36,10 @@ returns-clause-ran g c =
     subst (λ (input : List ℕ). IfOk c.run.result (IsRunOf program.config program.image input key lent))
     c.as_slice.ensures.value
     (ran_of program.config program.image c.as_slice.result.now key lent c.run.ensures.bits c.run.ensures.faults
-    c.run.ensures.budget c.run.ensures.asked c.run.ensures.unaltered c.run.ensures.leaves c.run.result
-    c.run.ensures.pace c.run.ensures.last c.run.ensures.real c.run.ensures.dummies c.run.ensures.tied c.run.ensures.device c.run.ensures.right
-    c.run.ensures.choices c.run.ensures.code c.run.ensures.fetches c.run.ensures.flat_unaltered c.run.ensures.honest
+    c.run.ensures.budget c.run.ensures.asked c.run.ensures.unaltered c.run.ensures.leaves
+    (subst (λ (z : Keys). LogOrder z lent.tap'.log) same c.run.ensures.order) c.run.result c.run.ensures.pace
+    c.run.ensures.last c.run.ensures.real c.run.ensures.dummies c.run.ensures.tied c.run.ensures.device
+    c.run.ensures.right c.run.ensures.choices c.run.ensures.code c.run.ensures.fetches c.run.ensures.flat_unaltered c.run.ensures.honest
     (IfOk-weaker c.run.result _ _ (λ report known. elim known [
       | inl forged ↦ inl (subst (λ (z : Keys). Forgery z lent.tap'.log) same forged)
       | inr flat ↦ inr flat
@@ -44,4 +48,8 @@ returns-clause-ran g c =
       | inl forged ↦ inl (subst (λ (z : Keys). Forgery z lent.tap'.log) same forged)
       | inr played ↦ inr played
     ]) c.run.ensures.plays)
-    c.run.ensures.plays_unaltered c.run.ensures.fed)
+    c.run.ensures.plays_unaltered c.run.ensures.fed
+    (IfOk-weaker c.run.result _ _ (λ report. subst (λ (z : Keys). ShowsEnding z program.config.stash report.ending
+    lent.tap'.log) same) c.run.ensures.verdict)
+    (IfOk-weaker c.run.result _ _ (λ report. subst (λ (z : Keys). SaysMirror z lent.tap'.log (log_end report.ending)
+    lent.tap'.mirror ⊎ IsUnprepared report lent.tap lent.tap') same) c.run.ensures.contents))
