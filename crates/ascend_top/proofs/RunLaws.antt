@@ -25,6 +25,7 @@ use Rattle.secure_machine.specs.Finish.{IsRightEnding}
 use Rattle.secure_machine.specs.Judged.{ShowsEnding, log_end}
 use Rattle.secure_machine.specs.Plays.{play_report, play_with}
 use Rattle.secure_machine.specs.Run.{DrawsLeaves, IsFlatReport, IsInBudget, IsTiedButLast, IsTiedOr, IsUnprepared}
+use Rattle.secure_machine.specs.Spent.{IsSpentOn}
 use Rattle.secure_machine.specs.declared.report.Ending.TheVariants.{Device, Integrity}
 use Rattle.secure_machine.specs.declared.report.Report.{Report as RunReport}
 use Rattle.elf_loader.specs.Elf.{entry_of}
@@ -188,6 +189,7 @@ module _ (config : Config) (image : Image) (input key : List ℕ) (lent : Lent) 
         → IfOk result (λ r. r.choices ≡ length (indices_of lent.tap'.log.events))
         → IfOk result (λ r. r.code ≡ log_code (public_of config) lent.tap'.log)
         → IfOk result (λ r. r.fetches ≡ count_by is_answered lent.tap'.log.events)
+        → IfOk result (λ r. IsSpentOn config image input r lent.tap'.log)
         → (lent.tap'.log.altered ≡ [] → IfOk result (IsFlatReport config image input))
         → (lent.tap'.log.altered ≡ [] → IfOk result (λ r. (evidence : Evidence) → r.ending ≡ Integrity evidence → ⊥))
         → IfOk result (λ r. Forgery (keys_from config key) lent.tap'.log ⊎ IsFlatReport config image input r)
@@ -200,10 +202,10 @@ module _ (config : Config) (image : Image) (input key : List ℕ) (lent : Lent) 
         → IfOk result (λ r. SaysMirror (keys_from config key) lent.tap'.log (log_end r.ending) lent.tap'.mirror
         ⊎ IsUnprepared r lent.tap lent.tap')
         → IfOk result (IsRunOf config image input key lent)
-    ran_of (Err none) pace in_time real dummies tied device right choices code fetches flat honest refines plays played
-        fed verdict contents = tt
-    ran_of (Ok report) pace in_time real dummies tied device right choices code fetches flat honest refines plays played
-        fed verdict contents = record {
+    ran_of (Err none) pace in_time real dummies tied device right choices code fetches spent flat honest refines plays
+        played fed verdict contents = tt
+    ran_of (Ok report) pace in_time real dummies tied device right choices code fetches spent flat honest refines plays
+        played fed verdict contents = record {
           pace = pace;
           in_time = in_time;
           leaves = leaves;
@@ -217,6 +219,7 @@ module _ (config : Config) (image : Image) (input key : List ℕ) (lent : Lent) 
           choices = choices;
           code = code;
           fetches = fetches;
+          spent = spent;
           budget = budget;
           asked = asked;
           unaltered = unaltered;

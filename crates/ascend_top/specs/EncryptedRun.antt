@@ -29,6 +29,7 @@ use Rattle.secure_machine.specs.Plays.{play_report, play_with}
 use Rattle.secure_machine.specs.LastMove.{EndsWithMove}
 use Rattle.secure_machine.specs.Run.{DrawsLeaves, IsFlatReport, IsInBudget, IsTiedButLast, IsTiedOr, IsUnprepared}
 use Rattle.secure_machine.specs.Run.{chip_keys}
+use Rattle.secure_machine.specs.Spent.{IsSpentOn}
 use Rattle.secure_machine.specs.declared.report.Ending.TheVariants.{Device, Integrity}
 use Rattle.secure_machine.specs.declared.report.Report.{Report}
 
@@ -58,9 +59,10 @@ keys_from config master =
 -- the settings allow; slots, choices, their code and answered lines are as reported; it is tied to what the memory was
 -- asked, and over a memory that told its buckets no reply was altered; where none was, the report is the flat run's,
 -- and the run doesn't end by evidence; a failure has its cause; and the ending is right. Report and log are those of
--- the program's Play, or of the Play cut by a stop, or the log shows a forgery; and whatever was answered, the report is
--- that of the machine that is fed with the answered lines. And whatever was answered, its log notes slots in order, the
--- verdict on the log is the ending, and the buckets are those that the log says, where the bus was prepared.
+-- the program's Play, or of the Play cut by a stop, or the log shows a forgery. And whatever was answered, the report
+-- is that of the machine that is fed with the answered lines, its clock is no further than what its cycles were spent
+-- on, the log notes slots in order, the verdict on it is the ending, and where the bus was prepared the buckets are
+-- those that it says.
 pub record IsRunOf (config : Config) (image : Image) (input key : List ℕ) (lent : Lent) (report : Report)
     : Type 0 where
   pub pace : KeepsPace config report.last lent.tap'.log
@@ -76,6 +78,7 @@ pub record IsRunOf (config : Config) (image : Image) (input key : List ℕ) (len
   pub choices : report.choices ≡ length (indices_of lent.tap'.log.events)
   pub code : report.code ≡ log_code (public_of config) lent.tap'.log
   pub fetches : report.fetches ≡ count_by is_answered lent.tap'.log.events
+  pub spent : IsSpentOn config image input report lent.tap'.log
   pub budget : IsInBudget config lent.tap'.log
   pub asked : lent.memory'.moved ≡ lent.memory.moved + length lent.tap'.log.moves
   pub unaltered : IsSome lent.memory.told → lent.tap'.log.altered ≡ []

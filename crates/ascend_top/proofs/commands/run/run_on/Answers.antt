@@ -39,7 +39,8 @@ returns-clause-ran g c =
     c.run.ensures.budget c.run.ensures.asked c.run.ensures.unaltered c.run.ensures.leaves
     (subst (λ (z : Keys). LogOrder z lent.tap'.log) same c.run.ensures.order) c.run.result c.run.ensures.pace
     c.run.ensures.last c.run.ensures.real c.run.ensures.dummies c.run.ensures.tied c.run.ensures.device
-    c.run.ensures.right c.run.ensures.choices c.run.ensures.code c.run.ensures.fetches c.run.ensures.flat_unaltered c.run.ensures.honest
+    c.run.ensures.right c.run.ensures.choices c.run.ensures.code c.run.ensures.fetches c.run.ensures.spent
+    c.run.ensures.flat_unaltered c.run.ensures.honest
     (IfOk-weaker c.run.result _ _ (λ report known. elim known [
       | inl forged ↦ inl (subst (λ (z : Keys). Forgery z lent.tap'.log) same forged)
       | inr flat ↦ inr flat
