@@ -34,9 +34,9 @@ block_events keys a c more = drawn_events keys 256 (Some 0) (real a c) ++ more
 abbrev pub fetched : Message → ℕ → List ℕ → List Event
 fetched m line value = Tagged m ∷ Answered line (record { 0 = value }) ∷ []
 
--- a message is put back, a rate is chosen, and another message is appended
-abbrev pub displaced : Message → Message → List Event
-displaced m other = Tagged m ∷ Chosen 0 ∷ Tagged other ∷ []
+-- a rate is chosen, and a message is appended
+abbrev pub displaced : Message → List Event
+displaced m = Chosen 0 ∷ Tagged m ∷ []
 
 -- a log whose first slot broke off in its reads, behind the one at a level
 abbrev pub broken_log : Keys → ℕ → LogLists

@@ -1,6 +1,6 @@
 use Rattle.log_replay.proofs.OrderRows.{none, dummy, first, appended, bare, second, no_slot, no_point, other_number}
 use Rattle.log_replay.proofs.OrderRows.{same_number, asked_dummy, tagged_dummy, unasked_block, other_leaf, accepted}
-use Rattle.log_replay.proofs.OrderRows.{other_line}
+use Rattle.log_replay.proofs.OrderRows.{stored, other_line, other_put, unput, both_tagged}
 use Rattle.log_replay.proofs.OrderRows.{other_value, other_block, own_block, unread}
 use Rattle.log_replay.proofs.rows.logs_have_rows.Goals as goal
 
@@ -9,6 +9,7 @@ returns c = record {
   none = none;
   dummy = dummy;
   first = first;
+  stored = stored;
   appended = appended;
   bare = bare;
   second = second;
@@ -23,7 +24,10 @@ returns c = record {
   accepted = accepted;
   other_line = other_line;
   other_value = other_value;
+  other_put = other_put;
+  unput = unput;
   other_block = other_block;
   own_block = own_block;
+  both_tagged = both_tagged;
   unread = unread;
 }
