@@ -19,16 +19,17 @@ ghost use Rattle.oram_contents.specs.Slots.{drawn_events};
 ghost use Rattle.oram_contents.specs.Starts.{empty_log};
 ghost use Rattle.oram_contents.specs.Verdict.{is_first};
 ghost use Rattle.pmmac_tags.specs.Tag.{tag};
-ghost use Rattle.posmap_counters.specs.Counters.{first_counter};
+ghost use Rattle.posmap_counters.specs.Counters.{first_counter, IsBefore};
 ghost use Rattle.log_replay.specs.Judged.{verdict_on, IsFirstVerdict, BreaksOffReading, EndsLog, SaysMirror};
 ghost use Rattle.log_replay.specs.Order.{LogOrder};
 ghost use Rattle.log_replay.specs.Rows.{log_of, moved_log, dummy_events, block_events, fetched, displaced, broken_log};
-ghost use Rattle.log_replay.specs.Rows.{CanStand, found_log};
+ghost use Rattle.log_replay.specs.Rows.{CanStand, IsTopLine, found_log, again_log, found_again};
 
 /// Logs in order, in which no reply was altered, and logs that aren't. The empty log is in order; the slot of the
 /// first dummy; a block's first slot, in which zeros are put back and answered, or any line of it is put back, or
 /// nothing, and another block's message is appended behind it; a slot of which nothing is noted but its point, be it
-/// the first or behind a dummy. Refused are a log that doesn't begin with a slot, a dummy with another number, or that
+/// the first or behind a dummy; a block's second slot, which accepts what the first put back, answers it and puts it
+/// back again. Refused are a log that doesn't begin with a slot, a dummy with another number, or that
 /// was asked for, or in which something is put back, a block's slot that nobody asked for, a leaf that isn't the
 /// point's, a line that was accepted though nothing was at hand, another line's number or value in an answer, an answer
 /// where another line or nothing was put back, another block's message that is put back, the slot's own that is
@@ -45,6 +46,9 @@ pub fn logs_have_rows()
     ensures bare { (keys : Keys) (a : ℕ) (c : Counter) → LogOrder keys (log_of (block_events keys a c [])) }
     ensures second { (keys : Keys) → LogOrder keys
         (log_of (dummy_events keys 0 ++ drawn_events keys 1008 None (Dummy 1))) }
+    ensures read_back { (keys : Keys) (a : ℕ) (d e : Counter) (l : List ℕ) → IsTopLine keys a l
+        → IsBefore first_counter d → LogOrder keys
+        (again_log keys a d l (found_again keys a d l (fetched (message_of a e l) a l))) }
     ensures no_slot { (keys : Keys) (line : ℕ) (events : List Event) → LogOrder keys
         (log_of (Answered line (record { 0 = zero_line }) ∷ events)) → ⊥ }
     ensures no_point { (keys : Keys) → LogOrder keys (log_of (Access 256 None ∷ Chosen 0 ∷ [])) → ⊥ }
