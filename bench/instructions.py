@@ -81,9 +81,10 @@ def least_time(command, folder, wanted):
 
 
 def show(name, command, folder, loop, empty, report):
-    seconds = least_time(command(loop), folder, report) - least_time(command(empty), folder, b"")
-    rate = INSTRUCTIONS / seconds / 1e6
-    print(f"{name}: {INSTRUCTIONS} instructions in {seconds:.3f} s, {rate:.1f} million a second")
+    whole = least_time(command(loop), folder, report)
+    start = least_time(command(empty), folder, b"")
+    took = whole - start
+    print(f"{name}: {INSTRUCTIONS} instructions in {took:.3f} s, {INSTRUCTIONS / took / 1e6:.1f} million a second")
 
 
 def main():

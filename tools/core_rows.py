@@ -1,8 +1,8 @@
 #!/usr/bin/env python3
 """Prints the rows of the tests of rv32_core: words by the formats of the RISC-V unprivileged manual (RV32I 2.1, M 2.0,
-Zifencei), and what they do, computed by an interpreter over Python's whole numbers. The host calls are those of the
-crate's specs/Machine.antt, and the costs those of the crate cycle_table. With `--assembler AS` the words are compared
-with those of a GNU assembler for riscv.
+Zifencei), and what they do, computed by an interpreter over Python's whole numbers. The host calls are those of
+the crate's specs/Machine.antt, and the costs those of the crate cycle_table. With `--assembler AS` the words are
+compared with those of a GNU assembler for riscv.
 """
 import subprocess
 import sys
@@ -101,14 +101,14 @@ class Machine:
         elif code == 0x17:
             self.set(rd, self.pc + (word & 0xFFFFF000))
         elif code == 0x6F:
-            bits = (word >> 31) << 20 | (word >> 12 & 255) << 12 | (word >> 20 & 1) << 11 | (word >> 21 & 1023) << 1
-            offset = signed(bits, 21)
+            offset = signed((word >> 31) << 20 | (word >> 12 & 255) << 12 | (word >> 20 & 1) << 11
+                            | (word >> 21 & 1023) << 1, 21)
             return self.jump(rd, (self.pc + offset) % WORD)
         elif code == 0x67 and f3 == 0:
             return self.jump(rd, (a + imm) % WORD & ~1)
         elif code == 0x63 and f3 in BRANCHES.values():
-            bits = (word >> 31) << 12 | (word >> 7 & 1) << 11 | (word >> 25 & 63) << 5 | (word >> 8 & 15) << 1
-            offset = signed(bits, 13)
+            offset = signed((word >> 31) << 12 | (word >> 7 & 1) << 11 | (word >> 25 & 63) << 5
+                            | (word >> 8 & 15) << 1, 13)
             less = signed(a) < signed(b) if f3 < 6 else a < b
             if (a == b if f3 < 4 else less) != bool(f3 & 1):
                 return self.jump(0, (self.pc + offset) % WORD)
@@ -289,8 +289,8 @@ def jumps():
         steps = 2 if len(texts) > 1 else 1
         (finished, ended, cost), pc = m.run(steps), m.pc
         assert (finished, ended) == (steps, "GOES_ON"), texts
-        numbers = f"{steps}, {shown(x)}, {shown(y)}, {shown(m.x[7])}, {shown(pc)}, {cost}"
-        yield "; ".join(texts), f"(&[{codes(texts)}], {numbers})"
+        left = f"{shown(m.x[7])}, {shown(pc)}, {cost}"
+        yield "; ".join(texts), f"(&[{codes(texts)}], {steps}, {shown(x)}, {shown(y)}, {left})"
 
 
 def accesses():
@@ -350,8 +350,7 @@ def calls():
     cases = [
         [(63, 7, 6144, 1), (64, 7, 6144, 1), (64, 0, 6144, 1), (63, 1, 6144, 1), (63, 0, end - 1, 2),
          (64, 2, end - 1, 2), (63, 0, BASE - 1, 1), (64, 1, WORD - 1, WORD - 1), (63, 7, WORD - 1, WORD - 1),
-         (63, 0, WORD - 1, 0),
-         (64, 1, 0, 0), (1000, 5, 6, 7), (0, 5, 6, 7), (WORD - 1, 5, 6, 7), (93, 0x1FF, 0, 0)],
+         (63, 0, WORD - 1, 0), (64, 1, 0, 0), (1000, 5, 6, 7), (0, 5, 6, 7), (WORD - 1, 5, 6, 7), (93, 0x1FF, 0, 0)],
         # the break: below the first, at it, in between, at the memory's end, past it, and where it is now
         [(214, 0, 0, 0), (214, 6159, 0, 0), (214, 6160, 0, 0), (214, 7000, 0, 0), (214, 0, 0, 0), (214, end, 0, 0),
          (214, end + 1, 0, 0), (214, WORD - 1, 0, 0), (214, 6160, 0, 0), (214, 6159, 0, 0), (93, 0, 0, 0)],
@@ -376,9 +375,9 @@ def calls():
         for row in case:
             assert m.run(4) == (4, "GOES_ON", 8)
             finished, ended, cost = m.run(1)
-            words = f"[{', '.join(map(shown, row[1:]))}]"
-            line = f"        ({row[0]}, {words}, {ended}, {shown(m.x[10])}, {cost}, {len(m.output)}),"
-            print(line.replace(str(WORD - 1), "u32::MAX"))
+            given = f"{row[0]}, [{', '.join(map(shown, row[1:]))}]"
+            left = f"{ended}, {shown(m.x[10])}, {cost}, {len(m.output)}"
+            print(f"        ({given}, {left}),".replace(str(WORD - 1), "u32::MAX"))
             if ended != "GOES_ON":
                 break
             assert m.run(2) == (2, "GOES_ON", 3)
@@ -434,8 +433,8 @@ def compare(assembler):
     with tempfile.TemporaryDirectory() as place:
         with open(f"{place}/rows.s", "w") as source:
             source.write("".join(relative(text) + "\n" for text in texts))
-        command = [assembler, "-march=rv32im_zifencei", "-mabi=ilp32", "-mno-relax"]
-        subprocess.run([*command, "-o", f"{place}/rows.o", f"{place}/rows.s"], check=True)
+        flags = ["-march=rv32im_zifencei", "-mabi=ilp32", "-mno-relax"]
+        subprocess.run([assembler, *flags, "-o", f"{place}/rows.o", f"{place}/rows.s"], check=True)
         copy = assembler[:-2] + "objcopy"
         subprocess.run([copy, "-O", "binary", "-j", ".text", f"{place}/rows.o", f"{place}/rows.bin"], check=True)
         with open(f"{place}/rows.bin", "rb") as binary:
@@ -447,8 +446,9 @@ def compare(assembler):
 
 
 def main():
-    for rows in (arithmetic, jumps, accesses, traps, programs):
-        print(f"{rows.__name__}:")
+    for name, rows in [("arithmetic", arithmetic), ("jumps", jumps), ("accesses", accesses), ("traps", traps),
+                       ("programs", programs)]:
+        print(f"{name}:")
         before = ""
         for comment, row in rows():
             print(f"    // {comment}\n" * (comment != before) + f"    {row},")

@@ -12,7 +12,7 @@ use Rattle.oram_walk.specs.declared.slots.Seen.{Seen}
 use Rattle.rate_enforcer.specs.PortStep.{PortState}
 use Rattle.log_replay.specs.Judged.{verdict_on}
 use Rattle.log_replay.specs.Replayed.{StopsReplayed}
-use Rattle.log_replay.proofs.Along.{Stays, port_of, one_more, slot_stays, append_stays, answer_stays}
+use Rattle.log_replay.proofs.Along.{behind_refill, Stays, port_of, one_more, slot_stays, append_stays, answer_stays}
 use Rattle.log_replay.proofs.Asks.{Last, IsBeside, AsksRightly}
 use Rattle.log_replay.proofs.Ports.{between_replays}
 use Rattle.log_replay.proofs.StopBehind.{append_stops, answer_stops}
@@ -36,10 +36,11 @@ module _ (keys : Keys) (lawful : AreKeys keys) (levels : ℕ) where
       → Stays keys levels stash last s → IsBeside keys.shape.total last m
       → SlotStep keys levels s (Append m) (Err stop) t → StopsReplayed keys stash stop t
   last_stops stash None m stop s t h beside step = absurd beside
-  last_stops stash (Some (a, line)) m stop s t h beside step =
-      let left = one_more keys levels stash (a, line) s h in
+  last_stops stash (Some (access, found)) m stop s t h beside step =
+      let left = one_more keys levels stash (access, found) s h in
       subst (λ n. StopsReplayed keys n stop t) h.same
-      (append_stops keys levels left.0 a line.line.0 s t h.stands left.1 m stop beside.0 step)
+      (append_stops keys levels left.0 access.address.0 found.line.0 s t
+      (behind_refill keys access found s beside.0 h.stands) left.1 m stop beside.1 step)
 
   -- a plan that is stopped
   pub along_stops : {B A : Type 0} (stash : ℕ) (P : Last → A → Type 0) (plan : Plan Request Seen B A) (last : Last)
@@ -58,7 +59,7 @@ module _ (keys : Keys) (lawful : AreKeys keys) (levels : ℕ) where
       subst (λ (e : Stop). StopsReplayed keys stash e t) (sym stops.0.0)
       (room_stops stash last t (subst (Stays keys levels stash last) (sym stops.0.1) h))
   along_stops stash P (Ask (Slot access) b k) last s t stop left asks h (inr stops) =
-      along_stops stash P (k stops.0) (Some (access.address.0, stops.0)) stops.1 t stop left (asks.2 stops.0)
+      along_stops stash P (k stops.0) (Some (access, stops.0)) stops.1 t stop left (asks.2 stops.0)
       (slot_stays keys lawful levels stash last access stops.0 s stops.1 h asks.0 asks.1 stops.2) stops.3
   along_stops stash P (Ask (Append m) b k) last s t stop left asks h (inr stops) =
       along_stops stash P (k stops.0) None stops.1 t stop left (asks.1 stops.0)

@@ -31,7 +31,7 @@ use Rattle.rate_enforcer.specs.Counts.{is_dummy}
 use Rattle.rate_enforcer.proofs.Counted.{count_more}
 use Rattle.log_replay.specs.Judged.{verdict_on}
 use Rattle.log_replay.specs.Order.{Behind, Appends, Answers, SlotNotes, accepted_events, chosen_events, behind_events}
-use Rattle.log_replay.specs.Order.{events_of, MayStand, IsTaken, IsDone, AreInOrder, AreDone, LogOrder}
+use Rattle.log_replay.specs.Order.{events_of, put_line, MayStand, IsTaken, IsDone, AreInOrder, AreDone, LogOrder}
 use Rattle.log_replay.proofs.BlockSlots.{IsBehindBlock}
 use Rattle.log_replay.proofs.Orders.{all_events, behind_none, read_kept, order_kept, all_done_kept, order_more}
 use Rattle.log_replay.proofs.Orders.{done_more, order_front, order_last, done_front}
@@ -54,8 +54,9 @@ joins_last : (d a p c b : List Event) → (d ++ (a ++ (p ++ (c ++ [])))) ++ b �
 joins_last d a p c b = simp (append_assoc, append-nil)
 
 module _ (keys : Keys) (stash : ℕ) (old new : LogLists) (now : Contents) (n a : ℕ) (line : List ℕ)
-    (x : IsBehindBlock keys stash old now n a line) (b : Behind) (altered : new.altered ≡ old.altered)
-    (events : new.events ≡ old.events ++ behind_events b) (may : MayStand a x.last.found b) where
+    (put : Option Message) (x : IsBehindBlock keys stash old now n a line put) (b : Behind)
+    (altered : new.altered ≡ old.altered) (events : new.events ≡ old.events ++ behind_events b)
+    (may : MayStand a x.last.found put b) where
   -- the last slot with what stands behind it
   abbrev stood : SlotNotes
   stood = record x.last { behind = b }
@@ -91,7 +92,8 @@ module _ (keys : Keys) (stash : ℕ) (old new : LogLists) (now : Contents) (n a 
   last_done =
       let d = (done_front keys old [] x.before x.last all_done).1 in
       let taken = subst (λ p. IsTaken keys d.joined p x.last) x.point d.taken in
-      let now_taken : IsTaken keys d.joined (real a x.counter) stood = (taken.0, taken.1, may) in
+      let now_taken : IsTaken keys d.joined (real a x.counter) stood =
+      (taken.0, taken.1, subst (λ p. MayStand a x.last.found p b) (sym x.put_is) may) in
       record {
         joined = d.joined;
         read = read_kept keys old new [] more (all_events keys x.before) x.last d.joined (λ reply h. absurd h) d.read;
@@ -134,14 +136,15 @@ module _ (keys : Keys) (stash : ℕ) (old new : LogLists) (now : Contents) (n a 
   }
 
 module _ (keys : Keys) (stash : ℕ) (old new : LogLists) (now : Contents) (n a : ℕ) (line : List ℕ)
-    (x : IsBehindBlock keys stash old now n a line) (altered : new.altered ≡ old.altered) where
+    (altered : new.altered ≡ old.altered) where
   -- another block's message is appended
-  pub append_replayed : AreKeys keys → (m : Message) → (m.address.0 ≡ a → ⊥) → m.address.0 < keys.shape.total
-      → length m.line.0 ≡ 64 → new.events ≡ old.events ++ Tagged m ∷ []
+  pub append_replayed : (x : IsBehindBlock keys stash old now n a line None) → AreKeys keys → (m : Message)
+      → (m.address.0 ≡ a → ⊥) → m.address.0 < keys.shape.total → length m.line.0 ≡ 64
+      → new.events ≡ old.events ++ Tagged m ∷ []
       → append_verdict stash m.address now.hand ≡ None
       → IsReplayedLog keys stash new (with_entry now (tagged_entry keys m)) n
-  append_replayed lawful m other inside wide events right =
-      behind_replayed keys stash old new now n a line x (Appends m) altered events other
+  append_replayed x lawful m other inside wide events right =
+      behind_replayed keys stash old new now n a line None x (Appends m) altered events (refl, other)
       (with_entry now (tagged_entry keys m))
       (whole_append keys (first_fold keys) old new now m x.replayed.contents_are shut events altered)
       (append_shows keys stash (first_fold keys) old new m shut events altered
@@ -157,14 +160,15 @@ module _ (keys : Keys) (stash : ℕ) (old new : LogLists) (now : Contents) (n a 
       shut : is_open_for m (fold_events keys old.altered 0 old.events (first_fold keys)).path ≡ false
       shut = x.path m other
 
-  -- the line that was found is answered
-  pub answer_replayed : (number : ℕ) (value : Line) → number ≡ a → value.0 ≡ line
+  -- the line that was found and put back is answered
+  pub answer_replayed : (put : Option Message) (x : IsBehindBlock keys stash old now n a line put) (number : ℕ)
+      (value : Line) → number ≡ a → value.0 ≡ line → put_line put ≡ Some value
       → new.events ≡ old.events ++ Answered number value ∷ [] → IsReplayedLog keys stash new now n
-  answer_replayed number value is line_is events =
+  answer_replayed put x number value is line_is back events =
       let adds : Adds old new (Answered number value ∷ []) [] = record
       { events_are = events; altered_are = altered ∙ sym (append-nil old.altered) } in
-      behind_replayed keys stash old new now n a line x (Answers number value) altered events
-      (is, line_is ∙ x.line_is) now
+      behind_replayed keys stash old new now n a line put x (Answers number value) altered events
+      (is, line_is ∙ x.line_is, back) now
       (ap₂ (λ l k. (settle keys (fold_events keys l 0 k (first_fold keys))).now) altered events
       ∙ ap (λ f. (settle keys f).now) (fold_append keys old.altered 0 old.events (Answered number value ∷ [])
       (first_fold keys)) ∙ x.replayed.contents_are)

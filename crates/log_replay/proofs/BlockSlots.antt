@@ -32,9 +32,10 @@ use Rattle.log_replay.proofs.ReplayedLogs.{IsReplayedLog, AddsSlot, in_turn, cho
 use Rattle.log_replay.proofs.Rests.{write_right}
 use Rattle.log_replay.proofs.SlotSteps.{slot_replayed, slot_path}
 
--- Behind the slot of a block in which this line was found nothing stands yet, and no other block's path is open.
+-- Behind the slot of a block in which this line was found, and this message put back, if one was, nothing stands yet,
+-- and no other block's path is open.
 pub record IsBehindBlock (keys : Keys) (stash : ℕ) (log : LogLists) (now : Contents) (n a : ℕ) (line : List ℕ)
-    : Type 0 where
+    (put : Option Message) : Type 0 where
   pub replayed : IsReplayedLog keys stash log now n
   pub before : List SlotNotes
   pub last : SlotNotes
@@ -42,6 +43,7 @@ pub record IsBehindBlock (keys : Keys) (stash : ℕ) (log : LogLists) (now : Con
   pub counter : Counter
   pub point : last.point ≡ real a counter
   pub line_is : line ≡ line_found last.found
+  pub put_is : last.put ≡ put
   pub bare : last.behind ≡ Nothing
   pub path : (m : Message) → (m.address.0 ≡ a → ⊥)
       → is_open_for m (fold_events keys log.altered 0 log.events (first_fold keys)).path ≡ false
@@ -108,7 +110,7 @@ module _ (keys : Keys) (lawful : AreKeys keys) (stash : ℕ) (old log new : LogL
   behind_added : (put : Option Message)
       → AddsSlot keys stash old new now n (block_notes start time a c found put (chosen_at log new ends))
       → whole keys (first_fold keys) new ≡ after → Always keys new after
-      → IsBehindBlock keys stash new after n a (line_found found)
+      → IsBehindBlock keys stash new after n a (line_found found) put
   behind_added put adds is always =
       let s = block_notes start time a c found put (chosen_at log new ends) in
       let r = slot_replayed keys stash old new now n s y adds after is always in
@@ -120,6 +122,7 @@ module _ (keys : Keys) (lawful : AreKeys keys) (stash : ℕ) (old log new : LogL
         counter = c;
         point = refl;
         line_is = refl;
+        put_is = refl;
         bare = refl;
         path = λ m other. slot_path keys stash old new now n s y adds m a c refl other;
       }
@@ -127,7 +130,7 @@ module _ (keys : Keys) (lawful : AreKeys keys) (stash : ℕ) (old log new : LogL
   -- a slot after which the block is put back
   pub access_behind : (d : Counter) (l : List ℕ) (x : IsAccess keys old log now after start a c d found l)
       → x.asked ≡ Some time → a < keys.shape.total → length l ≡ 64
-      → IsBehindBlock keys stash new after n a (line_found found)
+      → IsBehindBlock keys stash new after n a (line_found found) (Some (message_of a d l))
   access_behind d l x asked inside wide =
       behind_added (Some (message_of a d l)) adds
       (whole_ends keys (first_fold keys) log new ends
@@ -162,7 +165,7 @@ module _ (keys : Keys) (lawful : AreKeys keys) (stash : ℕ) (old log new : LogL
 
   -- a slot after which the block is held back
   pub refill_behind : (x : IsRefill keys old log now after start a c found) → x.asked ≡ Some time
-      → IsBehindBlock keys stash new after n a (line_found found)
+      → IsBehindBlock keys stash new after n a (line_found found) None
   refill_behind x asked =
       behind_added None adds
       (whole_ends keys (first_fold keys) log new ends

@@ -1,7 +1,7 @@
 -- The plans of a front end ask rightly, whatever is answered: it stays one of its shape, accesses blocks of the shape,
 -- and appends another block than the one that was accessed.
 use Rattle.std.proofs.Common.{◌≡◌, ◌<◌, ◌≤◌, ◌+◌, ℕ, zero, suc, Bool, true, false, length, Option, None, Some, IsNone}
-use Rattle.std.proofs.Common.{IfSome, is_some, refl, sym, ap, subst, arith}
+use Rattle.std.proofs.Common.{IfSome, is_some, refl, sym, ◌∙◌, ap, subst, arith}
 use Rattle.std.specs.Option.{option_map_or}
 use Rattle.request_plan.specs.Plan.{Done, Ask}
 use Rattle.asc_base.specs.Shape.{IsAddress, parent_in, children_in}
@@ -31,9 +31,11 @@ module _ (shape : Shape) where
   abbrev pub AtAny : {A : Type 0} → Last → FrontState × A → Type 0
   AtAny last outcome = IsOf shape (outcome.0)
 
-  -- and the plan ends behind the slot of this block, with what was seen
-  abbrev pub AtSlot : Address → Last → FrontState × Seen → Type 0
-  AtSlot address last outcome = IsOf shape (outcome.0) × (last ≡ Some (address.0, outcome.1))
+  -- and the plan ends behind the slot of this block, which was accessed for this, with what was seen
+  abbrev pub AtSlot : Address → Purpose → Last → FrontState × Seen → Type 0
+  AtSlot address purpose last outcome = IsOf shape (outcome.0)
+      × ((access : Access) × (access.address ≡ address) × (access.purpose ≡ purpose)
+      × (last ≡ Some (access, outcome.1)))
 
   -- a plan that may begin behind anything
   abbrev pub Rightly : {A : Type 0} → (Last → FrontState × A → Type 0) → FrontPlan A → Type 0
@@ -70,42 +72,45 @@ module _ (shape : Shape) where
 
   visit_asks : (state : FrontState) (asked : ℕ) (address : Address) (purpose : Purpose) → IsOf shape state
       → IsAddress shape address → IsWhole purpose
-      → Rightly (AtSlot address) (visit_plan state asked address purpose)
+      → Rightly (AtSlot address purpose) (visit_plan state asked address purpose)
   visit_asks state asked address purpose is inside whole last =
-      asks_bind shape.total AtAny (AtSlot address) _ (group_plan state asked address) _ last
+      asks_bind shape.total AtAny (AtSlot address purpose) _ (group_plan state asked address) _ last
       (full_asks (full_parent state address) state asked is (full_inside shape address state inside is) last)
-      (λ a now ends h. (inside, whole, λ x. (stepped_is shape address a.0 h, refl)))
+      (λ a now ends h. (inside, whole, λ x. (stepped_is shape address a.0 h, (_, refl, refl, refl))))
 
-  append_asks : (held : Held) (seen : Seen) (state : FrontState) → IsOf shape state
-      → IsNone (held_at state.held held.address) → IsAddress shape held.address
+  append_asks : (held : Held) (access : Access) (seen : Seen) (state : FrontState) → access.address ≡ held.address
+      → access.purpose ≡ Refill → IsOf shape state → IsNone (held_at state.held held.address)
+      → IsAddress shape held.address
       → (last : Option Held) → displaced state.plb held state.held ≡ last
-      → AsksRightly shape.total (Some (held.address.0, seen)) AtAny
+      → AsksRightly shape.total (Some (access, seen)) AtAny
       (append_plan last (with_held state (inserted state.plb held state.held)))
-  append_asks held seen state is none inside None at = inserted_is shape held state none inside is
-  append_asks held seen state is none inside (Some last) at = (
+  append_asks held access seen state own refill is none inside None at = inserted_is shape held state none inside is
+  append_asks held access seen state own refill is none inside (Some last) at = (
     (
-      last_is_other shape held last state none at is,
+      refill,
+      λ same. last_is_other shape held last state none at is (same ∙ ap (λ (x : Address). x.0) own),
       last_is_inside shape held last state inside at is,
       length-line last.group.group last.group.own,
     ),
     λ x. inserted_is shape held state none inside is,
   )
 
-  hold_asks : (held : Held) (seen : Seen) (state : FrontState) → IsOf shape state
-      → IsNone (held_at state.held held.address) → IsAddress shape held.address
-      → AsksRightly shape.total (Some (held.address.0, seen)) AtAny (hold_plan state held)
-  hold_asks held seen state is none inside =
-      λ x. append_asks held seen state is none inside (displaced state.plb held state.held) refl
+  hold_asks : (held : Held) (access : Access) (seen : Seen) (state : FrontState) → access.address ≡ held.address
+      → access.purpose ≡ Refill → IsOf shape state → IsNone (held_at state.held held.address)
+      → IsAddress shape held.address
+      → AsksRightly shape.total (Some (access, seen)) AtAny (hold_plan state held)
+  hold_asks held access seen state own refill is none inside =
+      λ x. append_asks held access seen state own refill is none inside (displaced state.plb held state.held) refl
 
   refill_asks : (state : FrontState) (asked : ℕ) (address : Address) → IsOf shape state
       → IsNone (held_at state.held address) → IsAddress shape address
       → Rightly AtAny (refill_plan state asked address)
   refill_asks state asked address is none inside last =
-      asks_bind shape.total (AtSlot address) AtAny _ (visit_plan state asked address Refill) _ last
+      asks_bind shape.total (AtSlot address Refill) AtAny _ (visit_plan state asked address Refill) _ last
       (visit_asks state asked address Refill is inside tt last)
       (λ a now ends h. asks_bind shape.total AtAny AtAny _ (hold_plan a.0 (refilled a.0 address (a.1).line)) _ now
-      (subst (λ l. AsksRightly shape.total l AtAny (hold_plan a.0 (refilled a.0 address (a.1).line))) (sym h.1)
-      (hold_asks (refilled a.0 address (a.1).line) a.1 a.0 h.0
+      (subst (λ l. AsksRightly shape.total l AtAny (hold_plan a.0 (refilled a.0 address (a.1).line))) (sym h.1.3)
+      (hold_asks (refilled a.0 address (a.1).line) h.1.0 a.1 a.0 h.1.1 h.1.2 h.0
       (visit_none any state a.0 asked address address Refill a.1 tt tt ends none) inside))
       (λ b later more i. i))
 
@@ -149,9 +154,9 @@ module _ (shape : Shape) where
 
   request_asks : (state : FrontState) (asked : ℕ) (address : Address) (purpose : Purpose) → IsOf shape state
       → IsAddress shape address → IsWhole purpose
-      → Rightly (AtSlot address) (request_plan state asked address purpose)
+      → Rightly (AtSlot address purpose) (request_plan state asked address purpose)
   request_asks state asked address purpose is inside whole last =
-      asks_bind shape.total AtAny (AtSlot address) _ (walk_plan state.shape.layers state asked address) _ last
+      asks_bind shape.total AtAny (AtSlot address purpose) _ (walk_plan state.shape.layers state asked address) _ last
       (walk_asks state.shape.layers state asked address is inside last)
       (λ a now ends h. visit_asks a.0 a.1 address purpose h inside whole now)
 
@@ -165,18 +170,19 @@ line_inside front line is below =
 pub fetch_asks : (front : FrontState) (asked line : ℕ) (last : Last) → IsFront front → line < front.shape.lines
     → AsksRightly front.shape.total last (AtAny front.shape) (fetch_plan front asked line)
 fetch_asks front asked line last is below =
-    asks_bind front.shape.total (AtSlot front.shape (record { 0 = line })) (AtAny front.shape) _
+    asks_bind front.shape.total (AtSlot front.shape (record { 0 = line }) Keep) (AtAny front.shape) _
     (request_plan front asked (record { 0 = line }) Keep) _ last
     (request_asks front.shape front asked (record { 0 = line }) Keep (record { front = is; same = refl })
     (line_inside front line is below) tt last)
     (λ a now ends h. subst (λ l. AsksRightly front.shape.total l (AtAny front.shape)
-    (Ask (Answer line (a.1).line) a.0 (λ _. Done a))) (sym h.1) ((refl, refl), λ x. h.0))
+    (Ask (Answer line (a.1).line) a.0 (λ _. Done a))) (sym h.1.3)
+    ((h.1.2, sym (ap (λ (x : Address). x.0) h.1.1), refl), λ x. h.0))
 
 pub store_asks : (front : FrontState) (asked line : ℕ) (value : Line) (last : Last) → IsFront front
     → line < front.shape.lines → length value.0 ≡ 64
     → AsksRightly front.shape.total last (AtAny front.shape) (store_plan front asked line value)
 store_asks front asked line value last is below long =
-    asks_bind front.shape.total (AtSlot front.shape (record { 0 = line })) (AtAny front.shape) _
+    asks_bind front.shape.total (AtSlot front.shape (record { 0 = line }) (Replace value)) (AtAny front.shape) _
     (request_plan front asked (record { 0 = line }) (Replace value)) _ last
     (request_asks front.shape front asked (record { 0 = line }) (Replace value) (record { front = is; same = refl })
     (line_inside front line is below) long last)

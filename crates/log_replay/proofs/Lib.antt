@@ -25,3 +25,5 @@ pub mod SlotSplits
 pub mod OrderRows
 pub mod VerdictRows
 pub mod AlteredRows
+pub mod ReadBacks
+pub mod AgainRows

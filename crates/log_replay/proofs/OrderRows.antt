@@ -26,6 +26,12 @@ use Rattle.log_replay.proofs.OpenPaths.{AreQuiet}
 use Rattle.log_replay.proofs.Orders.{all_events}
 use Rattle.log_replay.proofs.SlotSplits.{Begins, IsFirstTouch, first_slot, first_touch, none_held}
 
+some_line : (one other : Line) → Some one ≡ Some other → one ≡ other
+some_line one other is = cc
+
+no_line : (value : Line) → None ≡ Some value → ⊥
+no_line value is = cc
+
 module _ (keys : Keys) where
   pub none : LogOrder keys empty_log
   none = record { slots = []; events = refl; order = tt }
@@ -86,13 +92,13 @@ module _ (keys : Keys) where
       behind = behind;
     }
 
-    -- a first slot of a block, in which its own message is put back
-    first_order : (m : Message) (chosen : Option ℕ) (behind : Behind) → m.address.0 ≡ a → MayStand a None behind
-        → LogOrder keys (log_of (block_events keys a first_counter
-        (Tagged m ∷ (chosen_events chosen ++ (behind_events behind ++ [])))))
-    first_order m chosen behind own stands = record {
-      slots = block_notes first_counter (Some m) chosen behind ∷ [];
-      events = assoc chosen;
+    -- a first slot of a block, in which nothing but its own message is put back
+    first_order : (put : Option Message) (chosen : Option ℕ) (behind : Behind) → IsOfPoint put (real a first_counter)
+        → MayStand a None put behind → LogOrder keys (log_of (block_events keys a first_counter
+        (put_events put ++ (chosen_events chosen ++ (behind_events behind ++ [])))))
+    first_order put chosen behind own stands = record {
+      slots = block_notes first_counter put chosen behind ∷ [];
+      events = assoc put chosen;
       order = (
         (0, refl),
         inl (record {
@@ -105,19 +111,26 @@ module _ (keys : Keys) where
       );
     }
       where
-        assoc : (o : Option ℕ) → block_events keys a first_counter
-            (Tagged m ∷ (chosen_events o ++ (behind_events behind ++ [])))
-            ≡ events_of keys (block_notes first_counter (Some m) o behind) ++ []
-        assoc None = refl
-        assoc (Some index) = refl
+        assoc : (p : Option Message) (o : Option ℕ) → block_events keys a first_counter
+            (put_events p ++ (chosen_events o ++ (behind_events behind ++ [])))
+            ≡ events_of keys (block_notes first_counter p o behind) ++ []
+        assoc None None = refl
+        assoc None (Some index) = refl
+        assoc (Some m) None = refl
+        assoc (Some m) (Some index) = refl
 
-    pub first : (c : Counter) (l : List ℕ)
-        → LogOrder keys (log_of (block_events keys a first_counter (fetched (message_of a c l) a zero_line)))
-    first c l = first_order (message_of a c l) None (Answers a (record { 0 = zero_line })) refl (refl, refl)
+    pub first : (c : Counter)
+        → LogOrder keys (log_of (block_events keys a first_counter (fetched (message_of a c zero_line) a zero_line)))
+    first c = first_order (Some (message_of a c zero_line)) None (Answers a (record { 0 = zero_line })) refl
+        (refl, refl, refl)
 
-    pub appended : (b : ℕ) (c d : Counter) (l k : List ℕ) → (b ≡ a → ⊥) → LogOrder keys
-        (log_of (block_events keys a first_counter (displaced (message_of a c l) (message_of b d k))))
-    appended b c d l k other = first_order (message_of a c l) (Some 0) (Appends (message_of b d k)) refl other
+    pub stored : (c : Counter) (l : List ℕ)
+        → LogOrder keys (log_of (block_events keys a first_counter (Tagged (message_of a c l) ∷ [])))
+    stored c l = first_order (Some (message_of a c l)) None Nothing refl tt
+
+    pub appended : (b : ℕ) (d : Counter) (k : List ℕ) → (b ≡ a → ⊥)
+        → LogOrder keys (log_of (block_events keys a first_counter (displaced (message_of b d k))))
+    appended b d k other = first_order None (Some 0) (Appends (message_of b d k)) tt (refl, other)
 
     pub bare : (c : Counter) → LogOrder keys (log_of (block_events keys a c []))
     bare c = record {
@@ -238,10 +251,10 @@ module _ (keys : Keys) where
       by_notes None None (Appends m) is = cc
       by_notes None None (Answers line value) is = cc
 
-  -- a message is put back and a line is answered: it is the block's own line, of zeros
+  -- a message is put back and a line is answered: it is the block's own line, of zeros, and the one that is put back
   fetched_is : (a line : ℕ) (c : Counter) (l value : List ℕ)
       → LogOrder keys (log_of (block_events keys a first_counter (fetched (message_of a c l) line value)))
-      → (line ≡ a) × (value ≡ zero_line)
+      → (line ≡ a) × (value ≡ zero_line) × (l ≡ value)
   fetched_is a line c l value o =
       let t = touched a first_counter (Tagged (message_of a c l)) (Answered line (record { 0 = value }) ∷ []) []
       (tt, (tt, tt)) tt o in
@@ -249,7 +262,7 @@ module _ (keys : Keys) where
     where
       by_notes : (put : Option Message) (chosen : Option ℕ) (behind : Behind)
           → put_events put ++ (chosen_events chosen ++ behind_events behind) ≡ fetched (message_of a c l) line value
-          → MayStand a None behind → (line ≡ a) × (value ≡ zero_line)
+          → MayStand a None put behind → (line ≡ a) × (value ≡ zero_line) × (l ≡ value)
       by_notes put (Some index) behind is stands = absurd (no_choice put behind is)
         where
           no_choice : (put : Option Message) (behind : Behind) → put_events put ++ (Chosen index ∷ behind_events behind)
@@ -264,7 +277,12 @@ module _ (keys : Keys) where
       by_notes (Some m) None (Answers n v) is stands =
           let number : n ≡ line = cc in
           let same : v ≡ record { 0 = value } = cc in
-          (sym number ∙ stands.0, sym (ap (λ (x : Line). x.0) same) ∙ stands.1)
+          let own : m ≡ message_of a c l = cc in
+          let back : m.line ≡ v = some_line m.line v stands.2 in (
+            sym number ∙ stands.0,
+            sym (ap (λ (x : Line). x.0) same) ∙ stands.1,
+            ap (λ (x : Line). x.0) (ap (λ (x : Message). x.line) (sym own) ∙ back ∙ same),
+          )
 
   pub other_line : (a line : ℕ) (c : Counter) (l : List ℕ) → (line ≡ a → ⊥)
       → LogOrder keys (log_of (block_events keys a first_counter (fetched (message_of a c l) line zero_line))) → ⊥
@@ -273,6 +291,26 @@ module _ (keys : Keys) where
   pub other_value : (a : ℕ) (c : Counter) (l value : List ℕ) → (value ≡ zero_line → ⊥)
       → LogOrder keys (log_of (block_events keys a first_counter (fetched (message_of a c l) a value))) → ⊥
   other_value a c l value other o = other (fetched_is a a c l value o).1
+
+  pub other_put : (a : ℕ) (c : Counter) (l : List ℕ) → (l ≡ zero_line → ⊥)
+      → LogOrder keys (log_of (block_events keys a first_counter (fetched (message_of a c l) a zero_line))) → ⊥
+  other_put a c l other o = other (fetched_is a a c l zero_line o).2
+
+  pub unput : (a : ℕ) → LogOrder keys
+      (log_of (block_events keys a first_counter (Answered a (record { 0 = zero_line }) ∷ []))) → ⊥
+  unput a o =
+      let t = touched a first_counter (Answered a (record { 0 = zero_line })) [] [] (tt, tt) tt o in
+      by_notes t.put t.chosen t.behind t.events t.stands
+    where
+      by_notes : (put : Option Message) (chosen : Option ℕ) (behind : Behind)
+          → put_events put ++ (chosen_events chosen ++ behind_events behind)
+          ≡ Answered a (record { 0 = zero_line }) ∷ []
+          → MayStand a None put behind → ⊥
+      by_notes (Some m) chosen behind is stands = cc
+      by_notes None (Some index) behind is stands = cc
+      by_notes None None Nothing is stands = cc
+      by_notes None None (Appends m) is stands = cc
+      by_notes None None (Answers line value) is stands = no_line value stands.2
 
   pub other_block : (a b : ℕ) (c : Counter) (l : List ℕ) → (b ≡ a → ⊥) → LogOrder keys
       (log_of (block_events keys a first_counter (Tagged (message_of b c l) ∷ Chosen 0 ∷ []))) → ⊥
@@ -290,17 +328,35 @@ module _ (keys : Keys) where
       by_notes None None (Appends m) is own = cc
       by_notes None None (Answers line value) is own = cc
 
-  pub own_block : (a : ℕ) (c d : Counter) (l k : List ℕ) → LogOrder keys
-      (log_of (block_events keys a first_counter (displaced (message_of a c l) (message_of a d k)))) → ⊥
-  own_block a c d l k o =
-      let t = touched a first_counter (Tagged (message_of a c l)) (Chosen 0 ∷ Tagged (message_of a d k) ∷ []) []
+  pub own_block : (a : ℕ) (d : Counter) (k : List ℕ)
+      → LogOrder keys (log_of (block_events keys a first_counter (displaced (message_of a d k)))) → ⊥
+  own_block a d k o =
+      let t = touched a first_counter (Chosen 0) (Tagged (message_of a d k) ∷ []) [] (tt, (tt, tt)) tt o in
+      by_notes t.put t.chosen t.behind t.events t.stands
+    where
+      by_notes : (put : Option Message) (chosen : Option ℕ) (behind : Behind)
+          → put_events put ++ (chosen_events chosen ++ behind_events behind) ≡ displaced (message_of a d k)
+          → MayStand a None put behind → ⊥
+      by_notes (Some m) chosen behind is stands = cc
+      by_notes None None Nothing is stands = cc
+      by_notes None None (Appends m) is stands = cc
+      by_notes None None (Answers line value) is stands = cc
+      by_notes None (Some index) Nothing is stands = cc
+      by_notes None (Some index) (Answers line value) is stands = cc
+      by_notes None (Some index) (Appends x) is stands =
+          let same : x ≡ message_of a d k = cc in stands.1 (ap (λ (y : Message). y.address.0) same)
+
+  pub both_tagged : (a b : ℕ) (c d : Counter) (l k : List ℕ) → LogOrder keys
+      (log_of (block_events keys a first_counter (Tagged (message_of a c l) ∷ displaced (message_of b d k)))) → ⊥
+  both_tagged a b c d l k o =
+      let t = touched a first_counter (Tagged (message_of a c l)) (Chosen 0 ∷ Tagged (message_of b d k) ∷ []) []
       (tt, (tt, (tt, tt))) tt o in
       by_notes t.put t.chosen t.behind t.events t.stands
     where
       by_notes : (put : Option Message) (chosen : Option ℕ) (behind : Behind)
           → put_events put ++ (chosen_events chosen ++ behind_events behind)
-          ≡ displaced (message_of a c l) (message_of a d k)
-          → MayStand a None behind → ⊥
+          ≡ Tagged (message_of a c l) ∷ displaced (message_of b d k)
+          → MayStand a None put behind → ⊥
       by_notes None (Some index) behind is stands = cc
       by_notes None None Nothing is stands = cc
       by_notes None None (Appends m) is stands = cc
@@ -310,8 +366,7 @@ module _ (keys : Keys) where
       by_notes (Some m) None (Answers line value) is stands = cc
       by_notes (Some m) (Some index) Nothing is stands = cc
       by_notes (Some m) (Some index) (Answers line value) is stands = cc
-      by_notes (Some m) (Some index) (Appends x) is stands =
-          let same : x ≡ message_of a d k = cc in stands (ap (λ (y : Message). y.address.0) same)
+      by_notes (Some m) (Some index) (Appends x) is stands = let bad = stands.0 in cc
 
   pub unread : (a : ℕ) (c : Counter) → is_first c ≡ false
       → LogOrder keys (log_of (block_events keys a c (drawn_events keys 1008 None (Dummy 0)))) → ⊥

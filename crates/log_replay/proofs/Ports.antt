@@ -30,7 +30,9 @@ use Rattle.rate_enforcer.specs.PortStep.{PortState, PortStep, Idle, Said, Restin
 use Rattle.rate_enforcer.specs.Served.{AreFew}
 use Rattle.rate_enforcer.specs.declared.clock.Clock.{Clock}
 use Rattle.log_replay.specs.Judged.{SaysMirror, verdict_on}
+use Rattle.log_replay.specs.Order.{put_line}
 use Rattle.log_replay.specs.Replayed.{IsReplayedPort, IsBehindSlot}
+use Rattle.log_replay.proofs.Asks.{put_by, put_back}
 use Rattle.log_replay.proofs.Behinds.{append_replayed, answer_replayed}
 use Rattle.log_replay.proofs.BlockSlots.{IsBehindBlock, found_whole, asked_is, access_behind, refill_behind}
 use Rattle.log_replay.proofs.ReplayedLogs.{IsReplayedLog}
@@ -63,9 +65,10 @@ port_of_log keys s stash n fits same count x = record {
 }
 
 -- what is known of a port's log behind a slot, and back
-pub behind_of : (keys : Keys) (a : ℕ) (line : List ℕ) (s : PortState) → IsBehindSlot keys a line s
-    → IsBehindBlock keys s.tree.stash s.tap.log (contents s) s.clock.dummies a line
-behind_of keys a line s b = record {
+pub behind_of : (keys : Keys) (a : ℕ) (line : List ℕ) (put : Option Message) (s : PortState)
+    → IsBehindSlot keys a line put s
+    → IsBehindBlock keys s.tree.stash s.tap.log (contents s) s.clock.dummies a line put
+behind_of keys a line put s b = record {
   replayed = record {
     order = b.port.order;
     done = b.port.done;
@@ -80,14 +83,15 @@ behind_of keys a line s b = record {
   counter = b.counter;
   point = b.point;
   line_is = b.line_is;
+  put_is = b.put_is;
   bare = b.bare;
   path = b.path;
 }
 
-port_behind : (keys : Keys) (s : PortState) (stash n a : ℕ) (line other : List ℕ) → FitKeys keys s
-    → s.tree.stash ≡ stash → s.clock.dummies ≡ n → other ≡ line
-    → IsBehindBlock keys stash s.tap.log (contents s) n a line → IsBehindSlot keys a other s
-port_behind keys s stash n a line other fits same count is x = record {
+port_behind : (keys : Keys) (s : PortState) (stash n a : ℕ) (line other : List ℕ) (put : Option Message)
+    → FitKeys keys s → s.tree.stash ≡ stash → s.clock.dummies ≡ n → other ≡ line
+    → IsBehindBlock keys stash s.tap.log (contents s) n a line put → IsBehindSlot keys a other put s
+port_behind keys s stash n a line other put fits same count is x = record {
   port = port_of_log keys s stash n fits same count x.replayed;
   before = x.before;
   last = x.last;
@@ -95,6 +99,7 @@ port_behind keys s stash n a line other fits same count is x = record {
   counter = x.counter;
   point = x.point;
   line_is = is ∙ x.line_is;
+  put_is = x.put_is;
   bare = x.bare;
   path = x.path;
 }
@@ -123,11 +128,11 @@ module _ (keys : Keys) (lawful : AreKeys keys) (levels : ℕ) where
         access.counter asked more served.begins.0 is served.begins.1
 
     -- a slot after which a line is put back
-    put_back : (l : List ℕ) → IsAccess keys served.mid served.log served.between (contents new) served.start
+    back_put : (l : List ℕ) → IsAccess keys served.mid served.log served.between (contents new) served.start
         access.address.0 access.counter access.next served.found l → length l ≡ 64
         → IsBehindBlock keys old.tree.stash new.tap.log (contents new) (old.clock.dummies + served.passed)
-        access.address.0 (line_found served.found)
-    put_back l slot whole =
+        access.address.0 (line_found served.found) (Some (message_of access.address.0 access.next l))
+    back_put l slot whole =
         access_behind keys lawful old.tree.stash served.mid served.log new.tap.log served.between (contents new)
         served.start access.address.0 access.asked access.counter served.found served.ends
         (old.clock.dummies + served.passed) served.seeds few up_to_slot access.next l slot
@@ -138,51 +143,57 @@ module _ (keys : Keys) (lawful : AreKeys keys) (levels : ℕ) where
         → SlotOf keys access p served.mid served.log served.between (contents new) served.start served.found
         → IsBehindBlock keys old.tree.stash new.tap.log (contents new) (old.clock.dummies + served.passed)
         access.address.0 (line_found served.found)
+        (put_by access.address access.next p (record { 0 = line_found served.found }))
     behind_block Refill is slot =
         refill_behind keys lawful old.tree.stash served.mid served.log new.tap.log served.between (contents new)
         served.start access.address.0 access.asked access.counter served.found served.ends
         (old.clock.dummies + served.passed) served.seeds few up_to_slot slot
         (is_asked slot.asked (accepted access.address.0 access.counter served.found) slot.events_are)
-    behind_block Keep is slot = put_back (line_found served.found) slot
+    behind_block Keep is slot = back_put (line_found served.found) slot
         (found_whole keys slot.joined access.address.0 served.found slot.of_shape slot.found_is)
-    behind_block (Replace value) is slot = put_back value.0 slot (wide value is)
+    behind_block (Replace value) is slot = back_put value.0 slot (wide value is)
 
-    behind_access : IsBehindSlot keys access.address.0 seen.line.0 new
-    behind_access = port_behind keys new old.tree.stash (old.clock.dummies + served.passed) access.address.0
-        (line_found served.found) seen.line.0 keeps.fits keeps.stash served.dummies served.line
-        (behind_block access.purpose refl served.slot)
+    behind_access : IsBehindSlot keys access.address.0 seen.line.0 (put_back access seen.line) new
+    behind_access =
+        subst (λ (l : List ℕ). IsBehindSlot keys access.address.0 seen.line.0 (put_back access (record { 0 = l })) new)
+        (sym served.line)
+        (port_behind keys new old.tree.stash (old.clock.dummies + served.passed) access.address.0
+        (line_found served.found) seen.line.0 (put_back access (record { 0 = line_found served.found }))
+        keeps.fits keeps.stash served.dummies served.line (behind_block access.purpose refl served.slot))
 
-  -- Behind the slot of an access its block's line was found, which is answered.
+  -- Behind the slot of an access its block's line was found, which is answered, and put back as it says.
   pub slot_replays : (notes : ℕ) (access : Access) (seen : Seen) (old new : PortState) → IsReplayedPort keys old
       → Resting notes levels old → access.address.0 < keys.shape.total
       → ((value : Line) → access.purpose ≡ Replace value → length value.0 ≡ 64)
-      → SlotStep keys levels old (Slot access) (Ok seen) new → IsBehindSlot keys access.address.0 seen.line.0 new
+      → SlotStep keys levels old (Slot access) (Ok seen) new
+      → IsBehindSlot keys access.address.0 seen.line.0 (put_back access seen.line) new
   slot_replays notes access seen old new x rests inside wide step =
       let (served, keeps) = served_slot keys levels notes access seen old new x.fits rests step in
       behind_access access seen old new x served (notes + 1) keeps inside wide
 
-  -- Another block's message is appended behind a slot.
+  -- Another block's message is appended behind a slot in which nothing was put back.
   pub append_replays : (notes a : ℕ) (line : List ℕ) (m : Message) (seen : Seen) (old new : PortState)
-      → IsBehindSlot keys a line old → Resting (notes + 1) levels old → (m.address.0 ≡ a → ⊥)
+      → IsBehindSlot keys a line None old → Resting (notes + 1) levels old → (m.address.0 ≡ a → ⊥)
       → m.address.0 < keys.shape.total → length m.line.0 ≡ 64
       → SlotStep keys levels old (Append m) (Ok seen) new → IsReplayedPort keys new
   append_replays notes a line m seen old new b rests other inside wide step =
       let (served, keeps) = served_append keys levels notes m seen old new b.port.fits rests step in
       let joined = append_replayed keys old.tree.stash old.tap.log new.tap.log (contents old) old.clock.dummies a line
-      (behind_of keys a line old b) served.altered lawful m other inside wide served.events served.right in
+      served.altered (behind_of keys a line None old b) lawful m other inside wide served.events served.right in
       port_of_log keys new old.tree.stash old.clock.dummies keeps.fits keeps.stash
       (ap (λ (c : Clock). c.dummies) served.clock)
       (subst (λ (c : Contents). IsReplayedLog keys old.tree.stash new.tap.log c old.clock.dummies)
       (sym served.contents_are) joined)
 
-  -- The line of a slot's block is answered behind it.
-  pub answer_replays : (notes a number : ℕ) (line : List ℕ) (value : Line) (seen : Seen) (old new : PortState)
-      → IsBehindSlot keys a line old → Resting (notes + 1) levels old → number ≡ a → value.0 ≡ line
+  -- The line of a slot's block is answered behind it, where it was put back.
+  pub answer_replays : (notes a number : ℕ) (line : List ℕ) (put : Option Message) (value : Line) (seen : Seen)
+      (old new : PortState) → IsBehindSlot keys a line put old → Resting (notes + 1) levels old → number ≡ a
+      → value.0 ≡ line → put_line put ≡ Some value
       → SlotStep keys levels old (Answer number value) (Ok seen) new → IsReplayedPort keys new
-  answer_replays notes a number line value seen old new b rests is line_is step =
+  answer_replays notes a number line put value seen old new b rests is line_is back step =
       let (served, keeps) = served_answer keys levels notes number value seen old new b.port.fits rests step in
       let joined = answer_replayed keys old.tree.stash old.tap.log new.tap.log (contents old) old.clock.dummies a line
-      (behind_of keys a line old b) served.altered number value is line_is served.events in
+      served.altered put (behind_of keys a line put old b) number value is line_is back served.events in
       port_of_log keys new old.tree.stash old.clock.dummies keeps.fits keeps.stash
       (ap (λ (c : Clock). c.dummies) served.clock)
       (subst (λ (c : Contents). IsReplayedLog keys old.tree.stash new.tap.log c old.clock.dummies)

@@ -100,7 +100,7 @@ module _ (keys : Keys) where
     pub behind : Behind
     pub events : put_events put ++ (chosen_events chosen ++ behind_events behind) ≡ tail
     pub right : judged keys a c None ≡ None
-    pub stands : MayStand a None behind
+    pub stands : MayStand a None put behind
     pub own : IsOfPoint put (real a c)
 
   pub none_held : (a : ℕ) → held [] (record { 0 = a }) ≡ None
@@ -138,6 +138,6 @@ module _ (keys : Keys) where
             behind = x.s.behind;
             events = tail_of None found;
             right = subst (λ f. judged keys a c f ≡ None) found taken.1;
-            stands = subst (λ f. MayStand a f x.s.behind) found taken.2;
+            stands = subst (λ f. MayStand a f x.s.put x.s.behind) found taken.2;
             own = subst (λ (q : Point). IsOfPoint x.s.put q) x.point_is d.put;
           }

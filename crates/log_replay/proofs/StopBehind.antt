@@ -57,7 +57,7 @@ module _ (keys : Keys) where
 
   -- A message of another block than that of the open path is noted behind a log.
   module _ (stash : ℕ) (old new : LogLists) (now : Contents) (dummies a : ℕ) (line : List ℕ) (m : Message)
-      (x : IsBehindBlock keys stash old now dummies a line) (other : m.address.0 ≡ a → ⊥)
+      (x : IsBehindBlock keys stash old now dummies a line None) (other : m.address.0 ≡ a → ⊥)
       (events : new.events ≡ old.events ++ Tagged m ∷ []) (altered : new.altered ≡ old.altered) where
     before_last : IsBeforeLast old new
     before_last = record {
@@ -101,7 +101,8 @@ module _ (keys : Keys) where
             → LogStops keys stash stop new now.mirror
         stops how is shows ends =
             subst (λ h. LogStops keys stash h new now.mirror) (sym is) (record {
-              order = behind_order keys stash old new now dummies a line x (Appends m) altered events other;
+              order = behind_order keys stash old new now dummies a line None x (Appends m) altered events
+                  (refl, other);
               shows = shows;
               end = Whole;
               ends = ends;
@@ -114,7 +115,7 @@ module _ (keys : Keys) where
             stops (Integrity evidence) is (shown (Integrity evidence) (wrong ∙ ap Some is)) refl
         by_kind (inr (held, is)) = stops (StashFull held) is (shown (StashFull held) (wrong ∙ ap Some is)) refl
 
-  module _ (levels notes a : ℕ) (line : List ℕ) (old new : PortState) (behind : IsBehindSlot keys a line old)
+  module _ (levels notes a : ℕ) (line : List ℕ) (old new : PortState) (behind : IsBehindSlot keys a line None old)
       (rests : Resting (notes + 1) levels old) where
     -- A stopped append: the message was noted, and its entry may not join the hand.
     pub append_stops : (m : Message) (stop : Stop) → (m.address.0 ≡ a → ⊥)
@@ -135,7 +136,7 @@ module _ (keys : Keys) where
         stops_at keys old.tree.stash stop new
         (subst (λ b. LogStops keys old.tree.stash stop new.tap.log b) (sym mirror)
         (joins_left old.tree.stash old.tap.log new.tap.log (contents old) old.clock.dummies a line m
-        (behind_of keys a line old behind) other (ap (λ (l : LogLists). l.events) log)
+        (behind_of keys a line None old behind) other (ap (λ (l : LogLists). l.events) log)
         (ap (λ (l : LogLists). l.altered) log) stop wrong))
     append_stops m stop other (inr (inr (x, one, note, inr (y, two, join, left)))) = absurd left
 

@@ -1,5 +1,6 @@
 -- The order of a log's events: what is noted in each slot, and what stands behind it up to the next one.
-use Rattle.std.specs.Prelude.{◌≡◌, ◌+◌, ◌⊎◌, ℕ, List, [], ◌∷◌, ◌++◌, length, map, Option, None, Some, option_to_list}
+use Rattle.std.specs.Prelude.{◌≡◌, ◌+◌, ◌⊎◌, ℕ, List, [], ◌∷◌, ◌++◌, length, map, Option, None, Some, option_map}
+use Rattle.std.specs.Prelude.{option_to_list}
 use Rattle.std.specs.List.{flat_map}
 use Rattle.asc_base.specs.declared.block.Entry.{Entry}
 use Rattle.asc_base.specs.declared.block.Line.{Line}
@@ -58,11 +59,17 @@ abbrev pub IsNextPoint : ℕ → Option ℕ → Point → Type 0
 IsNextPoint dummies asked (Real a c) = (time : ℕ) × (asked ≡ Some time)
 IsNextPoint dummies asked (Dummy n) = (n ≡ dummies) × (asked ≡ None)
 
--- What may stand behind the slot of a block: another block's message; or the line of this one, as it was found.
-abbrev pub MayStand : ℕ → Option Entry → Behind → Type 0
-MayStand a found Nothing = Unit {0}
-MayStand a found (Appends m) = m.address.0 ≡ a → ⊥
-MayStand a found (Answers line value) = (line ≡ a) × (value.0 ≡ line_found found)
+-- the line that is put back, where a message is
+abbrev pub put_line : Option Message → Option Line
+put_line put = option_map (λ (m : Message). m.line) put
+
+-- What may stand behind the slot of a block: another block's message, where nothing was put back; or the line of this
+-- one, as it was found and as it was put back.
+abbrev pub MayStand : ℕ → Option Entry → Option Message → Behind → Type 0
+MayStand a found put Nothing = Unit {0}
+MayStand a found put (Appends m) = (put ≡ None) × (m.address.0 ≡ a → ⊥)
+MayStand a found put (Answers line value) =
+    (line ≡ a) × (value.0 ≡ line_found found) × (put_line put ≡ Some value)
 
 -- A slot's path is read behind these events, over the contents that they say, and these are then at hand.
 abbrev pub IsReadIn : Keys → LogLists → List Event → SlotNotes → List Entry → Type 0
@@ -74,7 +81,7 @@ IsReadIn keys log before s joined =
 -- point's counter; of a dummy, nothing.
 abbrev pub IsTaken : Keys → List Entry → Point → SlotNotes → Type 0
 IsTaken keys joined (Real a c) s =
-    (held joined a ≡ s.found) × (judged keys a.0 c s.found ≡ None) × MayStand a.0 s.found s.behind
+    (held joined a ≡ s.found) × (judged keys a.0 c s.found ≡ None) × MayStand a.0 s.found s.put s.behind
 IsTaken keys joined (Dummy n) s = (s.found ≡ None) × (s.behind ≡ Nothing)
 
 -- A slot was done: its path was read without evidence, and a message of its own block alone is put back.
@@ -106,8 +113,9 @@ AreDone keys log before [] = Unit {0}
 AreDone keys log before (s ∷ later) = IsDone keys log before s × AreDone keys log (before ++ events_of keys s) later
 
 -- The events of a log are those of slots in order: each slot's leaf is that of its point, dummies are numbered in turn,
--- what is accepted is what the contents have, under the point's counter and with its tag, and a line that is answered
--- is that of the block in whose slot it is answered, as it was found.
+-- what is accepted is what the contents have, under the point's counter and with its tag, a line that is answered is
+-- that of the block in whose slot it is answered, as it was found and as it was put back, and another block's message
+-- is appended only where nothing was put back.
 pub record LogOrder (keys : Keys) (log : LogLists) : Type 0 where
   pub slots : List SlotNotes
   pub events : log.events ≡ flat_map (events_of keys) slots

@@ -1,6 +1,6 @@
 -- When an encrypted memory is what its log says, whatever was altered or forged: between two requests, and after a
 -- stop.
-use Rattle.std.specs.Prelude.{◌≡◌, ◌≤◌, ℕ, false, List, [], ◌∷◌, ◌++◌, None}
+use Rattle.std.specs.Prelude.{◌≡◌, ◌≤◌, ℕ, false, List, [], ◌∷◌, ◌++◌, Option, None}
 use Rattle.std.specs.List.{count_by}
 use Rattle.asc_base.specs.declared.block.Counter.{Counter}
 use Rattle.asc_base.specs.declared.block.Message.{Message}
@@ -29,9 +29,9 @@ pub record IsReplayedPort (keys : Keys) (s : PortState) : Type 0 where
   pub right : verdict_on keys s.tree.stash s.tap.log ≡ None
   pub always : Always keys s.tap.log (contents s)
 
--- A port behind the slot of a block in which this line was found: nothing stands behind it yet, and of the open path
--- the log says that it is no other block's.
-pub record IsBehindSlot (keys : Keys) (a : ℕ) (line : List ℕ) (s : PortState) : Type 0 where
+-- A port behind the slot of a block in which this line was found and this message put back, if one was: nothing stands
+-- behind it yet, and of the open path the log says that it is no other block's.
+pub record IsBehindSlot (keys : Keys) (a : ℕ) (line : List ℕ) (put : Option Message) (s : PortState) : Type 0 where
   pub port : IsReplayedPort keys s
   pub before : List SlotNotes
   pub last : SlotNotes
@@ -39,6 +39,7 @@ pub record IsBehindSlot (keys : Keys) (a : ℕ) (line : List ℕ) (s : PortState
   pub counter : Counter
   pub point : last.point ≡ real a counter
   pub line_is : line ≡ line_found last.found
+  pub put_is : last.put ≡ put
   pub bare : last.behind ≡ Nothing
   pub path : (m : Message) → (m.address.0 ≡ a → ⊥)
       → is_open_for m (fold_events keys s.tap.log.altered 0 s.tap.log.events (first_fold keys)).path ≡ false

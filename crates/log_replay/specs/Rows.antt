@@ -1,5 +1,6 @@
 -- Logs that are computed with, of one slot or two: in which no reply was altered, or one.
 use Rattle.std.specs.Prelude.{◌≡◌, ◌<◌, ◌+◌, ℕ, false, List, [], ◌∷◌, ◌++◌, length, None, Some}
+use Rattle.asc_base.specs.TreeShape.{parent_of, children_of}
 use Rattle.asc_base.specs.declared.block.Counter.{Counter}
 use Rattle.asc_base.specs.declared.block.Entry.{Entry}
 use Rattle.asc_base.specs.declared.block.Message.{Message}
@@ -11,8 +12,10 @@ use Rattle.bus_watch.specs.declared.log.Altered.{Altered}
 use Rattle.bus_watch.specs.declared.log.Event.{Event}
 use Rattle.bus_watch.specs.declared.log.Event.TheVariants.{Accepted, Tagged, Chosen, Answered}
 use Rattle.bus_watch.specs.declared.log.Move.{Move}
-use Rattle.oram_contents.specs.Entries.{Keys, AreKeys, real}
+use Rattle.oram_contents.specs.Entries.{Keys, AreKeys, real, message_of}
 use Rattle.oram_contents.specs.Slots.{drawn_events}
+use Rattle.pmmac_tags.specs.Tag.{tag}
+use Rattle.posmap_counters.specs.Counters.{first_counter}
 
 -- a log of these events
 abbrev pub log_of : List Event → LogLists
@@ -34,15 +37,33 @@ block_events keys a c more = drawn_events keys 256 (Some 0) (real a c) ++ more
 abbrev pub fetched : Message → ℕ → List ℕ → List Event
 fetched m line value = Tagged m ∷ Answered line (record { 0 = value }) ∷ []
 
--- a message is put back, a rate is chosen, and another message is appended
-abbrev pub displaced : Message → Message → List Event
-displaced m other = Tagged m ∷ Chosen 0 ∷ Tagged other ∷ []
+-- a rate is chosen, and a message is appended
+abbrev pub displaced : Message → List Event
+displaced m = Chosen 0 ∷ Tagged m ∷ []
 
 -- a log whose first slot broke off in its reads, behind the one at a level
 abbrev pub broken_log : Keys → ℕ → LogLists
 broken_log keys level =
     moved_log (along keys.shape.levels false 256 (keys.leaf_of (Dummy 0)) (level + 1))
     (drawn_events keys 256 None (Dummy 0))
+
+-- A log of two slots of a block that was never accessed: a line of it is put back under a counter, and this is noted of
+-- its slot under that counter.
+abbrev pub again_log : Keys → ℕ → Counter → List ℕ → List Event → LogLists
+again_log keys a d l more = log_of (block_events keys a first_counter (Tagged (message_of a d l) ∷ [])
+    ++ (drawn_events keys 1008 (Some 752) (real a d) ++ more))
+
+-- what was put back is accepted
+abbrev pub found_again : Keys → ℕ → Counter → List ℕ → List Event → List Event
+found_again keys a d l more = Accepted (message_of a d l) (tag keys.tags (message_of a d l)) ∷ more
+
+-- a data line of 64 bytes, whose counter is a root
+pub record IsTopLine (keys : Keys) (a : ℕ) (l : List ℕ) : Type 0 where
+  pub lawful : AreKeys keys
+  pub inside : a < keys.shape.total
+  pub parent : parent_of keys.shape.lines keys.shape.layers a ≡ None
+  pub children : children_of keys.shape.lines keys.shape.layers a ≡ None
+  pub line : length l ≡ 64
 
 -- an entry of a block's line with a tag, at the leaf of the block's point
 abbrev pub found_entry : Keys → ℕ → Counter → List ℕ → List ℕ → Entry

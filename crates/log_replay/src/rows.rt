@@ -6,7 +6,7 @@ ghost use Rattle.asc_base.specs.declared.block.Message.{Message};
 ghost use Rattle.asc_base.specs.declared.block.Point.TheVariants.{Dummy};
 ghost use Rattle.asc_base.specs.declared.stop.Evidence.TheVariants.{Missing};
 ghost use Rattle.asc_base.specs.declared.stop.Stop.{Stop};
-ghost use Rattle.asc_base.specs.declared.stop.Stop.TheVariants.{Integrity, StashFull};
+ghost use Rattle.asc_base.specs.declared.stop.Stop.TheVariants.{Integrity, StashFull, TimeUp, Device, NoMemory};
 ghost use Rattle.asc_outside.specs.Memory.{zero_buckets};
 ghost use Rattle.bus_watch.specs.Log.{LogLists, write_move};
 ghost use Rattle.bus_watch.specs.declared.log.Event.{Event};
@@ -14,34 +14,41 @@ ghost use Rattle.bus_watch.specs.declared.log.Event.TheVariants.{Access, Drawn, 
 ghost use Rattle.bus_watch.specs.declared.log.Move.{Move};
 ghost use Rattle.oram_contents.specs.Counts.{zero_line};
 ghost use Rattle.oram_contents.specs.Entries.{Keys, real, message_of};
-ghost use Rattle.oram_contents.specs.Fold.{Whole};
+ghost use Rattle.oram_contents.specs.Fold.{Whole, LastFailed, RanOut};
 ghost use Rattle.oram_contents.specs.Slots.{drawn_events};
 ghost use Rattle.oram_contents.specs.Starts.{empty_log};
 ghost use Rattle.oram_contents.specs.Verdict.{is_first};
 ghost use Rattle.pmmac_tags.specs.Tag.{tag};
-ghost use Rattle.posmap_counters.specs.Counters.{first_counter};
-ghost use Rattle.log_replay.specs.Judged.{verdict_on, IsFirstVerdict, BreaksOffReading, SaysMirror};
+ghost use Rattle.posmap_counters.specs.Counters.{first_counter, IsBefore};
+ghost use Rattle.log_replay.specs.Judged.{verdict_on, IsFirstVerdict, BreaksOffReading, EndsLog, SaysMirror};
 ghost use Rattle.log_replay.specs.Order.{LogOrder};
 ghost use Rattle.log_replay.specs.Rows.{log_of, moved_log, dummy_events, block_events, fetched, displaced, broken_log};
-ghost use Rattle.log_replay.specs.Rows.{CanStand, found_log};
+ghost use Rattle.log_replay.specs.Rows.{CanStand, IsTopLine, found_log, again_log, found_again};
 
 /// Logs in order, in which no reply was altered, and logs that aren't. The empty log is in order; the slot of the
-/// first dummy; a block's first slot, in which any line of it is put back, and zeros are answered, or behind which
-/// another block's message is appended; a slot of which nothing is noted but its point, be it the first or behind a
-/// dummy. Refused are a log that doesn't begin with a slot, a dummy with another number, or that was asked for, or in
-/// which something is put back, a block's slot that nobody asked for, a leaf that isn't the point's, a line that was
-/// accepted though nothing was at hand, another line's number or value in an answer, another block's message that is
-/// put back, the slot's own that is appended, and a slot behind one of which nothing is noted.
+/// first dummy; a block's first slot, in which zeros are put back and answered, or any line of it is put back, or
+/// nothing, and another block's message is appended behind it; a slot of which nothing is noted but its point, be it
+/// the first or behind a dummy; a block's second slot, which accepts what the first put back, answers it and puts it
+/// back again. Refused are a log that doesn't begin with a slot, a dummy with another number, or that
+/// was asked for, or in which something is put back, a block's slot that nobody asked for, a leaf that isn't the
+/// point's, a line that was accepted though nothing was at hand, another line's number or value in an answer, an answer
+/// where another line or nothing was put back, another block's message that is put back, the slot's own that is
+/// appended, any message that is appended where one was put back, and a slot behind one of which nothing is noted.
 pub fn logs_have_rows()
     ensures none { (keys : Keys) → LogOrder keys empty_log }
     ensures dummy { (keys : Keys) → LogOrder keys (log_of (dummy_events keys 0)) }
-    ensures first { (keys : Keys) (a : ℕ) (c : Counter) (l : List ℕ) → LogOrder keys
-        (log_of (block_events keys a first_counter (fetched (message_of a c l) a zero_line))) }
-    ensures appended { (keys : Keys) (a b : ℕ) (c d : Counter) (l k : List ℕ) → (b ≡ a → ⊥) → LogOrder keys
-        (log_of (block_events keys a first_counter (displaced (message_of a c l) (message_of b d k)))) }
+    ensures first { (keys : Keys) (a : ℕ) (c : Counter) → LogOrder keys
+        (log_of (block_events keys a first_counter (fetched (message_of a c zero_line) a zero_line))) }
+    ensures stored { (keys : Keys) (a : ℕ) (c : Counter) (l : List ℕ) → LogOrder keys
+        (log_of (block_events keys a first_counter (Tagged (message_of a c l) ∷ []))) }
+    ensures appended { (keys : Keys) (a b : ℕ) (d : Counter) (k : List ℕ) → (b ≡ a → ⊥) → LogOrder keys
+        (log_of (block_events keys a first_counter (displaced (message_of b d k)))) }
     ensures bare { (keys : Keys) (a : ℕ) (c : Counter) → LogOrder keys (log_of (block_events keys a c [])) }
     ensures second { (keys : Keys) → LogOrder keys
         (log_of (dummy_events keys 0 ++ drawn_events keys 1008 None (Dummy 1))) }
+    ensures read_back { (keys : Keys) (a : ℕ) (d e : Counter) (l : List ℕ) → IsTopLine keys a l
+        → IsBefore first_counter d → LogOrder keys
+        (again_log keys a d l (found_again keys a d l (fetched (message_of a e l) a l))) }
     ensures no_slot { (keys : Keys) (line : ℕ) (events : List Event) → LogOrder keys
         (log_of (Answered line (record { 0 = zero_line }) ∷ events)) → ⊥ }
     ensures no_point { (keys : Keys) → LogOrder keys (log_of (Access 256 None ∷ Chosen 0 ∷ [])) → ⊥ }
@@ -61,10 +68,16 @@ pub fn logs_have_rows()
         (log_of (block_events keys a first_counter (fetched (message_of a c l) line zero_line))) → ⊥ }
     ensures other_value { (keys : Keys) (a : ℕ) (c : Counter) (l value : List ℕ) → (value ≡ zero_line → ⊥)
         → LogOrder keys (log_of (block_events keys a first_counter (fetched (message_of a c l) a value))) → ⊥ }
+    ensures other_put { (keys : Keys) (a : ℕ) (c : Counter) (l : List ℕ) → (l ≡ zero_line → ⊥) → LogOrder keys
+        (log_of (block_events keys a first_counter (fetched (message_of a c l) a zero_line))) → ⊥ }
+    ensures unput { (keys : Keys) (a : ℕ) → LogOrder keys
+        (log_of (block_events keys a first_counter (Answered a (record { 0 = zero_line }) ∷ []))) → ⊥ }
     ensures other_block { (keys : Keys) (a b : ℕ) (c : Counter) (l : List ℕ) → (b ≡ a → ⊥) → LogOrder keys
         (log_of (block_events keys a first_counter (Tagged (message_of b c l) ∷ Chosen 0 ∷ []))) → ⊥ }
-    ensures own_block { (keys : Keys) (a : ℕ) (c d : Counter) (l k : List ℕ) → LogOrder keys
-        (log_of (block_events keys a first_counter (displaced (message_of a c l) (message_of a d k)))) → ⊥ }
+    ensures own_block { (keys : Keys) (a : ℕ) (d : Counter) (k : List ℕ) → LogOrder keys
+        (log_of (block_events keys a first_counter (displaced (message_of a d k)))) → ⊥ }
+    ensures both_tagged { (keys : Keys) (a b : ℕ) (c d : Counter) (l k : List ℕ) → LogOrder keys
+        (log_of (block_events keys a first_counter (Tagged (message_of a c l) ∷ displaced (message_of b d k)))) → ⊥ }
     ensures unread { (keys : Keys) (a : ℕ) (c : Counter) → is_first c ≡ false → LogOrder keys
         (log_of (block_events keys a c (drawn_events keys 1008 None (Dummy 0)))) → ⊥ }
 {}
@@ -90,7 +103,9 @@ pub fn altered_logs_have_rows()
 /// What logs show to be wrong. Nothing is wrong in the slot of the first dummy, so no stop is its first verdict, nor
 /// in a block's first slot. A block that was accessed before is missing where no bucket was ever written, and a
 /// message that is appended is one too many for a stash of none. Reads broke off where no more moves are noted than
-/// those down to a level, and not where none is noted, or a write came last. An empty log says buckets of zeros alone.
+/// those down to a level, and not where none is noted, or a write came last. A failed move ends a log with its last
+/// move failed, and want of memory with it open, and a time that is up with neither. An empty log says buckets of zeros
+/// alone.
 pub fn verdicts_have_rows()
     ensures dummy { (keys : Keys) (stash : ℕ) → verdict_on keys stash (log_of (dummy_events keys 0)) ≡ None }
     ensures first { (keys : Keys) (stash a : ℕ) → verdict_on keys stash
@@ -107,6 +122,8 @@ pub fn verdicts_have_rows()
         (log_of events) → ⊥ }
     ensures written { (keys : Keys) (stash at bucket : ℕ) (moves : List Move) (events : List Event)
         → BreaksOffReading keys stash (moved_log (moves ++ write_move at bucket ∷ []) events) → ⊥ }
+    ensures ends { EndsLog Device LastFailed × EndsLog NoMemory RanOut }
+    ensures time_ends { (at : ℕ) → EndsLog (TimeUp at) LastFailed → ⊥ }
     ensures buckets { (keys : Keys) → SaysMirror keys empty_log Whole (zero_buckets keys.shape.buckets) }
     ensures other_buckets { (keys : Keys) (mirror : List (List ℕ)) → SaysMirror keys empty_log Whole mirror
         → mirror ≡ zero_buckets keys.shape.buckets }

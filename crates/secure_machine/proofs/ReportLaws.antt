@@ -71,6 +71,8 @@ reported_of config report instructions cycles last ending old new same counted s
       later = s.later;
       cause = λ failed. s.cause (sym ends ∙ failed);
       unaltered = s.unaltered;
+      told = s.told;
+      prepared = s.prepared;
       asked = s.asked;
       right = subst (λ (c : Config). IsRightEnding config.budget c.time report.instructions report.cycles report.last
           report.ending) same
@@ -91,6 +93,7 @@ wanting_of config old new same counted s = record {
   tied = s.tied;
   later = s.later;
   unaltered = s.unaltered;
+  prepared = s.prepared;
   asked = s.asked;
 }
 

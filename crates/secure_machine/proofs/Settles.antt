@@ -49,6 +49,8 @@ idle_settles budget instructions cycles until last ending old mid new one two pa
   in_time = subst (λ (config : Config). last < config.time + olat_of config.shape.levels) one.config soon;
   right = own_right budget old.clock.config.time instructions cycles until last ending own after;
   unaltered = λ tells. two.unaltered (one.tells tells) ∙ one.unaltered tells;
+  told = λ told. two.told (one.told told);
+  prepared = two.prepared ∙ one.prepared;
   asked = omega (arith, one.asked, two.asked);
 }
 
@@ -71,6 +73,8 @@ module _ (budget instructions cycles : ℕ) (old new : PortState) where
     in_time = h.in_time;
     right = tt;
     unaltered = h.unaltered;
+    told = h.told (λ bad. cc);
+    prepared = h.prepared;
     asked = h.asked;
   }
 
@@ -87,6 +91,8 @@ module _ (budget instructions cycles : ℕ) (old new : PortState) where
     in_time = h.in_time;
     right = tt;
     unaltered = h.unaltered;
+    told = h.told (λ bad. cc);
+    prepared = h.prepared;
     asked = h.asked;
   }
 
@@ -104,6 +110,8 @@ module _ (budget instructions cycles : ℕ) (old new : PortState) where
     in_time = omega (arith, is, h.in_time);
     right = (h.pace.0, omega (arith, is));
     unaltered = h.unaltered;
+    told = h.told (λ bad. cc);
+    prepared = h.prepared;
     asked = h.asked;
   }
 
@@ -120,6 +128,8 @@ module _ (budget instructions cycles : ℕ) (old new : PortState) where
     in_time = h.in_time;
     right = tt;
     unaltered = h.unaltered;
+    told = h.told (λ bad. cc);
+    prepared = h.prepared;
     asked = h.asked;
   }
 
@@ -140,5 +150,6 @@ module _ (budget instructions cycles : ℕ) (old new : PortState) where
     end = new.clock.last;
     pace = h.pace;
     unaltered = h.unaltered;
+    prepared = h.prepared;
     asked = h.asked;
   }

@@ -8,7 +8,7 @@ use Rattle.bus_watch.specs.Tied.{Tied, TiedAt}
 use Rattle.epoch_learner.specs.Stands.{KeepsPace}
 use Rattle.oram_frontend.specs.Oram.{OramState}
 use Rattle.rate_enforcer.specs.PortStep.{PortState, KeepsCount}
-use Rattle.secure_machine.specs.Goes.{Goes, Breaks, Unaltered, Asks}
+use Rattle.secure_machine.specs.Goes.{Goes, Breaks, Unaltered, Asks, MayTellOn, SameCount}
 use Rattle.play_run.specs.Timed.{Serving}
 use Rattle.secure_machine.specs.declared.machine.Cause.{Cause}
 use Rattle.secure_machine.specs.declared.machine.Cause.TheVariants.{Ends, Stops}
@@ -64,6 +64,8 @@ pub record Settled (budget instructions cycles : ℕ) (ending : Ending) (last : 
   pub in_time : last < old.clock.config.time + olat_of old.clock.config.shape.levels
   pub right : IsRightEnding budget old.clock.config.time instructions cycles last ending
   pub unaltered : Unaltered old new
+  pub told : MayTellOn old new
+  pub prepared : SameCount old new
   pub asked : Asks old new
 
 -- What want of memory leaves: up to some time the log keeps the pace, all is counted, and all is tied, but what the
@@ -77,4 +79,5 @@ pub record Short (old new : PortState) : Type 0 where
   pub end : ℕ
   pub pace : KeepsPace old.clock.config end new.tap.log
   pub unaltered : Unaltered old new
+  pub prepared : SameCount old new
   pub asked : Asks old new

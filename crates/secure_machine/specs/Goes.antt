@@ -1,12 +1,12 @@
 -- What requests leave of a port, however many there were: answered ones, and one that is stopped.
-use Rattle.std.specs.Prelude.{◌≡◌, ◌+◌, ◌<◌, ◌≤◌, ℕ, List, length}
+use Rattle.std.specs.Prelude.{◌≡◌, ◌≢◌, ◌+◌, ◌<◌, ◌≤◌, ℕ, List, length}
 use Rattle.asc_base.specs.TreeShape.{olat_of}
 use Rattle.asc_base.specs.declared.settings.Config.{Config}
 use Rattle.asc_base.specs.declared.stop.Stop.{Stop}
 use Rattle.asc_base.specs.declared.stop.Stop.TheVariants.{Integrity, StashFull, TimeUp, Device, NoMemory}
 use Rattle.asc_outside.specs.Memory.{MemoryState}
 use Rattle.asc_outside.specs.Rose.{Rose}
-use Rattle.bus_watch.specs.Honest.{TellsMirror}
+use Rattle.bus_watch.specs.Honest.{TellsMirror, MayTellMirror}
 use Rattle.bus_watch.specs.Log.{TapState}
 use Rattle.bus_watch.specs.RunEnd.{RunEnd}
 use Rattle.bus_watch.specs.Tied.{Tied, TiedAt}
@@ -29,6 +29,14 @@ Unaltered old new = TellsMirror old.memory old.tap → new.tap.log.altered ≡ o
 abbrev pub TellsOn : PortState → PortState → Type 0
 TellsOn old new = TellsMirror old.memory old.tap → TellsMirror new.memory new.tap
 
+-- Where the memory tells its buckets they are still the mirror's.
+abbrev pub MayTellOn : PortState → PortState → Type 0
+MayTellOn old new = MayTellMirror old.memory old.tap → MayTellMirror new.memory new.tap
+
+-- As many buckets are prepared.
+abbrev pub SameCount : PortState → PortState → Type 0
+SameCount old new = new.memory.count ≡ old.memory.count
+
 -- The configuration is the same, what was counted is counted, what was tied is tied, and faults and slots were only
 -- added to.
 pub record Goes (old new : PortState) : Type 0 where
@@ -40,6 +48,8 @@ pub record Goes (old new : PortState) : Type 0 where
   pub real : old.clock.real ≤ new.clock.real
   pub unaltered : Unaltered old new
   pub tells : TellsOn old new
+  pub told : MayTellOn old new
+  pub prepared : SameCount old new
   pub asked : Asks old new
 
 -- Up to when the log keeps the pace after a stop. Where no slot is left, it does up to each time from the last end to
@@ -57,7 +67,7 @@ abbrev pub TiedAfter : Stop → MemoryState → List (List ℕ) → PortState �
 TiedAfter stop start buckets new = (end : RunEnd) × IsEndOf stop end × TiedAt end start buckets new.memory new.tap
 
 -- The same where the last of them is stopped. The end that it leaves comes less than a slot's cycles after the time of
--- the settings.
+-- the settings. Buckets that the memory tells are still the mirror's, but where memory ran out.
 pub record Breaks (stop : Stop) (old new : PortState) : Type 0 where
   pub config : new.clock.config ≡ old.clock.config
   pub counts : KeepsCount old new
@@ -68,4 +78,6 @@ pub record Breaks (stop : Stop) (old new : PortState) : Type 0 where
   pub pace : PaceAt old.clock.config stop new
   pub in_time : new.clock.last < old.clock.config.time + olat_of old.clock.config.shape.levels
   pub unaltered : Unaltered old new
+  pub told : stop ≢ NoMemory → MayTellOn old new
+  pub prepared : SameCount old new
   pub asked : Asks old new

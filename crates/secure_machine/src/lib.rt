@@ -31,6 +31,7 @@ ghost use Rattle.asc_outside.specs.Rose.{Rose};
 ghost use Rattle.bus_schedule.specs.Scheduled.{log_code};
 ghost use Rattle.bus_schedule.specs.Shown.{indices_of};
 ghost use Rattle.bus_schedule.specs.Timetable.{public_of};
+ghost use Rattle.bus_watch.specs.Honest.{MayTellMirror};
 ghost use Rattle.bus_watch.specs.Log.{TapState, LogLists};
 ghost use Rattle.bus_watch.specs.Ready.{IsReady};
 ghost use Rattle.bus_watch.specs.Same.{IsSameBus};
@@ -246,7 +247,9 @@ fn run_prepared<M: UntrustedMemory, W: Watch, L: LeafFn>(
 /// cycles after the time of the settings.
 ///
 /// Whatever the memory replies, the log tells how the run ended: it notes slots in order, the verdict on them is the
-/// ending, and the buckets are those that it says.
+/// ending, and the buckets are those that it says. Where the bus was prepared and the memory tells its buckets
+/// afterwards, they are the mirror's. After a report as many buckets count as prepared as the shape has, and after want
+/// of memory so many, or none.
 pub fn run<M: UntrustedMemory, W: Watch, L: LeafFn>(
     alloc: Global,
     config: &Config,
@@ -293,6 +296,11 @@ pub fn run<M: UntrustedMemory, W: Watch, L: LeafFn>(
     ensures asked { (M.state bus.new.memory.now).moved
         ≡ (M.state bus.old.memory.now).moved + length (W.state bus.new.tap.now).log.moves }
     ensures unaltered { IsSome (M.state bus.old.memory.now).told → (W.state bus.new.tap.now).log.altered ≡ [] }
+    ensures told { IfOk result (λ report. MayTellMirror (M.state bus.new.memory.now) (W.state bus.new.tap.now)
+        ⊎ IsUnprepared report (W.state bus.old.tap.now) (W.state bus.new.tap.now)) }
+    ensures count { IfOk result (λ _. (M.state bus.new.memory.now).count ≡ config.now.shape.buckets) }
+    ensures count_err { OnErr result (((M.state bus.new.memory.now).count ≡ 0)
+        ⊎ ((M.state bus.new.memory.now).count ≡ config.now.shape.buckets)) }
     ensures flat { IsSome (M.state bus.old.memory.now).told
         → IfOk result (IsFlatReport config.now image.now input.now) }
     ensures refines { IfOk result (λ report.

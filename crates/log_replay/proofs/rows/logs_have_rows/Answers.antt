@@ -1,7 +1,8 @@
 use Rattle.log_replay.proofs.OrderRows.{none, dummy, first, appended, bare, second, no_slot, no_point, other_number}
 use Rattle.log_replay.proofs.OrderRows.{same_number, asked_dummy, tagged_dummy, unasked_block, other_leaf, accepted}
-use Rattle.log_replay.proofs.OrderRows.{other_line}
+use Rattle.log_replay.proofs.OrderRows.{stored, other_line, other_put, unput, both_tagged}
 use Rattle.log_replay.proofs.OrderRows.{other_value, other_block, own_block, unread}
+use Rattle.log_replay.proofs.AgainRows.{read_back}
 use Rattle.log_replay.proofs.rows.logs_have_rows.Goals as goal
 
 pub returns : goal.returns
@@ -9,9 +10,11 @@ returns c = record {
   none = none;
   dummy = dummy;
   first = first;
+  stored = stored;
   appended = appended;
   bare = bare;
   second = second;
+  read_back = read_back;
   no_slot = no_slot;
   no_point = no_point;
   other_number = other_number;
@@ -23,7 +26,10 @@ returns c = record {
   accepted = accepted;
   other_line = other_line;
   other_value = other_value;
+  other_put = other_put;
+  unput = unput;
   other_block = other_block;
   own_block = own_block;
+  both_tagged = both_tagged;
   unread = unread;
 }

@@ -1,3 +1,4 @@
+use Rattle.std.proofs.Common.{refl, inr}
 use Rattle.log_replay.proofs.VerdictRows.{dummy_right, first_right, right, missing, full, breaks_off, no_moves, written}
 use Rattle.log_replay.proofs.VerdictRows.{buckets, other_buckets}
 use Rattle.log_replay.proofs.rows.verdicts_have_rows.Goals as goal
@@ -12,6 +13,8 @@ returns c = record {
   breaks_off = breaks_off;
   no_moves = no_moves;
   written = written;
+  ends = (refl, inr refl);
+  time_ends = λ at is. (cc);
   buckets = buckets;
   other_buckets = other_buckets;
 }
