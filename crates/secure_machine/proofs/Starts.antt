@@ -33,6 +33,7 @@ use Rattle.oram_contents.specs.Entries.{AreKeys}
 use Rattle.oram_contents.specs.Starts.{empty_log}
 use Rattle.oram_frontend.specs.Oram.{oram_of}
 use Rattle.oram_lines.specs.Lines.{IsNew}
+use Rattle.oram_lines.specs.Standing.{DrawnOnce}
 use Rattle.rate_enforcer.specs.PortStep.{Resting, port_of}
 use Rattle.rate_enforcer.specs.Served.{keys_of}
 use Rattle.secure_machine.specs.Run.{chip_keys}
@@ -74,6 +75,10 @@ pub start_leaves : (config : Config) (log : LogLists) → log.events ≡ [] → 
 start_leaves config log events =
     subst (All (λ leaf. leaf < 2 ^ config.shape.levels)) (sym (ap leaves_of events))
     (All-nil (λ leaf. leaf < 2 ^ config.shape.levels))
+
+-- in a log of no events no point was drawn twice
+pub start_once : (log : LogLists) → log.events ≡ [] → DrawnOnce log.events
+start_once log none = subst DrawnOnce (sym none) tt
 
 -- a log that keeps the pace tells no more bits than the budget
 pub pace_bits : (config : Config) (end : ℕ) (log : LogLists) → IsConfig config → KeepsPace config end log

@@ -44,6 +44,7 @@ ghost use Rattle.oram_contents.specs.Forgery.{Forgery};
 ghost use Rattle.oram_contents.specs.Starts.{empty_log};
 ghost use Rattle.oram_frontend.specs.Oram.{oram_of};
 ghost use Rattle.oram_lines.specs.Lines.{IsNew};
+ghost use Rattle.oram_lines.specs.Standing.{DrawnOnce};
 ghost use Rattle.rate_enforcer.specs.PortStep.{Resting, port_of};
 ghost use Rattle.rate_enforcer.specs.Served.{keys_of};
 ghost use Rattle.rate_enforcer.specs.Counts.{IsCounted, is_dummy, is_real, is_answered};
@@ -198,6 +199,9 @@ fn run_prepared<M: UntrustedMemory, W: Watch, L: LeafFn>(
     ensures honest { AreKeys (keys_of oram.port.tree oram.tagger (L.leaf_of oram.port.leaves))
         → (W.state bus.new.tap.now).log.altered ≡ []
         → IfOk result (λ report. (evidence : Evidence) → report.ending ≡ Ending.Integrity evidence → ⊥) }
+    ensures points { AreKeys (keys_of oram.port.tree oram.tagger (L.leaf_of oram.port.leaves))
+        → Forgery (keys_of oram.port.tree oram.tagger (L.leaf_of oram.port.leaves)) (W.state bus.new.tap.now).log
+        ⊎ DrawnOnce (W.state bus.new.tap.now).log.events }
     ensures fed { IfOk result (λ report.
         IsFed config.now image.now files.input report (answered_lines (W.state bus.new.tap.now).log.events)) }
     ensures spent { IfOk result (λ report.
@@ -247,9 +251,9 @@ fn run_prepared<M: UntrustedMemory, W: Watch, L: LeafFn>(
 /// cycles after the time of the settings.
 ///
 /// Whatever the memory replies, the log tells how the run ended: it notes slots in order, the verdict on them is the
-/// ending, and the buckets are those that it says. Where the bus was prepared and the memory tells its buckets
-/// afterwards, they are the mirror's. After a report as many buckets count as prepared as the shape has, and after want
-/// of memory so many, or none.
+/// ending, and the buckets are those that it says. For each point a leaf is drawn at most once, however the run ends, or
+/// the log shows a forgery. Where the bus was prepared and the memory tells its buckets afterwards, they are the mirror's.
+/// After a report as many buckets count as prepared as the shape has, and after want of memory so many, or none.
 pub fn run<M: UntrustedMemory, W: Watch, L: LeafFn>(
     alloc: Global,
     config: &Config,
@@ -310,6 +314,8 @@ pub fn run<M: UntrustedMemory, W: Watch, L: LeafFn>(
         Forgery (chip_keys config.now codec tagger (L.leaf_of leaf)) (W.state bus.new.tap.now).log
         ⊎ IsPlayed config.now (play_with config.now image.now input.now) (play_report report)
         (W.state bus.new.tap.now).log) }
+    ensures points { Forgery (chip_keys config.now codec tagger (L.leaf_of leaf)) (W.state bus.new.tap.now).log
+        ⊎ DrawnOnce (W.state bus.new.tap.now).log.events }
     ensures flat_unaltered { (W.state bus.new.tap.now).log.altered ≡ []
         → IfOk result (IsFlatReport config.now image.now input.now) }
     ensures plays_unaltered { (W.state bus.new.tap.now).log.altered ≡ []
