@@ -1,6 +1,6 @@
 -- What a port's calls leave, however many there were.
 use Rattle.std.proofs.Common.{◌≡◌, ◌≢◌, ◌+◌, ◌<◌, ◌≤◌, ◌∙◌, ℕ, List, [], Ok, length, refl, sym, ap, subst, inl, inr}
-use Rattle.std.proofs.Common.{arith}
+use Rattle.std.proofs.Common.{arith, min}
 use Rattle.request_plan.specs.Plan.{Plan, Done, Ask, Ends}
 use Rattle.std.proofs.lemmas.List.{length-append}
 use Rattle.asc_base.specs.TreeShape.{olat_of}
@@ -11,8 +11,11 @@ use Rattle.asc_base.specs.declared.stop.Stop.TheVariants.{Integrity, StashFull, 
 use Rattle.asc_outside.proofs.RoseLaws.{rose_since}
 use Rattle.asc_outside.specs.Memory.{MemoryState}
 use Rattle.asc_outside.specs.Rose.{Rose}
+use Rattle.bus_schedule.proofs.TimetableParts.{timetable-before, first-is}
+use Rattle.bus_schedule.specs.Scheduled.{log_code}
+use Rattle.bus_schedule.specs.Timetable.{Public, public_of, timetable, first_from}
 use Rattle.bus_watch.specs.Honest.{TellsMirror, MayTellMirror}
-use Rattle.bus_watch.specs.Log.{TapState}
+use Rattle.bus_watch.specs.Log.{TapState, LogLists}
 use Rattle.bus_watch.specs.Made.{Made}
 use Rattle.bus_watch.specs.declared.log.Move.{Move}
 use Rattle.bus_watch.specs.declared.log.Event.{Event}
@@ -25,9 +28,10 @@ use Rattle.rate_enforcer.specs.Counts.{IsCounted}
 use Rattle.rate_enforcer.specs.PortStep.{PortState, PortStep, PortRequest, Open, Take, Note, Put, Close, Abort, Join}
 use Rattle.rate_enforcer.specs.PortStep.{Idle, Said, Used, KeepsCount, Resting, HandOnly}
 use Rattle.rate_enforcer.specs.PortStep.{OpenStopped, CloseStopped, IdleStopped, Aborted}
+use Rattle.rate_enforcer.specs.State.{IsUp}
 use Rattle.rate_enforcer.specs.Stops.{IsEndOf}
 use Rattle.rate_enforcer.specs.declared.clock.Clock.{Clock}
-use Rattle.secure_machine.specs.Goes.{Goes, Breaks, PaceAt, TiedAfter, AsksMoves, Asks, MayTellOn}
+use Rattle.secure_machine.specs.Goes.{Goes, Breaks, PaceAt, TiedAfter, AsksMoves, Asks, MayTellOn, IsNextStart}
 
 -- the moves of a run of bus calls were asked of the memory
 made_asked : {end : RunEnd} {moves : List Move} {events : List Event} {m m' : MemoryState} {t t' : TapState}
@@ -214,6 +218,23 @@ stop_told : (stop : Stop) {old new : PortState} (end : RunEnd) → IsEndOf stop 
     → stop ≢ NoMemory → MayTellOn old new
 stop_told stop end is used other = used.made.honest.told (stop_whole stop end is other)
 
+-- no start lies between a time and a later one where the first from it on isn't before that one
+first-late : (p : Public) (code time later : ℕ) → time ≤ later → later ≤ first_from p code time
+    → first_from p code later ≡ first_from p code time
+first-late p code time later up reached =
+    first-is p code later (length (timetable p code time)) reached
+    (λ k below. omega (arith, (timetable-before p code time).before k below, up))
+
+-- where no slot is left, the next one is the first from the time of the settings on
+next_start : (config : Config) (at asked : ℕ) (clock : Clock) (log : LogLists) → clock.last ≤ at
+    → IsUp config at asked clock log → IsNextStart config at log
+next_start config at asked clock log early up = record {
+  late = up.late;
+  first = up.first ∙ sym (first-late (public_of config) (log_code (public_of config) log) (min asked config.time)
+      config.time (omega arith) (omega (arith, up.late, up.first)));
+  done = (up.pace at early (omega arith)).scheduled.starts;
+}
+
 module _ (leaf_of : Point → ℕ) (levels : ℕ) where
   open_pace : (asked : ℕ) (point : Point) (stop : Stop) (old new : PortState)
       → OpenStopped leaf_of levels asked point stop old new → PaceAt old.clock.config stop new
@@ -222,7 +243,8 @@ module _ (leaf_of : Point → ℕ) (levels : ℕ) where
   open_pace asked point (TimeUp at) old new h =
       let (up, passed, more, few) = h.breaks [] in
       let (next, rate) = h.stopped.ends in
-      (up.late, omega (arith, next, rate), up.pace)
+      let early : new.clock.last ≤ at = omega (arith, next, rate) in
+      (up.late, early, up.pace, next_start old.clock.config at asked new.clock new.tap.log early up)
   open_pace asked point Device old new h = h.stopped.pace
   open_pace asked point NoMemory old new h = h.stopped.pace
 

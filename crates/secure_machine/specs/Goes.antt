@@ -6,8 +6,11 @@ use Rattle.asc_base.specs.declared.stop.Stop.{Stop}
 use Rattle.asc_base.specs.declared.stop.Stop.TheVariants.{Integrity, StashFull, TimeUp, Device, NoMemory}
 use Rattle.asc_outside.specs.Memory.{MemoryState}
 use Rattle.asc_outside.specs.Rose.{Rose}
+use Rattle.bus_schedule.specs.Scheduled.{log_code}
+use Rattle.bus_schedule.specs.Shown.{starts_of}
+use Rattle.bus_schedule.specs.Timetable.{public_of, timetable, first_from}
 use Rattle.bus_watch.specs.Honest.{TellsMirror, MayTellMirror}
-use Rattle.bus_watch.specs.Log.{TapState}
+use Rattle.bus_watch.specs.Log.{TapState, LogLists}
 use Rattle.bus_watch.specs.RunEnd.{RunEnd}
 use Rattle.bus_watch.specs.Tied.{Tied, TiedAt}
 use Rattle.epoch_learner.specs.Stands.{KeepsPace}
@@ -52,6 +55,14 @@ pub record Goes (old new : PortState) : Type 0 where
   pub prepared : SameCount old new
   pub asked : Asks old new
 
+-- A time is the start of the first slot that wasn't done, since it isn't before the time of the settings: in the
+-- timetable of the log's own code it is the first start from that time on, and all slots that start before it were
+-- done.
+pub record IsNextStart (config : Config) (at : ℕ) (log : LogLists) : Type 0 where
+  pub late : config.time ≤ at
+  pub first : at ≡ first_from (public_of config) (log_code (public_of config) log) config.time
+  pub done : starts_of log.events ≡ timetable (public_of config) (log_code (public_of config) log) at
+
 -- Up to when the log keeps the pace after a stop. Where no slot is left, it does up to each time from the last end to
 -- the start of the slot that wasn't done, which isn't before the time of the settings.
 abbrev pub PaceAt : Config → Stop → PortState → Type 0
@@ -59,6 +70,7 @@ PaceAt config (Integrity evidence) new = KeepsPace config new.clock.last new.tap
 PaceAt config (StashFull held) new = KeepsPace config new.clock.last new.tap.log
 PaceAt config (TimeUp at) new = (config.time ≤ at) × (new.clock.last ≤ at)
     × ((end : ℕ) → new.clock.last ≤ end → end ≤ at → KeepsPace config end new.tap.log)
+    × IsNextStart config at new.tap.log
 PaceAt config Device new = KeepsPace config new.clock.last new.tap.log
 PaceAt config NoMemory new = KeepsPace config new.clock.last new.tap.log
 

@@ -56,7 +56,7 @@ ghost use Rattle.log_replay.specs.Order.{LogOrder};
 ghost use Rattle.play_run.specs.Given.{CallsPlay};
 ghost use Rattle.play_run.specs.Shows.{IsPlayed};
 ghost use Rattle.secure_machine.specs.Plays.{play_report, play_with};
-ghost use Rattle.secure_machine.specs.Finish.{IsRightEnding};
+ghost use Rattle.secure_machine.specs.Finish.{IsRightEnding, IsTimeUp};
 ghost use Rattle.secure_machine.specs.Judged.{ShowsEnding, EndsReplayed, WantsReplayed, SaysWanting, log_end};
 ghost use Rattle.secure_machine.specs.Run.{Reported, Wanting, IsFlatReport, IsUnprepared, IsTiedOr, IsTiedButLast};
 ghost use Rattle.secure_machine.specs.Run.{chip_keys, start_of, IsInBudget, DrawsLeaves};
@@ -297,6 +297,8 @@ pub fn run<M: UntrustedMemory, W: Watch, L: LeafFn>(
         → Rose (M.state bus.old.memory.now).faults (M.state bus.new.memory.now).faults) }
     ensures right { IfOk result (λ report.
         IsRightEnding config.now.budget config.now.time report.instructions report.cycles report.last report.ending) }
+    ensures time_up { IfOk result (λ report. (at : ℕ) → report.ending ≡ Ending.TimeUp at
+        → IsTimeUp config.now report.cycles (W.state bus.new.tap.now).log at) }
     ensures asked { (M.state bus.new.memory.now).moved
         ≡ (M.state bus.old.memory.now).moved + length (W.state bus.new.tap.now).log.moves }
     ensures unaltered { IsSome (M.state bus.old.memory.now).told → (W.state bus.new.tap.now).log.altered ≡ [] }
