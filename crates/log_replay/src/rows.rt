@@ -29,11 +29,12 @@ ghost use Rattle.log_replay.specs.Rows.{CanStand, IsTopLine, found_log, again_lo
 /// first dummy; a block's first slot, in which zeros are put back and answered, or any line of it is put back, or
 /// nothing, and another block's message is appended behind it; a slot of which nothing is noted but its point, be it
 /// the first or behind a dummy; a block's second slot, which accepts what the first put back, answers it and puts it
-/// back again. Refused are a log that doesn't begin with a slot, a dummy with another number, or that
-/// was asked for, or in which something is put back, a block's slot that nobody asked for, a leaf that isn't the
-/// point's, a line that was accepted though nothing was at hand, another line's number or value in an answer, an answer
-/// where another line or nothing was put back, another block's message that is put back, the slot's own that is
-/// appended, any message that is appended where one was put back, and a slot behind one of which nothing is noted.
+/// back again. Refused are a log that doesn't begin with a slot, a dummy with another number, or that was asked for, or
+/// in which something is put back, a block's slot that nobody asked for, a leaf that isn't the point's, a line that was
+/// accepted though nothing was at hand, another line's number or value in an answer, an answer where another line or
+/// nothing was put back, another block's message that is put back, the slot's own that is appended, any message that is
+/// appended where one was put back, a slot behind one of which nothing is noted, and a block's second slot that finds
+/// nothing, or accepts another message than the first put back.
 pub fn logs_have_rows()
     ensures none { (keys : Keys) → LogOrder keys empty_log }
     ensures dummy { (keys : Keys) → LogOrder keys (log_of (dummy_events keys 0)) }
@@ -46,9 +47,15 @@ pub fn logs_have_rows()
     ensures bare { (keys : Keys) (a : ℕ) (c : Counter) → LogOrder keys (log_of (block_events keys a c [])) }
     ensures second { (keys : Keys) → LogOrder keys
         (log_of (dummy_events keys 0 ++ drawn_events keys 1008 None (Dummy 1))) }
-    ensures read_back { (keys : Keys) (a : ℕ) (d e : Counter) (l : List ℕ) → IsTopLine keys a l
-        → IsBefore first_counter d → LogOrder keys
+    ensures read_back { (keys : Keys) (a : ℕ) (d : Counter) (l : List ℕ) → IsTopLine keys a l
+        → IsBefore first_counter d → (e : Counter) → LogOrder keys
         (again_log keys a d l (found_again keys a d l (fetched (message_of a e l) a l))) }
+    ensures lost { (keys : Keys) (a : ℕ) (d : Counter) (l : List ℕ) → IsTopLine keys a l
+        → IsBefore first_counter d → (e : Counter) → LogOrder keys
+        (again_log keys a d l (fetched (message_of a e zero_line) a zero_line)) → ⊥ }
+    ensures other_read { (keys : Keys) (a : ℕ) (d : Counter) (l : List ℕ) → IsTopLine keys a l
+        → IsBefore first_counter d → (m : Message) (u : List ℕ) → (m ≡ message_of a d l → ⊥) → LogOrder keys
+        (again_log keys a d l (Accepted m u ∷ [])) → ⊥ }
     ensures no_slot { (keys : Keys) (line : ℕ) (events : List Event) → LogOrder keys
         (log_of (Answered line (record { 0 = zero_line }) ∷ events)) → ⊥ }
     ensures no_point { (keys : Keys) → LogOrder keys (log_of (Access 256 None ∷ Chosen 0 ∷ [])) → ⊥ }
@@ -103,9 +110,9 @@ pub fn altered_logs_have_rows()
 /// What logs show to be wrong. Nothing is wrong in the slot of the first dummy, so no stop is its first verdict, nor
 /// in a block's first slot. A block that was accessed before is missing where no bucket was ever written, and a
 /// message that is appended is one too many for a stash of none. Reads broke off where no more moves are noted than
-/// those down to a level, and not where none is noted, or a write came last. A failed move ends a log with its last
-/// move failed, and want of memory with it open, and a time that is up with neither. An empty log says buckets of zeros
-/// alone.
+/// those down to a level, and not where none is noted, or a write came last. Where a device failed the log ended with a
+/// failed move, and not whole; where memory ran out it may have ended so, and not with a failed move; and where time
+/// was up not with a failed move. An empty log says buckets of zeros alone.
 pub fn verdicts_have_rows()
     ensures dummy { (keys : Keys) (stash : ℕ) → verdict_on keys stash (log_of (dummy_events keys 0)) ≡ None }
     ensures first { (keys : Keys) (stash a : ℕ) → verdict_on keys stash
@@ -124,6 +131,8 @@ pub fn verdicts_have_rows()
         → BreaksOffReading keys stash (moved_log (moves ++ write_move at bucket ∷ []) events) → ⊥ }
     ensures ends { EndsLog Device LastFailed × EndsLog NoMemory RanOut }
     ensures time_ends { (at : ℕ) → EndsLog (TimeUp at) LastFailed → ⊥ }
+    ensures device_ends { EndsLog Device Whole → ⊥ }
+    ensures memory_ends { EndsLog NoMemory LastFailed → ⊥ }
     ensures buckets { (keys : Keys) → SaysMirror keys empty_log Whole (zero_buckets keys.shape.buckets) }
     ensures other_buckets { (keys : Keys) (mirror : List (List ℕ)) → SaysMirror keys empty_log Whole mirror
         → mirror ≡ zero_buckets keys.shape.buckets }

@@ -2,7 +2,7 @@ use Rattle.log_replay.proofs.OrderRows.{none, dummy, first, appended, bare, seco
 use Rattle.log_replay.proofs.OrderRows.{same_number, asked_dummy, tagged_dummy, unasked_block, other_leaf, accepted}
 use Rattle.log_replay.proofs.OrderRows.{stored, other_line, other_put, unput, both_tagged}
 use Rattle.log_replay.proofs.OrderRows.{other_value, other_block, own_block, unread}
-use Rattle.log_replay.proofs.AgainRows.{read_back}
+use Rattle.log_replay.proofs.AgainRows.{read_back, lost, other_read}
 use Rattle.log_replay.proofs.rows.logs_have_rows.Goals as goal
 
 pub returns : goal.returns
@@ -15,6 +15,8 @@ returns c = record {
   bare = bare;
   second = second;
   read_back = read_back;
+  lost = lost;
+  other_read = other_read;
   no_slot = no_slot;
   no_point = no_point;
   other_number = other_number;

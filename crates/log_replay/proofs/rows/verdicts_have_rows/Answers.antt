@@ -1,4 +1,4 @@
-use Rattle.std.proofs.Common.{refl, inr}
+use Rattle.std.proofs.Common.{refl, inl, inr}
 use Rattle.log_replay.proofs.VerdictRows.{dummy_right, first_right, right, missing, full, breaks_off, no_moves, written}
 use Rattle.log_replay.proofs.VerdictRows.{buckets, other_buckets}
 use Rattle.log_replay.proofs.rows.verdicts_have_rows.Goals as goal
@@ -14,7 +14,9 @@ returns c = record {
   no_moves = no_moves;
   written = written;
   ends = (refl, inr refl);
-  time_ends = λ at is. (cc);
+  time_ends = λ at is. cc;
+  device_ends = λ is. cc;
+  memory_ends = λ is. elim is [ inl whole ↦ cc | inr out ↦ cc ];
   buckets = buckets;
   other_buckets = other_buckets;
 }
