@@ -74,6 +74,7 @@ module _ (keys : Keys) (a : ℕ) (d : Counter) (l : List ℕ) (top : IsTopLine k
         tt,
       ),
     );
+    noted = λ reply h. absurd h;
   }
 
   abbrev again : List Event → LogLists

@@ -1,10 +1,11 @@
 -- A log of one slot, in which the root's reply was altered: an entry stands there in the first slot.
-use Rattle.std.proofs.Common.{◌≡◌, ◌<◌, ◌≤◌, ◌+◌, ◌*◌, ◌^◌, ◌==◌, inl, inr, ℕ, zero, suc, Bool, true, false}
+use Rattle.std.proofs.Common.{◌≡◌, ◌<◌, ◌≤◌, ◌+◌, ◌*◌, ◌^◌, ◌==◌, ◌⊎◌, inl, inr, ℕ, zero, suc, Bool, true, false}
 use Rattle.std.proofs.Common.{if◌then◌else◌, List, [], ◌∷◌, ◌++◌, map, get_or, All, Option, None, Some, Result, Ok, Err}
 use Rattle.std.proofs.Common.{bytes_eq, is_some, refl, sym, ◌∙◌, ap, subst, arith}
 use Rattle.std.proofs.lemmas.Bool.Decides.{eqb_tells}
 use Rattle.std.proofs.lemmas.Slice.Eq.{bytes_eq-Decides}
 use Rattle.std.specs.List.{range_with_len}
+use Rattle.asc_base.specs.Has.{Has}
 use Rattle.asc_base.specs.TreeShape.{bucket_of}
 use Rattle.asc_base.specs.declared.block.Counter.{Counter}
 use Rattle.asc_base.specs.declared.block.Entry.{Entry}
@@ -19,6 +20,7 @@ use Rattle.asc_outside.specs.Memory.{zero_buckets}
 use Rattle.bucket_codec.specs.Bucket.{opened}
 use Rattle.bucket_codec.specs.Slot.{IsEntry, IsSlot, IsInRange}
 use Rattle.bucket_codec.proofs.Buckets.{opened_bucket}
+use Rattle.bus_watch.specs.declared.log.Altered.{Altered}
 use Rattle.bus_watch.specs.declared.log.Event.TheVariants.{Accepted}
 use Rattle.oram_contents.specs.Contents.{IsReadTo}
 use Rattle.oram_contents.specs.Entries.{Keys, real, message_of}
@@ -149,8 +151,14 @@ module _ (keys : Keys) (a : ℕ) (c : Counter) (l tag : List ℕ) (can : CanStan
       }),
       tt,
     );
+    noted = in_slot;
   }
     where
+      in_slot : (reply : Altered) → Has reply (found_reply keys a c l tag ∷ [])
+          → (reply.before ≡ 2) ⊎ ⊥
+      in_slot reply (inl is) = inl (ap (λ (r : Altered). r.before) is)
+      in_slot reply (inr none) = absurd none
+
       same_tag : bytes_eq tag (tag_of keys.tags (message_of a c l)) ≡ true
       same_tag = (bytes_eq-Decides tag (tag_of keys.tags (message_of a c l))).1 valid
 

@@ -3,6 +3,7 @@ use Rattle.std.proofs.Common.{◌≡◌, ◌<◌, inl, ℕ, false, List, [], ◌
 use Rattle.std.proofs.Common.{ap, ap₂, subst, arith, append-nil, append_assoc}
 use Rattle.std.specs.List.{count_by, flat_map}
 use Rattle.std.proofs.lemmas.List.Concat.{flat_map-append}
+use Rattle.asc_base.specs.Has.{Has}
 use Rattle.asc_base.specs.declared.block.Address.{Address}
 use Rattle.asc_base.specs.declared.block.Entry.{Entry}
 use Rattle.asc_base.specs.declared.block.Line.{Line}
@@ -11,6 +12,7 @@ use Rattle.asc_base.specs.declared.stop.Evidence.TheVariants.{Doubled}
 use Rattle.asc_base.specs.declared.stop.Stop.{Stop}
 use Rattle.asc_base.specs.declared.stop.Stop.TheVariants.{Integrity}
 use Rattle.bus_watch.specs.Log.{LogLists}
+use Rattle.bus_watch.specs.declared.log.Altered.{Altered}
 use Rattle.bus_watch.specs.declared.log.Event.{Event}
 use Rattle.bus_watch.specs.declared.log.Event.TheVariants.{Tagged, Answered}
 use Rattle.oram_contents.specs.Contents.{Contents}
@@ -31,10 +33,11 @@ use Rattle.rate_enforcer.specs.Counts.{is_dummy}
 use Rattle.rate_enforcer.proofs.Counted.{count_more}
 use Rattle.log_replay.specs.Judged.{verdict_on}
 use Rattle.log_replay.specs.Order.{Behind, Appends, Answers, SlotNotes, accepted_events, chosen_events, behind_events}
-use Rattle.log_replay.specs.Order.{events_of, put_line, MayStand, IsTaken, IsDone, AreInOrder, AreDone, LogOrder}
+use Rattle.log_replay.specs.Order.{events_of, put_line, MayStand, IsTaken, IsDone, AreInOrder, AreDone, IsNotedIn}
+use Rattle.log_replay.specs.Order.{LogOrder}
 use Rattle.log_replay.proofs.BlockSlots.{IsBehindBlock}
 use Rattle.log_replay.proofs.Orders.{all_events, behind_none, read_kept, order_kept, all_done_kept, order_more}
-use Rattle.log_replay.proofs.Orders.{done_more, order_front, order_last, done_front}
+use Rattle.log_replay.proofs.Orders.{noted_other, done_more, order_front, order_last, done_front}
 use Rattle.log_replay.proofs.ReplayedLogs.{IsReplayedLog}
 
 -- where nothing is wrong with an append none of its address is at hand
@@ -116,6 +119,9 @@ module _ (keys : Keys) (stash : ℕ) (old new : LogLists) (now : Contents) (n a 
     events = both_events;
     order = order_more keys new [] 0 x.before stood front_order front_done
         (order_last keys old [] 0 x.before x.last ordered) (inl last_done);
+    noted = λ reply h. noted_other keys [] x.before x.last stood reply
+        (subst (λ slots. IsNotedIn keys [] slots reply) x.slots
+        (x.replayed.order.noted reply (subst (λ (l : List Altered). Has reply l) altered h)));
   }
 
   -- what is known of the longer log, with contents that it says, in which nothing is wrong, and of which holds what

@@ -9,6 +9,7 @@ use Rattle.asc_base.specs.declared.block.Point.{Point}
 use Rattle.asc_base.specs.declared.block.Point.TheVariants.{Dummy}
 use Rattle.asc_base.specs.declared.stop.Evidence.{Evidence}
 use Rattle.asc_base.specs.declared.stop.Evidence.TheVariants.{Missing}
+use Rattle.bus_watch.specs.declared.log.Altered.{Altered}
 use Rattle.bus_watch.specs.declared.log.Event.{Event}
 use Rattle.bus_watch.specs.declared.log.Event.TheVariants.{Access, Drawn, Tagged, Accepted, Chosen, Answered}
 use Rattle.oram_contents.specs.Counts.{zero_line}
@@ -18,7 +19,7 @@ use Rattle.oram_contents.specs.Starts.{empty_log}
 use Rattle.oram_contents.specs.Verdict.{is_first, judged, put_events, IsOfPoint}
 use Rattle.posmap_counters.specs.Counters.{first_counter}
 use Rattle.log_replay.specs.Order.{Behind, Nothing, Appends, Answers, SlotNotes, chosen_events, behind_events}
-use Rattle.log_replay.specs.Order.{events_of, accepted_events, IsTaken}
+use Rattle.log_replay.specs.Order.{events_of, accepted_events, IsTaken, IsNotedIn}
 use Rattle.log_replay.specs.Order.{IsNextPoint, MayStand, IsDone, AreInOrder, LogOrder}
 use Rattle.log_replay.specs.Rows.{log_of, dummy_events, block_events, fetched, displaced}
 use Rattle.log_replay.proofs.FirstReads.{read_empty}
@@ -34,7 +35,7 @@ no_line value is = cc
 
 module _ (keys : Keys) where
   pub none : LogOrder keys empty_log
-  none = record { slots = []; events = refl; order = tt }
+  none = record { slots = []; events = refl; order = tt; noted = λ reply h. absurd h }
 
   abbrev dummy_notes : SlotNotes
   dummy_notes = record {
@@ -56,6 +57,7 @@ module _ (keys : Keys) where
     slots = dummy_notes ∷ [];
     events = refl;
     order = ((refl, refl), inl (dummy_done []), tt);
+    noted = λ reply h. absurd h;
   }
 
   abbrev bare_dummy : SlotNotes
@@ -78,6 +80,7 @@ module _ (keys : Keys) where
       inl (dummy_done (drawn_events keys 1008 None (Dummy 1))),
       ((refl, refl), inr (record { found = refl; put = refl; chosen = refl; behind = refl }, refl), tt),
     );
+    noted = λ reply h. absurd h;
   }
 
   module _ (a : ℕ) where
@@ -109,6 +112,7 @@ module _ (keys : Keys) where
         }),
         tt,
       );
+      noted = λ reply h. absurd h;
     }
       where
         assoc : (p : Option Message) (o : Option ℕ) → block_events keys a first_counter
@@ -141,6 +145,7 @@ module _ (keys : Keys) where
         inr (record { found = refl; put = refl; chosen = refl; behind = refl }, refl),
         tt,
       );
+      noted = λ reply h. absurd h;
     }
 
   pub no_slot : (line : ℕ) (events : List Event)
@@ -151,6 +156,14 @@ module _ (keys : Keys) where
           ≡ all_events keys slots) → ⊥
       by_slots [] is = cc
       by_slots (s ∷ later) is = cc
+
+  pub no_slot_reply : (reply : Altered)
+      → LogOrder keys (record { moves = []; events = []; altered = reply ∷ [] }) → ⊥
+  no_slot_reply reply o = by_slots o.slots o.events (o.noted reply (inl refl))
+    where
+      by_slots : (slots : List SlotNotes) → [] ≡ all_events keys slots → IsNotedIn keys [] slots reply → ⊥
+      by_slots [] is noted = noted
+      by_slots (s ∷ later) is noted = cc
 
   pub no_point : LogOrder keys (log_of (Access 256 None ∷ Chosen 0 ∷ [])) → ⊥
   no_point o = by_slots o.slots o.events

@@ -22,7 +22,7 @@ use Rattle.rate_enforcer.specs.Counts.{is_dummy}
 use Rattle.rate_enforcer.proofs.Counted.{count_more}
 use Rattle.log_replay.specs.Order.{Behind, Nothing, Appends, Answers, SlotNotes, accepted_events, chosen_events}
 use Rattle.log_replay.specs.Order.{behind_events, events_of, IsNextPoint, IsReadIn, IsDone, IsBare, AreInOrder}
-use Rattle.log_replay.specs.Order.{AreDone}
+use Rattle.log_replay.specs.Order.{AreDone, IsNotedIn}
 
 -- what is noted of a slot behind its start
 abbrev pub later_events : SlotNotes → List Event
@@ -235,3 +235,28 @@ module _ (keys : Keys) where
           (done.0, rest.0),
           subst (λ l. IsDone keys log l s) (append_assoc before (events_of keys x) (all_events slots)) rest.1,
         )
+
+module _ (keys : Keys) where
+  -- a reply that was noted in one of some slots was so when there is one more, and whatever stands behind the last
+  pub noted_more : (before : List Event) (slots : List SlotNotes) (s : SlotNotes) (reply : Altered)
+      → IsNotedIn keys before slots reply → IsNotedIn keys before (slots ++ s ∷ []) reply
+  noted_more before [] s reply h = absurd h
+  noted_more before (x ∷ slots) s reply (inl here) = inl here
+  noted_more before (x ∷ slots) s reply (inr later) =
+      inr (noted_more (before ++ events_of keys x) slots s reply later)
+
+  pub noted_other : (before : List Event) (slots : List SlotNotes) (s other : SlotNotes) (reply : Altered)
+      → IsNotedIn keys before (slots ++ s ∷ []) reply → IsNotedIn keys before (slots ++ other ∷ []) reply
+  noted_other before [] s other reply (inl here) = inl here
+  noted_other before [] s other reply (inr later) = absurd later
+  noted_other before (x ∷ slots) s other reply (inl here) = inl here
+  noted_other before (x ∷ slots) s other reply (inr later) =
+      inr (noted_other (before ++ events_of keys x) slots s other reply later)
+
+  -- and one that was noted behind the last one's point
+  pub noted_last : (before : List Event) (slots : List SlotNotes) (s : SlotNotes) (reply : Altered)
+      → reply.before ≡ length (before ++ all_events keys slots) + 2 → IsNotedIn keys before (slots ++ s ∷ []) reply
+  noted_last before [] s reply at = inl (at ∙ ap (λ l. length l + 2) (append-nil before))
+  noted_last before (x ∷ slots) s reply at =
+      inr (noted_last (before ++ events_of keys x) slots s reply
+      (at ∙ ap (λ l. length l + 2) (sym (append_assoc before (events_of keys x) (all_events keys slots)))))

@@ -3,7 +3,7 @@ use Rattle.std.proofs.Common.{◌≡◌, ◌<◌, ◌+◌, ◌⊎◌, inl, inr, 
 use Rattle.std.proofs.Common.{refl, sym, ◌∙◌, ap, ap₂, subst, arith, append-nil, append_assoc}
 use Rattle.std.specs.List.{count_by, flat_map}
 use Rattle.std.proofs.lemmas.List.Concat.{flat_map-append}
-use Rattle.asc_base.proofs.Members.{all_has}
+use Rattle.asc_base.proofs.Members.{all_has, has_split}
 use Rattle.asc_base.specs.Has.{Has}
 use Rattle.asc_base.specs.declared.block.Entry.{Entry}
 use Rattle.asc_base.specs.declared.block.Message.{Message}
@@ -27,7 +27,7 @@ use Rattle.log_replay.specs.Judged.{verdict_on}
 use Rattle.log_replay.specs.Order.{Nothing, SlotNotes, accepted_events, chosen_events, events_of, IsNextPoint, IsTaken}
 use Rattle.log_replay.specs.Order.{IsDone, IsBare, AreDone, LogOrder}
 use Rattle.log_replay.proofs.Orders.{later_events, all_events, next_after, numbered, order_kept, all_done_kept}
-use Rattle.log_replay.proofs.Orders.{order_more}
+use Rattle.log_replay.proofs.Orders.{order_more, noted_more, noted_last}
 
 -- A log notes slots in order, each of which was done, and so many dummies; it says these contents, in which nothing is
 -- wrong.
@@ -131,6 +131,13 @@ module _ (keys : Keys) (stash : ℕ) (old new : LogLists) (now : Contents) (n : 
           (all_done_kept keys old new extra adds.altered_are [] x.order.slots (late extra noted) x.done)
           (subst (λ k. IsNextPoint k s.asked s.point) (sym count) next)
           (elim is [ inl d ↦ inl (subst (λ l. IsDone keys new l s) x.order.events d) | inr b ↦ inr b ]);
+      noted = λ reply h. elim (has_split reply old.altered extra
+          (subst (λ (l : List Altered). Has reply l) adds.altered_are h)) [
+            | inl early ↦ noted_more keys [] x.order.slots s reply (x.order.noted reply early)
+            | inr here ↦ noted_last keys [] x.order.slots s reply
+                (all_has (λ (r : Altered). r.before ≡ length old.events + 2) reply extra noted here
+                ∙ ap (λ l. length l + 2) x.order.events)
+          ];
     },
     refl,
   )

@@ -81,7 +81,7 @@ module _ (keys : Keys) (stash : ℕ) (log : LogLists) (now : Contents) (n : ℕ)
 -- at the start
 pub start_replayed : (keys : Keys) (stash : ℕ) → IsReplayedLog keys stash empty_log (first_contents keys) 0
 start_replayed keys stash = record {
-  order = record { slots = []; events = refl; order = tt };
+  order = record { slots = []; events = refl; order = tt; noted = λ reply h. absurd h };
   done = tt;
   dummies_are = refl;
   contents_are = refl;

@@ -2,12 +2,14 @@
 use Rattle.std.specs.Prelude.{◌≡◌, ◌+◌, ◌⊎◌, ℕ, List, [], ◌∷◌, ◌++◌, length, map, Option, None, Some, option_map}
 use Rattle.std.specs.Prelude.{option_to_list}
 use Rattle.std.specs.List.{flat_map}
+use Rattle.asc_base.specs.Has.{Has}
 use Rattle.asc_base.specs.declared.block.Entry.{Entry}
 use Rattle.asc_base.specs.declared.block.Line.{Line}
 use Rattle.asc_base.specs.declared.block.Message.{Message}
 use Rattle.asc_base.specs.declared.block.Point.{Point}
 use Rattle.asc_base.specs.declared.block.Point.TheVariants.{Real, Dummy}
 use Rattle.bus_watch.specs.Log.{LogLists}
+use Rattle.bus_watch.specs.declared.log.Altered.{Altered}
 use Rattle.bus_watch.specs.declared.log.Event.{Event}
 use Rattle.bus_watch.specs.declared.log.Event.TheVariants.{Tagged, Chosen, Answered}
 use Rattle.oram_contents.specs.Contents.{IsReadTo}
@@ -112,11 +114,18 @@ abbrev pub AreDone : Keys → LogLists → List Event → List SlotNotes → Typ
 AreDone keys log before [] = Unit {0}
 AreDone keys log before (s ∷ later) = IsDone keys log before s × AreDone keys log (before ++ events_of keys s) later
 
+-- An altered reply was noted in one of these slots, behind some events: right behind the slot's point.
+abbrev pub IsNotedIn : Keys → List Event → List SlotNotes → Altered → Type 0
+IsNotedIn keys before [] reply = ⊥
+IsNotedIn keys before (s ∷ later) reply =
+    (reply.before ≡ length before + 2) ⊎ IsNotedIn keys (before ++ events_of keys s) later reply
+
 -- The events of a log are those of slots in order: each slot's leaf is that of its point, dummies are numbered in turn,
 -- what is accepted is what the contents have, under the point's counter and with its tag, a line that is answered is
 -- that of the block in whose slot it is answered, as it was found and as it was put back, and another block's message
--- is appended only where nothing was put back.
+-- is appended only where nothing was put back. Each altered reply was noted in one of the slots.
 pub record LogOrder (keys : Keys) (log : LogLists) : Type 0 where
   pub slots : List SlotNotes
   pub events : log.events ≡ flat_map (events_of keys) slots
   pub order : AreInOrder keys log [] 0 slots
+  pub noted : (reply : Altered) → Has reply log.altered → IsNotedIn keys [] slots reply

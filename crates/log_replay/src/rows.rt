@@ -9,6 +9,7 @@ ghost use Rattle.asc_base.specs.declared.stop.Stop.{Stop};
 ghost use Rattle.asc_base.specs.declared.stop.Stop.TheVariants.{Integrity, StashFull, TimeUp, Device, NoMemory};
 ghost use Rattle.asc_outside.specs.Memory.{zero_buckets};
 ghost use Rattle.bus_watch.specs.Log.{LogLists, write_move};
+ghost use Rattle.bus_watch.specs.declared.log.Altered.{Altered};
 ghost use Rattle.bus_watch.specs.declared.log.Event.{Event};
 ghost use Rattle.bus_watch.specs.declared.log.Event.TheVariants.{Access, Drawn, Accepted, Tagged, Chosen, Answered};
 ghost use Rattle.bus_watch.specs.declared.log.Move.{Move};
@@ -29,12 +30,12 @@ ghost use Rattle.log_replay.specs.Rows.{CanStand, IsTopLine, found_log, again_lo
 /// first dummy; a block's first slot, in which zeros are put back and answered, or any line of it is put back, or
 /// nothing, and another block's message is appended behind it; a slot of which nothing is noted but its point, be it
 /// the first or behind a dummy; a block's second slot, which accepts what the first put back, answers it and puts it
-/// back again. Refused are a log that doesn't begin with a slot, a dummy with another number, or that was asked for, or
-/// in which something is put back, a block's slot that nobody asked for, a leaf that isn't the point's, a line that was
-/// accepted though nothing was at hand, another line's number or value in an answer, an answer where another line or
-/// nothing was put back, another block's message that is put back, the slot's own that is appended, any message that is
-/// appended where one was put back, a slot behind one of which nothing is noted, and a block's second slot that finds
-/// nothing, or accepts another message than the first put back.
+/// back again. Refused are a log that doesn't begin with a slot, a reply that was altered in no slot, a dummy with
+/// another number, or that was asked for, or in which something is put back, a block's slot that nobody asked for, a
+/// leaf that isn't the point's, a line that was accepted though nothing was at hand, another line's number or value in
+/// an answer, an answer where another line or nothing was put back, another block's message that is put back, the
+/// slot's own that is appended, any message that is appended where one was put back, a slot behind one of which nothing
+/// is noted, and a block's second slot that finds nothing, or accepts another message than the first put back.
 pub fn logs_have_rows()
     ensures none { (keys : Keys) → LogOrder keys empty_log }
     ensures dummy { (keys : Keys) → LogOrder keys (log_of (dummy_events keys 0)) }
@@ -58,6 +59,8 @@ pub fn logs_have_rows()
         (again_log keys a d l (Accepted m u ∷ [])) → ⊥ }
     ensures no_slot { (keys : Keys) (line : ℕ) (events : List Event) → LogOrder keys
         (log_of (Answered line (record { 0 = zero_line }) ∷ events)) → ⊥ }
+    ensures no_slot_reply { (keys : Keys) (reply : Altered) → LogOrder keys
+        (record { moves = []; events = []; altered = reply ∷ [] }) → ⊥ }
     ensures no_point { (keys : Keys) → LogOrder keys (log_of (Access 256 None ∷ Chosen 0 ∷ [])) → ⊥ }
     ensures other_number { (keys : Keys) → LogOrder keys (log_of (dummy_events keys 1)) → ⊥ }
     ensures same_number { (keys : Keys) → LogOrder keys

@@ -1,10 +1,12 @@
 -- What a log says along a run: one request, and how the run ended.
 use Rattle.std.proofs.Common.{◌≡◌, ◌∙◌, ℕ, List, [], None, Some, Result, Ok, Err, IfOk, OnErr, sym, ap, subst, arith}
 use Rattle.std.specs.Prelude.{MatchResult}
+use Rattle.asc_base.specs.Has.{Has}
 use Rattle.asc_base.specs.declared.shape.Shape.{Shape}
 use Rattle.asc_base.specs.declared.stop.Stop.{Stop}
 use Rattle.asc_base.specs.declared.stop.Stop.TheVariants as why
 use Rattle.bus_watch.specs.Log.{LogLists}
+use Rattle.bus_watch.specs.declared.log.Altered.{Altered}
 use Rattle.bus_watch.specs.declared.log.Event.{Event}
 use Rattle.data_cache.specs.Lines.{LineRequest, Fetch, Store}
 use Rattle.log_replay.specs.Given.{CallsReplay}
@@ -105,8 +107,13 @@ stopped_replayed keys stash stop s (Err e) named wants h =
     record { order = now.order; shows = now.shows; mirror = (now.end, now.ends, now.mirror) }
 
 -- ---- before the first slot
-pub start_order : (keys : Keys) (log : LogLists) → log.events ≡ [] → LogOrder keys log
-start_order keys log none = record { slots = []; events = none; order = tt }
+pub start_order : (keys : Keys) (log : LogLists) → log.events ≡ [] → log.altered ≡ [] → LogOrder keys log
+start_order keys log none unaltered = record {
+  slots = [];
+  events = none;
+  order = tt;
+  noted = λ reply h. absurd (subst (λ (l : List Altered). Has reply l) unaltered h);
+}
 
 pub start_right : (keys : Keys) (stash : ℕ) (log : LogLists) → log.events ≡ [] → verdict_on keys stash log ≡ None
 start_right keys stash log none =

@@ -1,6 +1,6 @@
 use Rattle.log_replay.proofs.OrderRows.{none, dummy, first, appended, bare, second, no_slot, no_point, other_number}
 use Rattle.log_replay.proofs.OrderRows.{same_number, asked_dummy, tagged_dummy, unasked_block, other_leaf, accepted}
-use Rattle.log_replay.proofs.OrderRows.{stored, other_line, other_put, unput, both_tagged}
+use Rattle.log_replay.proofs.OrderRows.{no_slot_reply, stored, other_line, other_put, unput, both_tagged}
 use Rattle.log_replay.proofs.OrderRows.{other_value, other_block, own_block, unread}
 use Rattle.log_replay.proofs.AgainRows.{read_back, lost, other_read}
 use Rattle.log_replay.proofs.rows.logs_have_rows.Goals as goal
@@ -18,6 +18,7 @@ returns c = record {
   lost = lost;
   other_read = other_read;
   no_slot = no_slot;
+  no_slot_reply = no_slot_reply;
   no_point = no_point;
   other_number = other_number;
   same_number = same_number;
