@@ -1,7 +1,6 @@
 -- The instructions that a run finished, by themselves; and what more lines add.
 use Rattle.std.proofs.Common.{◌≡◌, ℕ, zero, suc, ◌+◌, ◌-◌, ◌≤◌, Bool, true, false, if◌then◌else◌, List, [], ◌++◌}
-use Rattle.std.proofs.Common.{Option, Some, None, refl, sym, ap, subst, arith, ◌∙◌, append_assoc, append-nil}
-use Rattle.std.specs.Option.{option_and_then}
+use Rattle.std.proofs.Common.{Result, Ok, Err, refl, sym, ap, subst, arith, ◌∙◌, append_assoc, append-nil}
 use Rattle.std.specs.Int.{from_le_bytes, w32}
 use Rattle.rv32_core.specs.FlatMachine.{bytes_at, effected, trap_at}
 use Rattle.rv32_core.specs.FlatRun.{Exited, Trapped, Budget}
@@ -16,7 +15,8 @@ use Rattle.rv32_core.specs.declared.outcome.TrapKind.{TrapKind}
 use Rattle.rv32_core.specs.declared.outcome.TrapKind.TheVariants.{FetchFault}
 use Rattle.fed_run.specs.Fed.{Feed, fed_use, fed_uses, FedStep, fed_after, fed_word, fed_step, FedEnding, Ends, Starves}
 use Rattle.fed_run.specs.Fed.{FedRun, one_before, fed_on, fed_from, fed_run, fed_on_from, fed_gone_on, with_more}
-use Rattle.fed_run.specs.Fed.{run_with_more, IsDone}
+use Rattle.fed_run.specs.Fed.{run_with_more, IsDone, NoneLeft, AnotherLine, Refuses}
+use Rattle.fed_run.specs.Fed.{NotedLine, Unfed, fed_then}
 use Rattle.fed_run.proofs.HonestLaws.{fed_run-zero, fed_run-suc}
 use Rattle.fed_run.proofs.GoOn.{map-found, then-found, run-parts, run-more}
 
@@ -53,10 +53,10 @@ effect-leaves machine memory cost (Exits status) = (same-output machine.files.ou
 effect-leaves machine memory cost (Traps kind) = (same-output machine.files.output, λ kind pc e. refl)
 
 step-if-leaves : (ways : ℕ) (machine : Machine) (feed : Feed) (step : FedStep) (b : Bool)
-    → (if b then option_and_then
+    → (if b then fed_then
     (λ (now : Feed). fed_word ways machine (from_le_bytes w32 (bytes_at machine now.memory machine.core.pc 4)) now)
     (fed_use ways feed (fetch_line machine.core))
-    else Some (record { machine = machine; feed = feed; done = trap_at machine.core FetchFault })) ≡ Some step
+    else Ok (record { machine = machine; feed = feed; done = trap_at machine.core FetchFault })) ≡ Ok step
     → Leaves machine step.machine step.done.ended
 step-if-leaves ways machine feed step false e =
     let fault : FedStep = record { machine = machine; feed = feed; done = trap_at machine.core FetchFault } in
@@ -64,7 +64,7 @@ step-if-leaves ways machine feed step false e =
     subst (λ (s : FedStep). Leaves machine s.machine s.done.ended) same
     (same-output machine.files.output, λ kind pc e. refl)
 step-if-leaves ways machine feed step true e =
-    let go : Feed → Option FedStep =
+    let go : Feed → Result FedStep Unfed =
     λ now. fed_word ways machine (from_le_bytes w32 (bytes_at machine now.memory machine.core.pc 4)) now in
     let found = then-found go (fed_use ways feed (fetch_line machine.core)) step e in
     let word : ℕ = from_le_bytes w32 (bytes_at machine (found.0).memory machine.core.pc 4) in
@@ -74,7 +74,7 @@ step-if-leaves ways machine feed step true e =
     subst (λ (s : FedStep). Leaves machine s.machine s.done.ended) (made.2)
     (effect-leaves machine (made.0).memory (cost_of_word machine word) (effect_of_word machine word))
 
-step-leaves : (ways : ℕ) (machine : Machine) (feed : Feed) (step : FedStep) → fed_step ways machine feed ≡ Some step
+step-leaves : (ways : ℕ) (machine : Machine) (feed : Feed) (step : FedStep) → fed_step ways machine feed ≡ Ok step
     → Leaves machine step.machine step.done.ended
 step-leaves ways machine feed step e =
     step-if-leaves ways machine feed step (is_inside machine.core machine.core.pc 4) e
@@ -98,7 +98,7 @@ no-instruction ways machine feed run none same =
     )
 
 cut-on : (ways n : ℕ) (machine : Machine) (feed : Feed) (step : FedStep) (ended : Ended)
-    → fed_step ways machine feed ≡ Some step → step.done.ended ≡ ended
+    → fed_step ways machine feed ≡ Ok step → step.done.ended ≡ ended
     → IsCut ways step.machine step.feed (fed_run ways n step.machine step.feed)
     → IsCut ways machine feed (fed_on (fed_run ways n) step ended)
 cut-on ways n machine feed step No is ends rest =
@@ -124,12 +124,14 @@ cut-on ways n machine feed step (Trap kind pc) is ends rest =
     no-instruction ways machine feed (fed_on (fed_run ways n) step (Trap kind pc)) refl
     ((step-leaves ways machine feed step is).1 kind pc ends)
 
-cut-from : (ways n : ℕ) (machine : Machine) (feed : Feed) (step : Option FedStep) → fed_step ways machine feed ≡ step
+cut-from : (ways n : ℕ) (machine : Machine) (feed : Feed) (step : Result FedStep Unfed) → fed_step ways machine feed ≡ step
     → ((s : FedStep) → IsCut ways s.machine s.feed (fed_run ways n s.machine s.feed))
     → IsCut ways machine feed (fed_from (fed_run ways n) machine feed step)
-cut-from ways n machine feed None is each =
-    no-instruction ways machine feed (fed_from (fed_run ways n) machine feed None) refl refl
-cut-from ways n machine feed (Some s) is each = cut-on ways n machine feed s s.done.ended is refl (each s)
+cut-from ways n machine feed (Err NoneLeft) is each =
+    no-instruction ways machine feed (fed_from (fed_run ways n) machine feed (Err NoneLeft)) refl refl
+cut-from ways n machine feed (Err AnotherLine) is each =
+    no-instruction ways machine feed (fed_from (fed_run ways n) machine feed (Err AnotherLine)) refl refl
+cut-from ways n machine feed (Ok s) is each = cut-on ways n machine feed s s.done.ended is refl (each s)
 
 pub run-cut : (ways n : ℕ) (machine : Machine) (feed : Feed) → IsCut ways machine feed (fed_run ways n machine feed)
 run-cut ways zero machine feed =
@@ -147,11 +149,12 @@ few-on ways n step No h = omega arith
 few-on ways n step (Exit status) h = omega arith
 few-on ways n step (Trap kind pc) h = omega arith
 
-few-from : (ways n : ℕ) (machine : Machine) (feed : Feed) (step : Option FedStep)
+few-from : (ways n : ℕ) (machine : Machine) (feed : Feed) (step : Result FedStep Unfed)
     → ((s : FedStep) → (fed_run ways n s.machine s.feed).instructions ≤ n)
     → (fed_from (fed_run ways n) machine feed step).instructions ≤ suc n
-few-from ways n machine feed None each = omega arith
-few-from ways n machine feed (Some s) each = few-on ways n s s.done.ended (each s)
+few-from ways n machine feed (Err NoneLeft) each = omega arith
+few-from ways n machine feed (Err AnotherLine) each = omega arith
+few-from ways n machine feed (Ok s) each = few-on ways n s s.done.ended (each s)
 
 pub run-few : (ways n : ℕ) (machine : Machine) (feed : Feed) → (fed_run ways n machine feed).instructions ≤ n
 run-few ways zero machine feed =
@@ -171,11 +174,12 @@ output-on ways n machine step No first rest =
 output-on ways n machine step (Exit status) first rest = first
 output-on ways n machine step (Trap kind pc) first rest = first
 
-output-from : (ways n : ℕ) (machine : Machine) (feed : Feed) (step : Option FedStep) → fed_step ways machine feed ≡ step
+output-from : (ways n : ℕ) (machine : Machine) (feed : Feed) (step : Result FedStep Unfed) → fed_step ways machine feed ≡ step
     → ((s : FedStep) → Begins (fed_run ways n s.machine s.feed).machine.files.output s.machine.files.output)
     → Begins (fed_from (fed_run ways n) machine feed step).machine.files.output machine.files.output
-output-from ways n machine feed None is each = same-output machine.files.output
-output-from ways n machine feed (Some s) is each =
+output-from ways n machine feed (Err NoneLeft) is each = same-output machine.files.output
+output-from ways n machine feed (Err AnotherLine) is each = same-output machine.files.output
+output-from ways n machine feed (Ok s) is each =
     output-on ways n machine s s.done.ended ((step-leaves ways machine feed s is).0) (each s)
 
 -- a run appends to the output
@@ -194,16 +198,18 @@ gone_on-output ways more run (Ends Budget) = run-output ways more run.machine ru
 gone_on-output ways more run (Ends (Exited status)) = same-output run.machine.files.output
 gone_on-output ways more run (Ends (Trapped kind pc)) = same-output run.machine.files.output
 gone_on-output ways more run Starves = same-output run.machine.files.output
+gone_on-output ways more run Refuses = same-output run.machine.files.output
 
 -- ---- more lines
 -- The instructions that finished with fewer lines finish with more, and leave the same machine.
-finished-done : (ways : ℕ) (machine : Machine) (feed : Feed) (more : List (List ℕ)) (k : ℕ) (ending : FedEnding)
+finished-done : (ways : ℕ) (machine : Machine) (feed : Feed) (more : List NotedLine) (k : ℕ) (ending : FedEnding)
     → (fed_run ways k machine feed).ending ≡ ending → IsDone ending
     → fed_run ways k machine (with_more more feed) ≡ run_with_more more (fed_run ways k machine feed)
 finished-done ways machine feed more k (Ends ending) is done = run-more ways k machine feed more ending is
 finished-done ways machine feed more k Starves is done = absurd done
+finished-done ways machine feed more k Refuses is done = absurd done
 
-pub more-finished : (ways n : ℕ) (machine : Machine) (feed : Feed) (more : List (List ℕ))
+pub more-finished : (ways n : ℕ) (machine : Machine) (feed : Feed) (more : List NotedLine)
     → let run = fed_run ways n machine feed in
     let same = fed_run ways run.instructions machine (with_more more feed) in
     (same.instructions ≡ run.instructions) × (same.machine ≡ run.machine)
@@ -215,7 +221,7 @@ more-finished ways n machine feed more =
     (ap (λ (z : FedRun). z.instructions) on ∙ cut.0, ap (λ (z : FedRun). z.machine) on ∙ cut.1)
 
 -- The output with fewer lines is the beginning of that with more.
-pub more-output : (ways n : ℕ) (machine : Machine) (feed : Feed) (more : List (List ℕ))
+pub more-output : (ways n : ℕ) (machine : Machine) (feed : Feed) (more : List NotedLine)
     → Begins (fed_run ways n machine (with_more more feed)).machine.files.output
     (fed_run ways n machine feed).machine.files.output
 more-output ways n machine feed more =

@@ -1,9 +1,8 @@
 -- An instruction of a core over a cache, by a chain of a store's steps, is that of the machine that is fed with the
 -- lines that the store answered.
-use Rattle.std.proofs.Common.{◌≡◌, ℕ, ◌*◌, ◌%◌, ◌<◌, ◌≤◌, List, ◌++◌, Option, Some, None, Result, Ok, length, refl, sym}
+use Rattle.std.proofs.Common.{◌≡◌, ℕ, ◌*◌, ◌%◌, ◌<◌, ◌≤◌, List, ◌++◌, Result, Ok, Err, length, refl, sym}
 use Rattle.std.proofs.Common.{ap, subst, arith, ◌∙◌}
 use Rattle.std.proofs.lemmas.List.{length-map}
-use Rattle.std.specs.Option.{option_map}
 use Rattle.request_plan.specs.Plan.{Plan, Ends, Stops, through, Asks, Alike}
 use Rattle.request_plan.specs.Course.{Course, Finished, Starved, Astray, course}
 use Rattle.request_plan.specs.Laws.{NotesAnswers, StopsUnnoted}
@@ -23,6 +22,7 @@ use Rattle.data_cache.proofs.KeptLaws.{mark}
 use Rattle.data_cache.proofs.MirrorLaws.{set_of_is}
 use Rattle.fed_run.specs.Fed.{Feed, FedStep, fed_step}
 use Rattle.fed_run.specs.Answered.{line_source, AreLines}
+use Rattle.fed_run.specs.Fed.{NoneLeft, NotedLine, Unfed, fed_map}
 use Rattle.fed_run.proofs.AccessCourses.{lists_in, fed_served, IsFed, plan-course}
 use Rattle.fed_run.proofs.Feeds.{AreLines-append, IsFeed}
 use Rattle.fed_run.proofs.Instructions.{parts, served-step}
@@ -31,20 +31,20 @@ use Rattle.fed_run.proofs.SomeBytes.{Asks-both, step_plan-bytes}
 use Rattle.fed_run.proofs.WantedLines.{HasRoom, plan-wants}
 
 -- what a finished course tells of an instruction that is fed
-fed-of : (step : Option FedStep) (out : Machine × Done) (feed : Feed) → option_map parts step ≡ Some (out, feed)
-    → step ≡ Some (record { machine = out.0; feed = feed; done = out.1 })
-fed-of None out feed e = Prim.cc
-fed-of (Some s) out feed e =
+fed-of : (step : Result FedStep Unfed) (out : Machine × Done) (feed : Feed) → fed_map parts step ≡ Ok (out, feed)
+    → step ≡ Ok (record { machine = out.0; feed = feed; done = out.1 })
+fed-of (Err why) out feed e = Prim.cc
+fed-of (Ok s) out feed e =
     let same : parts s ≡ (out, feed) = Prim.cc in
-    ap (λ (z : (Machine × Done) × Feed). Some (record { machine = (z.0).0; feed = z.1; done = (z.0).1 })) same
+    ap (λ (z : (Machine × Done) × Feed). Ok (record { machine = (z.0).0; feed = z.1; done = (z.0).1 })) same
 
 -- and a starved one
-none-of : (step : Option FedStep) → option_map parts step ≡ None → step ≡ None
-none-of None e = refl
-none-of (Some s) e = Prim.cc
+none-of : (step : Result FedStep Unfed) → (why : Unfed) → fed_map parts step ≡ Err why → step ≡ Err why
+none-of (Err other) why e = let same : other ≡ why = Prim.cc in ap (λ (z : Unfed). Err z) same
+none-of (Ok s) why e = Prim.cc
 
-starved-none : {C A : Type 0} (c : Course (List ℕ) LineRequest C (Lines × A)) (fed : Option (A × Feed)) → IsStarved c
-    → IsFed c fed → fed ≡ None
+starved-none : {C A : Type 0} (c : Course NotedLine LineRequest C (Lines × A)) (fed : Result (A × Feed) Unfed) → IsStarved c
+    → IsFed c fed → fed ≡ Err NoneLeft
 starved-none (Finished out items) fed h is = absurd h
 starved-none (Starved q b) fed h is = is
 starved-none Astray fed h is = absurd h
@@ -86,12 +86,12 @@ module _ (count ways : ℕ) (machine : Machine) (is : IsCore machine.core) (size
 
   -- an instruction that finished on these lines
   pub finished-fed : (feed : Feed) → IsFeed machine.core.size feed → (out : Lines × (Machine × Done))
-      (more : List (List ℕ))
-      → ◌≡◌ {A = Course (List ℕ) LineRequest (Sets × Machine) (Lines × (Machine × Done))}
+      (more : List NotedLine)
+      → ◌≡◌ {A = Course NotedLine LineRequest (Sets × Machine) (Lines × (Machine × Done))}
       (course line_source (through (lists_access machine.core.base ways) (step_plan machine) (lists_in feed)) feed.left)
       (Finished out more)
       → fed_step ways machine feed
-      ≡ Some (record {
+      ≡ Ok (record {
         machine = (out.1).0;
         feed = record { memory = (out.0).memory; sets = (out.0).sets; left = more };
         done = (out.1).1;
@@ -99,22 +99,22 @@ module _ (count ways : ℕ) (machine : Machine) (is : IsCore machine.core) (size
   finished-fed feed good out more ran =
       fed-of (fed_step ways machine feed) (out.1) (record { memory = (out.0).memory; sets = (out.0).sets; left = more })
       (sym (served-step ways machine feed is.memory good)
-      ∙ subst (λ (c : Course (List ℕ) LineRequest (Sets × Machine) (Lines × (Machine × Done))).
+      ∙ subst (λ (c : Course NotedLine LineRequest (Sets × Machine) (Lines × (Machine × Done))).
       IsFed c (fed_served machine.core.base ways (step_plan machine) feed)) ran
       (plan-course machine.core.base ways (step_plan machine) feed))
 
-  module _ {S E : Type 0} (step : S → LineRequest → Result (List ℕ) E → S → Type 0) (noted : S → List (List ℕ))
+  module _ {S E : Type 0} (step : S → LineRequest → Result (List ℕ) E → S → Type 0) (noted : S → List NotedLine)
       (notes : NotesAnswers step line_source noted)
       (answers : (s t : S) (q : LineRequest) (bytes : List ℕ) → step s q (Ok bytes) t → IsLineAnswer q bytes) where
     -- An instruction that ended.
     pub instruction-ends : (s t : S) (cache after : Contents) (memory : List ℕ) (sets : Sets) (end : Machine × Done)
         → StandsAs count ways cache (record { memory = memory; sets = sets })
         → Ends step (through (cache_access machine.core.base) (step_plan machine) cache) s t (after, end)
-        → (lines : List (List ℕ)) × (now : Lines) × (noted t ≡ noted s ++ lines) × AreLines lines
+        → (lines : List NotedLine) × (now : Lines) × (noted t ≡ noted s ++ lines) × AreLines lines
         × StandsAs count ways after now
-        × ((more : List (List ℕ)) → AreLines more
+        × ((more : List NotedLine) → AreLines more
         → fed_step ways machine (record { memory = memory; sets = sets; left = lines ++ more })
-        ≡ Some (record {
+        ≡ Ok (record {
           machine = end.0;
           feed = record { memory = now.memory; sets = now.sets; left = more };
           done = end.1;
@@ -137,7 +137,7 @@ module _ (count ways : ℕ) (machine : Machine) (is : IsCore machine.core) (size
           (other.2).0,
           λ more whole. subst (λ (e : Machine × Done).
               fed_step ways machine (record { memory = memory; sets = sets; left = ran.0 ++ more })
-              ≡ Some (record {
+              ≡ Ok (record {
                 machine = e.0;
                 feed = record { memory = (out.0).memory; sets = (out.0).sets; left = more };
                 done = e.1;
@@ -152,8 +152,8 @@ module _ (count ways : ℕ) (machine : Machine) (is : IsCore machine.core) (size
         (stop : E) (left : Contents × Machine)
         → StandsAs count ways cache (record { memory = memory; sets = sets })
         → Stops step (through (cache_access machine.core.base) (step_plan machine) cache) s t stop left
-        → (lines : List (List ℕ)) × (noted t ≡ noted s ++ lines) × AreLines lines
-        × (fed_step ways machine (record { memory = memory; sets = sets; left = lines }) ≡ None)
+        → (lines : List NotedLine) × (noted t ≡ noted s ++ lines) × AreLines lines
+        × (fed_step ways machine (record { memory = memory; sets = sets; left = lines }) ≡ Err NoneLeft)
     instruction-stops same s t cache memory sets stop left stands stops =
         let lists : Lines = record { memory = memory; sets = sets } in
         let plan : Plan LineRequest (List ℕ) (Sets × Machine) (Lines × (Machine × Done)) =
@@ -170,7 +170,7 @@ module _ (count ways : ℕ) (machine : Machine) (is : IsCore machine.core) (size
           ran.0,
           ran.1,
           ran.2,
-          none-of (fed_step ways machine feed)
+          none-of (fed_step ways machine feed) NoneLeft
               (sym (served-step ways machine feed is.memory (record { long = long ∙ sym size; lines = ran.2 }))
               ∙ starved-none (course line_source plan (ran.0))
               (fed_served machine.core.base ways (step_plan machine) feed)

@@ -1,7 +1,6 @@
 -- An instruction's plan over a list of bytes that is fed: its lines are used, and then it has its effect.
-use Rattle.std.proofs.Common.{◌≡◌, ℕ, ◌+◌, ◌*◌, ◌%◌, ◌<◌, ◌≤◌, Bool, true, false, if◌then◌else◌, List, [], ◌∷◌, Option}
-use Rattle.std.proofs.Common.{Some, None, length, refl, sym, ap, subst, ◌∙◌, arith}
-use Rattle.std.specs.Option.{option_map, option_and_then}
+use Rattle.std.proofs.Common.{◌≡◌, ℕ, ◌+◌, ◌*◌, ◌%◌, ◌<◌, ◌≤◌, Bool, true, false, if◌then◌else◌, List, [], ◌∷◌, Result}
+use Rattle.std.proofs.Common.{Ok, Err, length, refl, sym, ap, subst, ◌∙◌, arith}
 use Rattle.std.specs.Int.{from_le_bytes, w32}
 use Rattle.asc_base.specs.Memory.{IsMemory}
 use Rattle.request_plan.specs.Plan.{Plan, Done as Outcome, Ask, bind}
@@ -26,28 +25,29 @@ use Rattle.rv32_core.proofs.Served.{length-slice_of}
 use Rattle.rv32_core.proofs.StepLines.{is_inside-place, load_width-some, store_width-some}
 use Rattle.data_cache.specs.Cached.{use_at}
 use Rattle.fed_run.specs.Fed.{Feed, fed_use, fed_uses, FedStep, fed_after, fed_word, fed_step}
+use Rattle.fed_run.specs.Fed.{Unfed, fed_map, fed_then}
 use Rattle.fed_run.proofs.AccessCourses.{fed_served, accessed}
 use Rattle.fed_run.proofs.Feeds.{IsFeed, use-cases}
 use Rattle.fed_run.proofs.Transfers.{IsPlace, stored, loaded, served-stores, served-loads}
 
 -- ---- one plan after another
 served-after : {B C A D : Type 0} (base ways : ℕ) (put : B → C) (next : A → Plan Access (List ℕ) C D)
-    (left : B) (k : List ℕ → Plan Access (List ℕ) B A) (access : Access) (r : Option Feed)
+    (left : B) (k : List ℕ → Plan Access (List ℕ) B A) (access : Access) (r : Result Feed Unfed)
     → ((bytes : List ℕ) (feed : Feed) → fed_served base ways (bind put (k bytes) next) feed
-    ≡ option_and_then (λ (z : A × Feed). fed_served base ways (next (z.0)) (z.1)) (fed_served base ways (k bytes) feed))
-    → option_and_then (λ (now : Feed). fed_served base ways
+    ≡ fed_then (λ (z : A × Feed). fed_served base ways (next (z.0)) (z.1)) (fed_served base ways (k bytes) feed))
+    → fed_then (λ (now : Feed). fed_served base ways
     (bind put (k ((access_bytes base now.memory access).0)) next) (accessed base access now)) r
-    ≡ option_and_then (λ (z : A × Feed). fed_served base ways (next (z.0)) (z.1))
-    (option_and_then (λ (now : Feed). fed_served base ways (k ((access_bytes base now.memory access).0))
+    ≡ fed_then (λ (z : A × Feed). fed_served base ways (next (z.0)) (z.1))
+    (fed_then (λ (now : Feed). fed_served base ways (k ((access_bytes base now.memory access).0))
     (accessed base access now)) r)
-served-after base ways put next left k access None each = refl
-served-after base ways put next left k access (Some now) each =
+served-after base ways put next left k access (Err why) each = refl
+served-after base ways put next left k access (Ok now) each =
     each ((access_bytes base now.memory access).0) (accessed base access now)
 
 pub served-bind : {B C A D : Type 0} (base ways : ℕ) (put : B → C) (plan : Plan Access (List ℕ) B A)
     (next : A → Plan Access (List ℕ) C D) (feed : Feed)
     → fed_served base ways (bind put plan next) feed
-    ≡ option_and_then (λ (z : A × Feed). fed_served base ways (next (z.0)) (z.1)) (fed_served base ways plan feed)
+    ≡ fed_then (λ (z : A × Feed). fed_served base ways (next (z.0)) (z.1)) (fed_served base ways plan feed)
 served-bind base ways put (Outcome a) next feed = refl
 served-bind base ways put (Ask access left k) next feed =
     served-after base ways put next left k access (fed_use ways feed (use_at base access))
@@ -65,35 +65,35 @@ effect_on machine cost effect now = fed_after (effected machine now.memory cost 
 abbrev FedEffect : ℕ → Machine → ℕ → Feed → Effect → Type 0
 FedEffect ways machine cost feed effect =
     fed_served machine.core.base ways (effect_plan machine cost effect) feed
-    ≡ option_map parts (option_map (effect_on machine cost effect) (fed_uses ways feed
+    ≡ fed_map parts (fed_map (effect_on machine cost effect) (fed_uses ways feed
     (data_lines machine.core effect)))
 
 load-on : (machine : Machine) (cost : ℕ) (effect : Effect) (access : Access)
-    (k : List ℕ → Plan Access (List ℕ) Machine (Machine × Done)) (ways : ℕ) (r : Option Feed)
+    (k : List ℕ → Plan Access (List ℕ) Machine (Machine × Done)) (ways : ℕ) (r : Result Feed Unfed)
     → ((now : Feed) → fed_served machine.core.base ways (k ((access_bytes machine.core.base now.memory access).0))
-    (accessed machine.core.base access now) ≡ Some (parts (effect_on machine cost effect now)))
-    → option_and_then (λ (now : Feed). fed_served machine.core.base ways
+    (accessed machine.core.base access now) ≡ Ok (parts (effect_on machine cost effect now)))
+    → fed_then (λ (now : Feed). fed_served machine.core.base ways
     (k ((access_bytes machine.core.base now.memory access).0)) (accessed machine.core.base access now)) r
-    ≡ option_map parts (option_map (effect_on machine cost effect) (option_and_then (λ (now : Feed). Some now) r))
-load-on machine cost effect access k ways None each = refl
-load-on machine cost effect access k ways (Some now) each = each now
+    ≡ fed_map parts (fed_map (effect_on machine cost effect) (fed_then (λ (now : Feed). Ok now) r))
+load-on machine cost effect access k ways (Err why) each = refl
+load-on machine cost effect access k ways (Ok now) each = each now
 
-read-on : (machine : Machine) (cost address count : ℕ) (r : Option Feed)
+read-on : (machine : Machine) (cost address count : ℕ) (r : Result Feed Unfed)
     → let bytes : List ℕ = slice_of machine.files.input machine.files.position count in
-    option_and_then (λ (z : Unit {0} × Feed). let end : (Machine × Done) × Feed =
-    ((after_read machine count, going_on cost), z.1) in Some end)
-    (option_map (stored machine.core address bytes) r)
-    ≡ option_map parts (option_map (effect_on machine cost (Reads address count)) r)
-read-on machine cost address count None = refl
-read-on machine cost address count (Some now) = refl
+    fed_then (λ (z : Unit {0} × Feed). let end : (Machine × Done) × Feed =
+    ((after_read machine count, going_on cost), z.1) in Ok end)
+    (fed_map (stored machine.core address bytes) r)
+    ≡ fed_map parts (fed_map (effect_on machine cost (Reads address count)) r)
+read-on machine cost address count (Err why) = refl
+read-on machine cost address count (Ok now) = refl
 
-write-on : (machine : Machine) (cost address count : ℕ) (r : Option Feed)
-    → option_and_then (λ (z : List ℕ × Feed). let end : (Machine × Done) × Feed =
-    ((after_write machine (z.0) count, going_on cost), z.1) in Some end)
-    (option_map (loaded machine.core address count machine.files.output) r)
-    ≡ option_map parts (option_map (effect_on machine cost (Writes address count)) r)
-write-on machine cost address count None = refl
-write-on machine cost address count (Some now) = refl
+write-on : (machine : Machine) (cost address count : ℕ) (r : Result Feed Unfed)
+    → fed_then (λ (z : List ℕ × Feed). let end : (Machine × Done) × Feed =
+    ((after_write machine (z.0) count, going_on cost), z.1) in Ok end)
+    (fed_map (loaded machine.core address count machine.files.output) r)
+    ≡ fed_map parts (fed_map (effect_on machine cost (Writes address count)) r)
+write-on machine cost address count (Err why) = refl
+write-on machine cost address count (Ok now) = refl
 
 effect-fed : (ways : ℕ) (machine : Machine) (cost : ℕ) (feed : Feed) (effect : Effect)
     → IsPlace machine.core machine.core.size → IsFeed machine.core.size feed → IsEffect machine effect
@@ -108,7 +108,7 @@ effect-fed ways machine cost feed (Loads op index address) place is fine =
     load-on machine cost (Loads op index address) (Load address (load_width op))
     (λ bytes. Outcome (after_load machine op index bytes, going_on cost)) ways
     (fed_use ways feed (use_at machine.core.base (Load address (load_width op)))) (λ now. refl)
-    ∙ ap (λ l. option_map parts (option_map (effect_on machine cost (Loads op index address))
+    ∙ ap (λ l. fed_map parts (fed_map (effect_on machine cost (Loads op index address))
     (fed_uses ways feed (used Read l)))) (sym lines)
 effect-fed ways machine cost feed (Stores op address value) place is fine =
     let line = store-in_line machine op address value fine in
@@ -117,7 +117,7 @@ effect-fed ways machine cost feed (Stores op address value) place is fine =
     load-on machine cost (Stores op address value) (Store address (stored_bytes op value))
     (λ none. Outcome (record machine { core = at_pc machine.core (next_pc machine.core) }, going_on cost)) ways
     (fed_use ways feed (record { line = line_of machine.core address; kind = Write })) (λ now. refl)
-    ∙ ap (λ l. option_map parts (option_map (effect_on machine cost (Stores op address value))
+    ∙ ap (λ l. fed_map parts (fed_map (effect_on machine cost (Stores op address value))
     (fed_uses ways feed (used Write l)))) (sym lines)
 effect-fed ways machine cost feed (Answers value) place is fine = refl
 effect-fed ways machine cost feed (Breaks value) place is fine = refl
@@ -129,20 +129,20 @@ effect-fed ways machine cost feed (Reads address count) place is fine =
     let high : 0 < count → address + count ≤ core.base + core.size = is_buffer-below core address count fine.0 in
     served-bind core.base ways (λ _. machine) (stores_plan bytes (pieces address count))
     (λ _. Outcome (after_read machine count, going_on cost)) feed
-    ∙ ap (option_and_then (λ (z : Unit {0} × Feed). let end : (Machine × Done) × Feed =
-    ((after_read machine count, going_on cost), z.1) in Some end))
+    ∙ ap (fed_then (λ (z : Unit {0} × Feed). let end : (Machine × Done) × Feed =
+    ((after_read machine count, going_on cost), z.1) in Ok end))
     (ap (λ n. fed_served core.base ways (stores_plan bytes (pieces address n)) feed) (sym all)
     ∙ served-stores core core.size place ways address bytes feed
     (subst (λ n. 0 < n → core.base ≤ address) (sym all) low)
     (subst (λ n. 0 < n → address + n ≤ core.base + core.size) (sym all) high) is
-    ∙ ap (λ n. option_map (stored core address bytes) (fed_uses ways feed (used Write (lines_of core address n)))) all)
+    ∙ ap (λ n. fed_map (stored core address bytes) (fed_uses ways feed (used Write (lines_of core address n)))) all)
     ∙ read-on machine cost address count (fed_uses ways feed (used Write (lines_of core address count)))
 effect-fed ways machine cost feed (Writes address count) place is fine =
     let core : CoreState = machine.core in
     served-bind core.base ways (λ _. machine) (loads_plan machine.files.output (pieces address count))
     (λ output. Outcome (after_write machine output count, going_on cost)) feed
-    ∙ ap (option_and_then (λ (z : List ℕ × Feed). let end : (Machine × Done) × Feed =
-    ((after_write machine (z.0) count, going_on cost), z.1) in Some end))
+    ∙ ap (fed_then (λ (z : List ℕ × Feed). let end : (Machine × Done) × Feed =
+    ((after_write machine (z.0) count, going_on cost), z.1) in Ok end))
     (served-loads core core.size place ways address count machine.files.output feed
     (is_buffer-above core address count fine.0) (is_buffer-below core address count fine.0) is)
     ∙ write-on machine cost address count (fed_uses ways feed (used Read (lines_of core address count)))
@@ -160,18 +160,18 @@ step-if : (ways : ℕ) (machine : Machine) (feed : Feed) (b : Bool) → IsPlace 
     → IsFeed machine.core.size feed → (b ≡ true → 64 * line_of machine.core machine.core.pc + 64 ≤ machine.core.size)
     → fed_served machine.core.base ways (if b then Ask (Load machine.core.pc 4) machine
     (λ bytes. word_plan machine (from_le_bytes w32 bytes)) else effect_plan machine 0 (Traps FetchFault)) feed
-    ≡ option_map parts (if b then option_and_then
+    ≡ fed_map parts (if b then fed_then
     (λ (now : Feed). fed_word ways machine (from_le_bytes w32 (bytes_at machine now.memory machine.core.pc 4)) now)
     (fed_use ways feed (fetch_line machine.core))
-    else Some (record { machine = machine; feed = feed; done = trap_at machine.core FetchFault }))
+    else Ok (record { machine = machine; feed = feed; done = trap_at machine.core FetchFault }))
 step-if ways machine feed false place is inside = refl
 step-if ways machine feed true place is inside =
     use-cases machine.core.size ways feed (fetch_line machine.core)
-    (λ r. option_and_then (λ (now : Feed). fed_served machine.core.base ways
+    (λ r. fed_then (λ (now : Feed). fed_served machine.core.base ways
     (word_plan machine (from_le_bytes w32 (bytes_at machine now.memory machine.core.pc 4))) now) r
-    ≡ option_map parts (option_and_then (λ (now : Feed). fed_word ways machine
+    ≡ fed_map parts (fed_then (λ (now : Feed). fed_word ways machine
     (from_le_bytes w32 (bytes_at machine now.memory machine.core.pc 4)) now) r))
-    is (inside refl) refl
+    is (inside refl) (λ why. refl)
     (λ now good patched.
     let word : ℕ = from_le_bytes w32 (bytes_at machine now.memory machine.core.pc 4) in
     effect-fed ways machine (cost_of_word machine word) now (effect_of_word machine word) place good
@@ -189,7 +189,7 @@ fetch-inside core is inside =
 -- An instruction's plan is what the instruction is where it is fed.
 pub served-step : (ways : ℕ) (machine : Machine) (feed : Feed) → IsMemory machine.core.base machine.core.size
     → IsFeed machine.core.size feed
-    → fed_served machine.core.base ways (step_plan machine) feed ≡ option_map parts (fed_step ways machine feed)
+    → fed_served machine.core.base ways (step_plan machine) feed ≡ fed_map parts (fed_step ways machine feed)
 served-step ways machine feed is good =
     step-if ways machine feed (is_inside machine.core machine.core.pc 4) (memory-place machine.core is) good
     (fetch-inside machine.core is)

@@ -1,5 +1,5 @@
 -- The laws of chains, of steps from where something holds that answers keep.
-use Rattle.std.proofs.Common.{◌≡◌, ◌⊎◌, ℕ, ◌*◌, ◌<◌, List, [], ◌∷◌, ◌++◌, All, Some, None, Result, Ok, length, refl}
+use Rattle.std.proofs.Common.{◌≡◌, ◌⊎◌, ℕ, ◌*◌, ◌<◌, List, [], ◌∷◌, ◌++◌, All, Ok, Err, Result, length, refl}
 use Rattle.request_plan.specs.Plan.{Plan, through, Ends, Stops}
 use Rattle.request_plan.specs.Laws.{AnswersKeep, Within, NotesAnswers, StopsUnnoted}
 use Rattle.request_plan.proofs.Chains.{Ends-bind, Stops-bind}
@@ -16,6 +16,7 @@ use Rattle.data_cache.specs.Cached.{cache_access, StandsAs}
 use Rattle.fed_run.specs.Fed.{fed_step}
 use Rattle.fed_run.specs.Answered.{line_source, AreLines, feed_of}
 use Rattle.fed_run.specs.Whole.{cache_image, cache_run}
+use Rattle.fed_run.specs.Fed.{NoneLeft, NotedLine}
 use Rattle.fed_run.proofs.InstructionChains.{instruction-ends, instruction-stops}
 use Rattle.fed_run.proofs.RunChains.{IsRun, IsStarvedRun, run-told, run-told-stop}
 use Rattle.fed_run.proofs.WholeChains.{below-all, empty_cache, empty_lists, after_image, whole-ends, whole-stops}
@@ -23,7 +24,7 @@ use Rattle.fed_run.proofs.WholeChains.{image-ends, image-stops}
 
 module _ {S E : Type 0} (step : S → LineRequest → Result (List ℕ) E → S → Type 0)
     (answers : (s t : S) (q : LineRequest) (bytes : List ℕ) → step s q (Ok bytes) t → IsLineAnswer q bytes)
-    (holds : S → Type 0) (keeps : AnswersKeep step holds) (noted : S → List (List ℕ))
+    (holds : S → Type 0) (keeps : AnswersKeep step holds) (noted : S → List NotedLine)
     (notes : NotesAnswers (Within holds step) line_source noted) where
   kept-answers : (s t : S) (q : LineRequest) (bytes : List ℕ) → Within holds step s q (Ok bytes) t
       → IsLineAnswer q bytes
@@ -66,11 +67,11 @@ module _ {S E : Type 0} (step : S → LineRequest → Result (List ℕ) E → S 
     pub kept-instruction : (s t : S) (cache after : Contents) (lists : Lines) (end : Machine × Done) → holds s
         → StandsAs count ways cache lists
         → Ends step (through (cache_access machine.core.base) (step_plan machine) cache) s t (after, end)
-        → (lines : List (List ℕ)) × (now : Lines) × (noted t ≡ noted s ++ lines) × AreLines lines × holds t
+        → (lines : List NotedLine) × (now : Lines) × (noted t ≡ noted s ++ lines) × AreLines lines × holds t
         × StandsAs count ways after now
-        × ((more : List (List ℕ)) → AreLines more
+        × ((more : List NotedLine) → AreLines more
         → fed_step ways machine (feed_of lists (lines ++ more))
-        ≡ Some (record { machine = end.0; feed = feed_of now more; done = end.1 }))
+        ≡ Ok (record { machine = end.0; feed = feed_of now more; done = end.1 }))
     kept-instruction s t cache after lists end start stands h =
         let narrow = Ends-narrows step holds keeps
         (through (cache_access machine.core.base) (step_plan machine) cache) s t (after, end) start h in
@@ -81,8 +82,8 @@ module _ {S E : Type 0} (step : S → LineRequest → Result (List ℕ) E → S 
     pub kept-instruction-stop : StopsUnnoted (Within holds step) noted → (s t : S) (cache : Contents) (lists : Lines)
         (stop : E) (left : Contents × Machine) → holds s → StandsAs count ways cache lists
         → Stops step (through (cache_access machine.core.base) (step_plan machine) cache) s t stop left
-        → (lines : List (List ℕ)) × (noted t ≡ noted s ++ lines) × AreLines lines
-        × (fed_step ways machine (feed_of lists lines) ≡ None)
+        → (lines : List NotedLine) × (noted t ≡ noted s ++ lines) × AreLines lines
+        × (fed_step ways machine (feed_of lists lines) ≡ Err NoneLeft)
     kept-instruction-stop same s t cache lists stop left start stands h =
         instruction-stops count ways machine is long (Within holds step) noted notes kept-answers same s t cache
         lists.memory lists.sets stop left stands
@@ -93,7 +94,7 @@ module _ {S E : Type 0} (step : S → LineRequest → Result (List ℕ) E → S 
     pub kept-run : (n : ℕ) (s t : S) (cache after : Contents) (lists : Lines) (end : RunEnd) → holds s
         → StandsAs count ways cache lists
         → Ends step (through (cache_access machine.core.base) (run_plan n 0 machine) cache) s t (after, end)
-        → (lines : List (List ℕ)) × (now : Lines) × (noted t ≡ noted s ++ lines) × AreLines lines × holds t
+        → (lines : List NotedLine) × (now : Lines) × (noted t ≡ noted s ++ lines) × AreLines lines × holds t
         × StandsAs count ways after now × IsRun ways n machine lists lines now end.instructions end.machine end.ending
     kept-run n s t cache after lists end start stands h =
         let narrow = Ends-narrows step holds keeps
@@ -105,7 +106,7 @@ module _ {S E : Type 0} (step : S → LineRequest → Result (List ℕ) E → S 
     pub kept-run-stop : StopsUnnoted (Within holds step) noted → (n : ℕ) (s t : S) (cache : Contents) (lists : Lines)
         (stop : E) (left : Contents × (ℕ × Machine)) → holds s → StandsAs count ways cache lists
         → Stops step (through (cache_access machine.core.base) (run_plan n 0 machine) cache) s t stop left
-        → (lines : List (List ℕ)) × (noted t ≡ noted s ++ lines) × AreLines lines
+        → (lines : List NotedLine) × (noted t ≡ noted s ++ lines) × AreLines lines
         × IsStarvedRun ways n machine lists lines ((left.1).0) ((left.1).1)
     kept-run-stop same n s t cache lists stop left start stands h =
         run-told-stop count ways n (Within holds step) kept-answers machine is long noted notes same s t
@@ -122,7 +123,7 @@ module _ {S E : Type 0} (step : S → LineRequest → Result (List ℕ) E → S 
 
       pub kept-whole : (s t : S) (after : Contents) (end : RunEnd) → holds s
           → Ends step (cache_run image marked n machine (empty_cache sets ways)) s t (after, end)
-          → (lines : List (List ℕ)) × (now : Lines) × (noted t ≡ noted s ++ lines) × AreLines lines × holds t
+          → (lines : List NotedLine) × (now : Lines) × (noted t ≡ noted s ++ lines) × AreLines lines × holds t
           × StandsAs count ways after now
           × IsRun ways n machine started lines now end.instructions end.machine end.ending
       kept-whole s t after end start h =
@@ -135,7 +136,7 @@ module _ {S E : Type 0} (step : S → LineRequest → Result (List ℕ) E → S 
       pub kept-whole-stop : StopsUnnoted (Within holds step) noted → (s t : S) (e : E) (left : Contents × (ℕ × Machine))
           → holds s → Stops step (cache_run image marked n machine (empty_cache sets ways)) s t e left
           → ((noted t ≡ noted s) × (left.1 ≡ (0, machine)))
-          ⊎ ((lines : List (List ℕ)) × (noted t ≡ noted s ++ lines) × AreLines lines
+          ⊎ ((lines : List NotedLine) × (noted t ≡ noted s ++ lines) × AreLines lines
           × IsStarvedRun ways n machine started lines ((left.1).0) ((left.1).1))
       kept-whole-stop same s t e left start h =
           whole-stops count ways sets n image marked machine some room (below-all count marked all) size is long

@@ -1,6 +1,6 @@
 -- A run of a core over a cache, by a chain of a store's steps, is that of the machine that is fed with the lines that
 -- the store answered.
-use Rattle.std.proofs.Common.{◌≡◌, ◌⊎◌, ℕ, zero, suc, ◌+◌, ◌*◌, List, [], ◌++◌, Some, None, Result, Ok, refl, sym, ap}
+use Rattle.std.proofs.Common.{◌≡◌, ◌⊎◌, ℕ, zero, suc, ◌+◌, ◌*◌, List, [], ◌++◌, Ok, Err, Result, refl, sym, ap}
 use Rattle.std.proofs.Common.{subst, inl, inr, arith, ◌∙◌, append_assoc, append-nil}
 use Rattle.request_plan.specs.Plan.{Plan, Done as Outcome, Ask, bind, through, Ends, Stops, Outcomes}
 use Rattle.request_plan.specs.Laws.{NotesAnswers, StopsUnnoted}
@@ -20,6 +20,7 @@ use Rattle.data_cache.specs.Contents.{Contents}
 use Rattle.data_cache.specs.Cached.{cache_access, StandsAs}
 use Rattle.fed_run.specs.Fed.{fed_step, Ends as EndsAs, Starves, FedRun, one_before, fed_on, fed_from, fed_run}
 use Rattle.fed_run.specs.Answered.{line_source, AreLines}
+use Rattle.fed_run.specs.Fed.{NoneLeft, NotedLine}
 use Rattle.fed_run.proofs.Feeds.{AreLines-append}
 use Rattle.fed_run.proofs.HonestLaws.{fed_by, fed_run-zero, fed_run-suc}
 use Rattle.fed_run.proofs.Left.{step_left}
@@ -92,42 +93,42 @@ outcomes-through {Q} {X} {R} {Y} {C} {H} {B} {A} P serve (Ask q b k) held h =
 
 -- ---- a run
 -- a fed run of so many instructions that ends so
-abbrev pub IsRun : ℕ → ℕ → Machine → Lines → List (List ℕ) → Lines → ℕ → Machine → FlatEnding → Type 0
+abbrev pub IsRun : ℕ → ℕ → Machine → Lines → List NotedLine → Lines → ℕ → Machine → FlatEnding → Type 0
 IsRun ways n machine lists lines now k next ending =
-    (more : List (List ℕ)) → AreLines more
+    (more : List NotedLine) → AreLines more
     → fed_run ways n machine (fed_by lists.memory lists.sets (lines ++ more))
     ≡ record { instructions = k; machine = next; feed = fed_by now.memory now.sets more; ending = EndsAs ending }
 
 -- a fed run that starves
-abbrev pub IsStarvedRun : ℕ → ℕ → Machine → Lines → List (List ℕ) → ℕ → Machine → Type 0
+abbrev pub IsStarvedRun : ℕ → ℕ → Machine → Lines → List NotedLine → ℕ → Machine → Type 0
 IsStarvedRun ways n machine lists lines k next =
     let run = fed_run ways n machine (fed_by lists.memory lists.sets lines) in
     (run.instructions ≡ k) × (run.machine ≡ next) × (run.feed.left ≡ []) × (run.ending ≡ Starves)
 
 module _ (count ways : ℕ) {S E : Type 0} (step : S → LineRequest → Result (List ℕ) E → S → Type 0)
-    (noted : S → List (List ℕ)) (notes : NotesAnswers step line_source noted)
+    (noted : S → List NotedLine) (notes : NotesAnswers step line_source noted)
     (answers : (s t : S) (q : LineRequest) (bytes : List ℕ) → step s q (Ok bytes) t → IsLineAnswer q bytes) where
   -- what a run that ended tells
   abbrev RunTold : ℕ → Machine → Lines → ℕ → S → S → Contents → RunEnd → Type 0
   RunTold n machine lists before s t after end =
-      (lines : List (List ℕ)) × (now : Lines) × (k : ℕ) × (noted t ≡ noted s ++ lines) × AreLines lines
+      (lines : List NotedLine) × (now : Lines) × (k : ℕ) × (noted t ≡ noted s ++ lines) × AreLines lines
       × StandsAs count ways after now × (end.instructions ≡ before + k)
       × IsRun ways n machine lists lines now k end.machine end.ending
 
   -- and one that was stopped
   abbrev StopTold : ℕ → Machine → Lines → ℕ → S → S → ℕ × Machine → Type 0
   StopTold n machine lists before s t left =
-      (lines : List (List ℕ)) × (k : ℕ) × (noted t ≡ noted s ++ lines) × AreLines lines
+      (lines : List NotedLine) × (k : ℕ) × (noted t ≡ noted s ++ lines) × AreLines lines
       × (left.0 ≡ before + k) × IsStarvedRun ways n machine lists lines k (left.1)
 
   -- the first instruction of a run
-  abbrev Step : Machine → Lines → List (List ℕ) → Lines → Machine → Done → Type 0
+  abbrev Step : Machine → Lines → List NotedLine → Lines → Machine → Done → Type 0
   Step machine lists lines now next done =
-      (more : List (List ℕ)) → AreLines more
+      (more : List NotedLine) → AreLines more
       → fed_step ways machine (fed_by lists.memory lists.sets (lines ++ more))
-      ≡ Some (record { machine = next; feed = fed_by now.memory now.sets more; done = done })
+      ≡ Ok (record { machine = next; feed = fed_by now.memory now.sets more; done = done })
 
-  run-on : (n : ℕ) (machine next : Machine) (done : Done) (lists now : Lines) (lines rest : List (List ℕ))
+  run-on : (n : ℕ) (machine next : Machine) (done : Done) (lists now : Lines) (lines rest : List NotedLine)
       → Step machine lists lines now next done → AreLines rest
       → fed_run ways (suc n) machine (fed_by lists.memory lists.sets (lines ++ rest))
       ≡ fed_on (fed_run ways n) (record {
@@ -139,7 +140,7 @@ module _ (count ways : ℕ) {S E : Type 0} (step : S → LineRequest → Result 
       fed_run-suc ways n machine (fed_by lists.memory lists.sets (lines ++ rest))
       ∙ ap (fed_from (fed_run ways n) machine (fed_by lists.memory lists.sets (lines ++ rest))) (first rest whole)
 
-  run-on-append : (n : ℕ) (machine next : Machine) (done : Done) (lists now : Lines) (lines rest more : List (List ℕ))
+  run-on-append : (n : ℕ) (machine next : Machine) (done : Done) (lists now : Lines) (lines rest more : List NotedLine)
       → Step machine lists lines now next done → AreLines (rest ++ more)
       → fed_run ways (suc n) machine (fed_by lists.memory lists.sets ((lines ++ rest) ++ more))
       ≡ fed_on (fed_run ways n)
@@ -151,7 +152,7 @@ module _ (count ways : ℕ) {S E : Type 0} (step : S → LineRequest → Result 
 
   -- after the first instruction
   after-first : (n before : ℕ) (base : ℕ) (machine next : Machine) (done : Done) (ended : Ended) (lists now : Lines)
-      (lines : List (List ℕ)) (s m t : S) (cache after : Contents) (end : RunEnd)
+      (lines : List NotedLine) (s m t : S) (cache after : Contents) (end : RunEnd)
       → done.ended ≡ ended → (noted m ≡ noted s ++ lines) → AreLines lines → StandsAs count ways cache now
       → Step machine lists lines now next done
       → (Ends step (through (cache_access base) (run_plan n (before + 1) next) cache) m t (after, end)
@@ -289,7 +290,7 @@ module _ (count ways : ℕ) {S E : Type 0} (step : S → LineRequest → Result 
 
   -- a run that is stopped behind its first instruction
   stops-after : (n before base : ℕ) (machine next : Machine) (done : Done) (ended : Ended) (lists now : Lines)
-      (lines : List (List ℕ)) (s m t : S) (cache : Contents) (stop : E) (left : Contents × (ℕ × Machine))
+      (lines : List NotedLine) (s m t : S) (cache : Contents) (stop : E) (left : Contents × (ℕ × Machine))
       → done.ended ≡ ended → (noted m ≡ noted s ++ lines) → AreLines lines
       → Step machine lists lines now next done
       → (Stops step (through (cache_access base) (run_plan n (before + 1) next) cache) m t stop left
@@ -326,9 +327,9 @@ module _ (count ways : ℕ) {S E : Type 0} (step : S → LineRequest → Result 
       go h = absurd h
 
   -- a run that is stopped in its first instruction
-  stops-first : (n before : ℕ) (machine : Machine) (lists : Lines) (lines : List (List ℕ)) (s t : S)
+  stops-first : (n before : ℕ) (machine : Machine) (lists : Lines) (lines : List NotedLine) (s t : S)
       (left : ℕ × Machine) → left ≡ (before, machine) → (noted t ≡ noted s ++ lines) → AreLines lines
-      → fed_step ways machine (fed_by lists.memory lists.sets lines) ≡ None
+      → fed_step ways machine (fed_by lists.memory lists.sets lines) ≡ Err NoneLeft
       → StopTold (suc n) machine lists before s t left
   stops-first n before machine lists lines s t left is noted1 whole none =
       let run = fed_run-suc ways n machine (fed_by lists.memory lists.sets lines)
@@ -402,10 +403,10 @@ module _ (count ways : ℕ) {S E : Type 0} (step : S → LineRequest → Result 
 pub run-told : (count ways n : ℕ) {S E : Type 0} (step : S → LineRequest → Result (List ℕ) E → S → Type 0)
     (answers : (s t : S) (q : LineRequest) (bytes : List ℕ) → step s q (Ok bytes) t → IsLineAnswer q bytes)
     (machine : Machine) (is : IsCore machine.core) (long : machine.core.size ≡ 64 * count)
-    (noted : S → List (List ℕ)) (notes : NotesAnswers step line_source noted)
+    (noted : S → List NotedLine) (notes : NotesAnswers step line_source noted)
     (s t : S) (cache after : Contents) (lists : Lines) (end : RunEnd) → StandsAs count ways cache lists
     → Ends step (through (cache_access machine.core.base) (run_plan n 0 machine) cache) s t (after, end)
-    → (lines : List (List ℕ)) × (now : Lines) × (noted t ≡ noted s ++ lines) × AreLines lines
+    → (lines : List NotedLine) × (now : Lines) × (noted t ≡ noted s ++ lines) × AreLines lines
     × StandsAs count ways after now × IsRun ways n machine lists lines now end.instructions end.machine end.ending
 run-told count ways n step answers machine is long noted notes s t cache after lists end stands h =
     let told = run-ends count ways step noted notes answers n 0 machine.core.base machine lists s t cache after end is
@@ -422,11 +423,11 @@ run-told count ways n step answers machine is long noted notes s t cache after l
 pub run-told-stop : (count ways n : ℕ) {S E : Type 0} (step : S → LineRequest → Result (List ℕ) E → S → Type 0)
     (answers : (s t : S) (q : LineRequest) (bytes : List ℕ) → step s q (Ok bytes) t → IsLineAnswer q bytes)
     (machine : Machine) (is : IsCore machine.core) (long : machine.core.size ≡ 64 * count)
-    (noted : S → List (List ℕ)) (notes : NotesAnswers step line_source noted) (same : StopsUnnoted step noted)
+    (noted : S → List NotedLine) (notes : NotesAnswers step line_source noted) (same : StopsUnnoted step noted)
     (s t : S) (cache : Contents) (lists : Lines) (stop : E) (left : Contents × (ℕ × Machine))
     → StandsAs count ways cache lists
     → Stops step (through (cache_access machine.core.base) (run_plan n 0 machine) cache) s t stop left
-    → (lines : List (List ℕ)) × (noted t ≡ noted s ++ lines) × AreLines lines
+    → (lines : List NotedLine) × (noted t ≡ noted s ++ lines) × AreLines lines
     × IsStarvedRun ways n machine lists lines ((left.1).0) ((left.1).1)
 run-told-stop count ways n step answers machine is long noted notes same s t cache lists stop left stands h =
     let told = run-stops count ways step noted notes answers same n 0 machine.core.base machine lists s

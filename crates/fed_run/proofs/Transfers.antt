@@ -1,9 +1,8 @@
 -- A host call's bytes, in pieces: its lines are used first, and then its bytes move at once.
-use Rattle.std.proofs.Common.{◌≡◌, ℕ, zero, suc, ◌+◌, ◌-◌, ◌*◌, ◌%◌, ◌<◌, ◌≤◌, List, [], ◌∷◌, ◌++◌, Option, Some, None}
+use Rattle.std.proofs.Common.{◌≡◌, ℕ, zero, suc, ◌+◌, ◌-◌, ◌*◌, ◌%◌, ◌<◌, ◌≤◌, List, [], ◌∷◌, ◌++◌, Result, Ok, Err}
 use Rattle.std.proofs.Common.{length, take, drop, refl, sym, ap, subst, ◌∙◌, arith, append_assoc, append-nil}
 use Rattle.std.proofs.Common.{length-drop}
 use Rattle.std.proofs.lemmas.List.{length-take-le, take-append-drop}
-use Rattle.std.specs.Option.{option_map, option_and_then}
 use Rattle.request_plan.specs.Plan.{Plan}
 use Rattle.rv32_core.specs.Access.{Access, slice_of, spliced}
 use Rattle.rv32_core.specs.Machine.{CoreState}
@@ -14,18 +13,19 @@ use Rattle.rv32_core.proofs.TransferLaws.{spliced-none, slice_of-append}
 use Rattle.rv32_core.proofs.LineLaws.{lines_of-more}
 use Rattle.data_cache.specs.Cached.{line_at, place_at}
 use Rattle.fed_run.specs.Fed.{Feed, fed_uses}
+use Rattle.fed_run.specs.Fed.{Unfed, fed_map, fed_then}
 use Rattle.fed_run.proofs.AccessCourses.{fed_served}
 use Rattle.fed_run.proofs.Feeds.{IsFeed, put, put-is, use-cases, Elsewhere, uses-put, uses-slice}
 
--- ---- options
-pub map-same : {A B : Type 0} (f g : A → B) → ((a : A) → f a ≡ g a) → (r : Option A) → option_map f r ≡ option_map g r
-map-same f g each None = refl
-map-same f g each (Some a) = ap Some (each a)
+-- ---- what was fed
+pub map-same : {A B : Type 0} (f g : A → B) → ((a : A) → f a ≡ g a) → (r : Result A Unfed) → fed_map f r ≡ fed_map g r
+map-same f g each (Err why) = refl
+map-same f g each (Ok a) = ap Ok (each a)
 
-pub map-twice : {A B C : Type 0} (f : A → B) (g : B → C) (h : A → C) → ((a : A) → g (f a) ≡ h a) → (r : Option A)
-    → option_map g (option_map f r) ≡ option_map h r
-map-twice f g h each None = refl
-map-twice f g h each (Some a) = ap Some (each a)
+pub map-twice : {A B C : Type 0} (f : A → B) (g : B → C) (h : A → C) → ((a : A) → g (f a) ≡ h a) → (r : Result A Unfed)
+    → fed_map g (fed_map f r) ≡ fed_map h r
+map-twice f g h each (Err why) = refl
+map-twice f g h each (Ok a) = ap Ok (each a)
 
 -- ---- what a host call does with its bytes
 -- they are put in, and nothing is answered
@@ -94,11 +94,11 @@ module _ (core : CoreState) (size : ℕ) (place : IsPlace core size) where
         → (0 < length bytes → core.base ≤ address) → (0 < length bytes → address + length bytes ≤ core.base + size)
         → IsFeed size feed
         → fed_served core.base ways (stores_plan bytes (pieces_within most address (length bytes))) feed
-        ≡ option_map (stored core address bytes)
+        ≡ fed_map (stored core address bytes)
         (fed_uses ways feed (used Write (lines_of core address (length bytes))))
     stores-within most address [] feed fits low high is =
         ap (λ l. fed_served core.base ways (stores_plan [] l) feed) (pieces_within-none most address)
-        ∙ ap (λ (m : List ℕ). let z : Unit {0} × Feed = (tt, record feed { memory = m }) in Some z)
+        ∙ ap (λ (m : List ℕ). let z : Unit {0} × Feed = (tt, record feed { memory = m }) in Ok z)
         (sym (spliced-none feed.memory (address - core.base)))
     stores-within zero address (b ∷ bs) feed fits low high is = absurd (omega arith)
     stores-within (suc most) address (b ∷ bs) feed fits low high is =
@@ -127,33 +127,33 @@ module _ (core : CoreState) (size : ℕ) (place : IsPlace core size) where
         stores_plan later (pieces_within most (address + part) (count - part)) in
         ap (λ l. fed_served core.base ways (stores_plan bytes l) feed) (pieces_within-more most address count some)
         ∙ use-cases size ways feed first
-        (λ r. option_and_then
+        (λ r. fed_then
         (λ (now : Feed). fed_served core.base ways rest (put (address - core.base) piece now)) r
-        ≡ option_map (stored core address bytes) (option_and_then (λ (now : Feed). fed_uses ways now others) r))
-        is inside refl
+        ≡ fed_map (stored core address bytes) (fed_then (λ (now : Feed). fed_uses ways now others) r))
+        is inside (λ why. refl)
         (λ now good patched.
         ap (λ n. fed_served core.base ways (stores_plan later (pieces_within most (address + part) n))
         (put (address - core.base) piece now)) (sym left)
         ∙ stores-within most (address + part) later (put (address - core.base) piece now) (omega (arith, left))
         (λ more. omega arith) (λ more. omega (arith, left))
         (put-is size (address - core.base) piece now good (omega (arith, whole)))
-        ∙ ap (λ n. option_map (stored core (address + part) later)
+        ∙ ap (λ n. fed_map (stored core (address + part) later)
         (fed_uses ways (put (address - core.base) piece now) (used Write (lines_of core (address + part) n)))) left
-        ∙ ap (option_map (stored core (address + part) later))
+        ∙ ap (fed_map (stored core (address + part) later))
         (ap (λ n. fed_uses ways (put n piece now) others) (sym at)
         ∙ uses-put size ways (line_at core.base address) (place_at core.base address) piece within inside now others
         good beyond
-        ∙ ap (λ n. option_map (put n piece) (fed_uses ways now others)) at)
+        ∙ ap (λ n. fed_map (put n piece) (fed_uses ways now others)) at)
         ∙ map-twice (put (address - core.base) piece) (stored core (address + part) later) (stored core address bytes)
         (stored-twice address part bytes base whole) (fed_uses ways now others))
-        ∙ ap (λ l. option_map (stored core address bytes) (fed_uses ways feed (used Write l)))
+        ∙ ap (λ l. fed_map (stored core address bytes) (fed_uses ways feed (used Write l)))
         (sym (lines_of-more core address count aligned base some))
 
     pub served-stores : (address : ℕ) (bytes : List ℕ) (feed : Feed)
         → (0 < length bytes → core.base ≤ address) → (0 < length bytes → address + length bytes ≤ core.base + size)
         → IsFeed size feed
         → fed_served core.base ways (stores_plan bytes (pieces address (length bytes))) feed
-        ≡ option_map (stored core address bytes)
+        ≡ fed_map (stored core address bytes)
         (fed_uses ways feed (used Write (lines_of core address (length bytes))))
     served-stores address bytes feed low high is =
         stores-within (length bytes) address bytes feed (omega arith) low high is
@@ -182,10 +182,10 @@ module _ (core : CoreState) (size : ℕ) (place : IsPlace core size) where
         → (0 < count → core.base ≤ address) → (0 < count → address + count ≤ core.base + size)
         → IsFeed size feed
         → fed_served core.base ways (loads_plan so_far (pieces_within most address count)) feed
-        ≡ option_map (loaded core address count so_far) (fed_uses ways feed (used Read (lines_of core address count)))
+        ≡ fed_map (loaded core address count so_far) (fed_uses ways feed (used Read (lines_of core address count)))
     loads-within most address zero so_far feed fits low high is =
         ap (λ l. fed_served core.base ways (loads_plan so_far l) feed) (pieces_within-none most address)
-        ∙ ap (λ (l : List ℕ). let z : List ℕ × Feed = (l, feed) in Some z) (sym (append-nil so_far))
+        ∙ ap (λ (l : List ℕ). let z : List ℕ × Feed = (l, feed) in Ok z) (sym (append-nil so_far))
     loads-within zero address (suc n) so_far feed fits low high is = absurd (omega arith)
     loads-within (suc most) address (suc n) so_far feed fits low high is =
         let count : ℕ = suc n in
@@ -207,12 +207,12 @@ module _ (core : CoreState) (size : ℕ) (place : IsPlace core size) where
         ((so_far ++ piece) ++ slice_of now.memory ((address + part) - core.base) (count - part), now) in
         ap (λ l. fed_served core.base ways (loads_plan so_far l) feed) (pieces_within-more most address count some)
         ∙ use-cases size ways feed first
-        (λ r. option_and_then
+        (λ r. fed_then
         (λ (now : Feed). fed_served core.base ways
         (loads_plan (so_far ++ slice_of now.memory (address - core.base) part)
         (pieces_within most (address + part) (count - part))) now) r
-        ≡ option_map (loaded core address count so_far) (option_and_then (λ (now : Feed). fed_uses ways now others) r))
-        is inside refl
+        ≡ fed_map (loaded core address count so_far) (fed_then (λ (now : Feed). fed_uses ways now others) r))
+        is inside (λ why. refl)
         (λ now good patched.
         let piece : List ℕ = slice_of now.memory (address - core.base) part in
         let same : slice_of now.memory (64 * line_at core.base address + place_at core.base address) part ≡ piece =
@@ -221,17 +221,17 @@ module _ (core : CoreState) (size : ℕ) (place : IsPlace core size) where
         (λ more. omega arith) (λ more. omega arith) good
         ∙ sym (uses-slice size ways (line_at core.base address) (place_at core.base address) part make piece within now
         others good beyond same)
-        ∙ ap (λ k. option_map (λ (f : Feed). make (slice_of f.memory k part) f) (fed_uses ways now others)) at
+        ∙ ap (λ k. fed_map (λ (f : Feed). make (slice_of f.memory k part) f) (fed_uses ways now others)) at
         ∙ map-same (λ (f : Feed). make (slice_of f.memory (address - core.base) part) f)
         (loaded core address count so_far)
         (loaded-twice address count part so_far base (omega arith)) (fed_uses ways now others))
-        ∙ ap (λ l. option_map (loaded core address count so_far) (fed_uses ways feed (used Read l)))
+        ∙ ap (λ l. fed_map (loaded core address count so_far) (fed_uses ways feed (used Read l)))
         (sym (lines_of-more core address count aligned base some))
 
     pub served-loads : (address count : ℕ) (so_far : List ℕ) (feed : Feed)
         → (0 < count → core.base ≤ address) → (0 < count → address + count ≤ core.base + size)
         → IsFeed size feed
         → fed_served core.base ways (loads_plan so_far (pieces address count)) feed
-        ≡ option_map (loaded core address count so_far) (fed_uses ways feed (used Read (lines_of core address count)))
+        ≡ fed_map (loaded core address count so_far) (fed_uses ways feed (used Read (lines_of core address count)))
     served-loads address count so_far feed low high is =
         loads-within count address count so_far feed (omega arith) low high is

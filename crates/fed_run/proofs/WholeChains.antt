@@ -33,18 +33,19 @@ use Rattle.data_cache.proofs.UseLaws.{empty-mirrors}
 use Rattle.fed_run.specs.Fed.{sets_along}
 use Rattle.fed_run.specs.Answered.{line_source, AreLines}
 use Rattle.fed_run.specs.Whole.{cache_image, cache_run, lists_image, lists_run}
+use Rattle.fed_run.specs.Fed.{NotedLine}
 use Rattle.fed_run.proofs.AccessCourses.{course-use}
 use Rattle.fed_run.proofs.NotedLines.{Ends-lines}
 use Rattle.fed_run.proofs.RunChains.{IsRun, IsStarvedRun, run-told, run-told-stop}
 use Rattle.fed_run.proofs.SomeBytes.{Asks-both, step_plan-bytes}
 
 -- the items that a course left over, and its outcome
-abbrev items_left : {Q B A : Type 0} → Course (List ℕ) Q B A → List (List ℕ)
+abbrev items_left : {Q B A : Type 0} → Course NotedLine Q B A → List NotedLine
 items_left (Finished a items) = items
 items_left (Starved q b) = []
 items_left Astray = []
 
-abbrev outcome_of : {Q B A : Type 0} → A → Course (List ℕ) Q B A → A
+abbrev outcome_of : {Q B A : Type 0} → A → Course NotedLine Q B A → A
 outcome_of none (Finished a items) = a
 outcome_of none (Starved q b) = none
 outcome_of none Astray = none
@@ -67,7 +68,7 @@ line-length image count line size less =
     length-take-le 64 (drop (64 * line) image) (omega (arith, left))
 
 -- A whole write of a line with its own bytes changes no byte, and takes no line.
-own-course : (ways : ℕ) (lists : Lines) (line count : ℕ) (items : List (List ℕ)) → length lists.memory ≡ 64 * count
+own-course : (ways : ℕ) (lists : Lines) (line count : ℕ) (items : List NotedLine) → length lists.memory ≡ 64 * count
     → line < count
     → course line_source (write_whole_line ways lists line (line_in lists.memory line)) items
     ≡ Finished (record {
@@ -160,7 +161,7 @@ module _ (count ways : ℕ) (image : List ℕ) (size : length image ≡ 64 * cou
   after_image marked lists =
       record { memory = lists.memory; sets = sets_along ways lists.sets (used WholeWrite marked) }
 
-  image-course : (marked : List ℕ) (lists : Lines) (items : List (List ℕ)) → Below count marked
+  image-course : (marked : List ℕ) (lists : Lines) (items : List NotedLine) → Below count marked
       → length lists.memory ≡ 64 * count
       → course line_source (lists_image ways marked lists) items ≡ Finished (after_image marked lists) items
   image-course [] lists items below long = refl
@@ -175,7 +176,7 @@ module _ (count ways : ℕ) (image : List ℕ) (size : length image ≡ 64 * cou
       (own-course ways lists line count items long (below.0))
       ∙ image-course marked next items (below.1) long
 
-  module _ {S E : Type 0} (step : S → LineRequest → Result (List ℕ) E → S → Type 0) (noted : S → List (List ℕ))
+  module _ {S E : Type 0} (step : S → LineRequest → Result (List ℕ) E → S → Type 0) (noted : S → List NotedLine)
       (notes : NotesAnswers step line_source noted)
       (answers : (s t : S) (q : LineRequest) (bytes : List ℕ) → step s q (Ok bytes) t → IsLineAnswer q bytes) where
     -- The image lines note no line.
@@ -187,7 +188,7 @@ module _ (count ways : ℕ) (image : List ℕ) (size : length image ≡ 64 * cou
         let other = Alike-ends step IsLineAnswer answers (StandsLeft count) OverImage (cache_image image marked cache)
         (lists_image ways marked lists) s t after (image-alike marked cache lists below over) h in
         let ran = Ends-lines step noted notes answers (lists_image ways marked lists) s t (other.0) (other.1) in
-        let same : ◌≡◌ {A = Course (List ℕ) LineRequest Sets Lines} (Finished (after_image marked lists) (ran.0 ++ []))
+        let same : ◌≡◌ {A = Course NotedLine LineRequest Sets Lines} (Finished (after_image marked lists) (ran.0 ++ []))
         (Finished (other.0) []) =
         sym (image-course marked lists (ran.0 ++ []) below long) ∙ ran.3 [] in
         let none : ran.0 ++ [] ≡ [] = ap items_left same in
@@ -206,7 +207,7 @@ module _ (count ways : ℕ) (image : List ℕ) (size : length image ≡ 64 * cou
         let ran = Stops-noted step line_source noted notes same (lists_image ways marked lists) s t e (other.0)
         (other.1) in
         let none : ran.0 ≡ [] =
-        subst (λ (c : Course (List ℕ) LineRequest Sets Lines). UsesAll c) (image-course marked lists (ran.0) below long)
+        subst (λ (c : Course NotedLine LineRequest Sets Lines). UsesAll c) (image-course marked lists (ran.0) below long)
         (ran.2) in
         ran.1 ∙ ap (λ l. noted s ++ l) none ∙ append-nil (noted s)
 
@@ -273,7 +274,7 @@ module _ (count ways sets n : ℕ) (image marked : List ℕ) (machine : Machine)
       (λ b c left. (left, refl)) (λ a d over. run-alike count ways n machine is long a d (over.0))
       (image-alike count ways image size marked (empty_cache sets ways) (empty_lists sets image) below empty-over)
 
-  module _ {S E : Type 0} (step : S → LineRequest → Result (List ℕ) E → S → Type 0) (noted : S → List (List ℕ))
+  module _ {S E : Type 0} (step : S → LineRequest → Result (List ℕ) E → S → Type 0) (noted : S → List NotedLine)
       (notes : NotesAnswers step line_source noted)
       (answers : (s t : S) (q : LineRequest) (bytes : List ℕ) → step s q (Ok bytes) t → IsLineAnswer q bytes) where
     -- the lists after the image lines
@@ -282,7 +283,7 @@ module _ (count ways sets n : ℕ) (image marked : List ℕ) (machine : Machine)
 
     pub whole-ends : (s t : S) (after : Contents) (end : RunEnd)
         → Ends step (cache_run image marked n machine (empty_cache sets ways)) s t (after, end)
-        → (lines : List (List ℕ)) × (now : Lines) × (noted t ≡ noted s ++ lines) × AreLines lines
+        → (lines : List NotedLine) × (now : Lines) × (noted t ≡ noted s ++ lines) × AreLines lines
         × StandsAs count ways after now × IsRun ways n machine started lines now end.instructions end.machine end.ending
     whole-ends s t after end h =
         let parts = Ends-unbind step (λ left. (left, (0, machine))) (cache_image image marked (empty_cache sets ways))
@@ -298,7 +299,7 @@ module _ (count ways sets n : ℕ) (image marked : List ℕ) (machine : Machine)
     pub whole-stops : StopsUnnoted step noted → (s t : S) (e : E) (left : Contents × (ℕ × Machine))
         → Stops step (cache_run image marked n machine (empty_cache sets ways)) s t e left
         → ((noted t ≡ noted s) × (left.1 ≡ (0, machine)))
-        ⊎ ((lines : List (List ℕ)) × (noted t ≡ noted s ++ lines) × AreLines lines
+        ⊎ ((lines : List NotedLine) × (noted t ≡ noted s ++ lines) × AreLines lines
         × IsStarvedRun ways n machine started lines ((left.1).0) ((left.1).1))
     whole-stops same s t e left h =
         elim (Stops-unbind step (λ left. (left, (0, machine))) (cache_image image marked (empty_cache sets ways))

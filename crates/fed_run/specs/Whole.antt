@@ -8,7 +8,7 @@ use Rattle.data_cache.specs.Lines.{LineRequest}
 use Rattle.data_cache.specs.CacheLists.{Sets, Lines, no_lines, line_in, write_whole_line}
 use Rattle.data_cache.specs.Contents.{Contents, write_line_plan}
 use Rattle.data_cache.specs.Cached.{cache_access, lists_access}
-use Rattle.fed_run.specs.Fed.{Feed, FedRun, fed_run, sets_along}
+use Rattle.fed_run.specs.Fed.{Feed, NotedLine, FedRun, fed_run, sets_along}
 
 -- What a cache asks of its store for the image lines, each of which is written whole, with its bytes of the image.
 abbrev pub cache_image : List ℕ → List ℕ → Contents → Plan LineRequest (List ℕ) Contents Contents
@@ -37,7 +37,7 @@ lists_run ways marked n machine lists =
     (through (lists_access machine.core.base ways) (run_plan n 0 machine))
 
 -- What stands behind a machine at its start: its image, the sets after its image lines, and the lines to be fed.
-abbrev pub feed_at_start : ℕ → ℕ → List ℕ → List ℕ → List (List ℕ) → Feed
+abbrev pub feed_at_start : ℕ → ℕ → List ℕ → List ℕ → List NotedLine → Feed
 feed_at_start ways sets image marked left = record {
   memory = image;
   sets = sets_along ways (no_lines sets) (used WholeWrite marked);
@@ -45,5 +45,5 @@ feed_at_start ways sets image marked left = record {
 }
 
 -- Fed: the run of at most n instructions from a machine at its start with this image, fed with these lines.
-abbrev pub fed : ℕ → ℕ → List ℕ → List ℕ → ℕ → Machine → List (List ℕ) → FedRun
+abbrev pub fed : ℕ → ℕ → List ℕ → List ℕ → ℕ → Machine → List NotedLine → FedRun
 fed ways sets image marked n machine lines = fed_run ways n machine (feed_at_start ways sets image marked lines)

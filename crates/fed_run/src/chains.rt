@@ -4,7 +4,7 @@
 //! What is asked of single steps is asked of those from where the store's `holds` alone. `noted` is a list in which
 //! such a step notes the line that a fetch is answered with, and nothing else.
 
-ghost use Rattle.std.specs.Prelude.{◌≡◌, ◌⊎◌, ℕ, ◌*◌, ◌<◌, List, [], ◌++◌, Some, None, All, length, replicate};
+ghost use Rattle.std.specs.Prelude.{◌≡◌, ◌⊎◌, ℕ, ◌*◌, ◌<◌, List, [], ◌++◌, Some, Ok, Err, All, length, replicate};
 ghost use Rattle.request_plan.specs.Plan.{Ends, Stops, through, Alike};
 ghost use Rattle.request_plan.specs.Laws.{AnswersKeep, Within, NotesAnswers, StopsUnnoted};
 ghost use Rattle.rv32_core.specs.FlatMachine.{flat_step};
@@ -19,7 +19,7 @@ ghost use Rattle.data_cache.specs.CacheLists.{Sets, Lines, no_lines, sets_after,
 ghost use Rattle.data_cache.specs.Contents.{Contents, write_line_plan};
 ghost use Rattle.data_cache.specs.Standing.{StandFor};
 ghost use Rattle.data_cache.specs.Cached.{cache_access, lists_access, StandsAs, StandsLeft};
-ghost use Rattle.fed_run.specs.Fed.{Ends as EndsAs, Starves, fed_step, fed_run};
+ghost use Rattle.fed_run.specs.Fed.{Ends as EndsAs, Starves, NotedLine, NoneLeft, fed_step, fed_run};
 ghost use Rattle.fed_run.specs.Answered.{line_source, AreLines, Beside, feed_of};
 ghost use Rattle.fed_run.specs.Whole.{cache_run, lists_run, fed};
 
@@ -35,7 +35,7 @@ pub trait KeptStore: LineStore {
 /// is stopped. The list of bytes then stands for the cache as before, and the lists after this use of the line.
 pub fn image_line_is_fed<S: KeptStore>()
     ensures ends { (count ways line : ℕ) (memory : List ℕ) → line < count → length memory ≡ 64 * count
-        → AnswersKeep S.step S.holds → (noted : S → List (List ℕ))
+        → AnswersKeep S.step S.holds → (noted : S → List NotedLine)
         → NotesAnswers (Within S.holds S.step) line_source noted
         → (old new : S) (cache after : Contents) (sets : Sets) → S.holds old
         → StandsAs count ways cache (record { memory = memory; sets = sets })
@@ -46,7 +46,7 @@ pub fn image_line_is_fed<S: KeptStore>()
           sets = sets_after ways sets (record { line = line; kind = WholeWrite });
         }) }
     ensures stops { (count ways line : ℕ) (memory : List ℕ) → line < count → length memory ≡ 64 * count
-        → AnswersKeep S.step S.holds → (noted : S → List (List ℕ))
+        → AnswersKeep S.step S.holds → (noted : S → List NotedLine)
         → NotesAnswers (Within S.holds S.step) line_source noted → StopsUnnoted (Within S.holds S.step) noted
         → (old new : S) (cache left : Contents) (sets : Sets) (stop : S.Stop) → S.holds old
         → StandsAs count ways cache (record { memory = memory; sets = sets })
@@ -68,24 +68,24 @@ pub fn instruction_is_fed<S: KeptStore>()
         (through (cache_access machine.core.base) (step_plan machine) cache)
         (through (lists_access machine.core.base ways) (step_plan machine) lists) }
     ensures ends { (count ways : ℕ) (machine : Machine) → IsCore machine.core → machine.core.size ≡ 64 * count
-        → AnswersKeep S.step S.holds → (noted : S → List (List ℕ))
+        → AnswersKeep S.step S.holds → (noted : S → List NotedLine)
         → NotesAnswers (Within S.holds S.step) line_source noted
         → (old new : S) (cache after : Contents) (lists : Lines) (end : Machine × Done) → S.holds old
         → StandsAs count ways cache lists
         → Ends S.step (through (cache_access machine.core.base) (step_plan machine) cache) old new (after, end)
-        → (lines : List (List ℕ)) × (now : Lines) × (noted new ≡ noted old ++ lines) × AreLines lines × S.holds new
+        → (lines : List NotedLine) × (now : Lines) × (noted new ≡ noted old ++ lines) × AreLines lines × S.holds new
         × StandsAs count ways after now
-        × ((more : List (List ℕ)) → AreLines more
+        × ((more : List NotedLine) → AreLines more
         → fed_step ways machine (feed_of lists (lines ++ more))
-        ≡ Some (record { machine = end.0; feed = feed_of now more; done = end.1 })) }
+        ≡ Ok (record { machine = end.0; feed = feed_of now more; done = end.1 })) }
     ensures stops { (count ways : ℕ) (machine : Machine) → IsCore machine.core → machine.core.size ≡ 64 * count
-        → AnswersKeep S.step S.holds → (noted : S → List (List ℕ))
+        → AnswersKeep S.step S.holds → (noted : S → List NotedLine)
         → NotesAnswers (Within S.holds S.step) line_source noted → StopsUnnoted (Within S.holds S.step) noted
         → (old new : S) (cache : Contents) (lists : Lines) (stop : S.Stop) (left : Contents × Machine) → S.holds old
         → StandsAs count ways cache lists
         → Stops S.step (through (cache_access machine.core.base) (step_plan machine) cache) old new stop left
-        → (lines : List (List ℕ)) × (noted new ≡ noted old ++ lines) × AreLines lines
-        × (fed_step ways machine (feed_of lists lines) ≡ None) }
+        → (lines : List NotedLine) × (noted new ≡ noted old ++ lines) × AreLines lines
+        × (fed_step ways machine (feed_of lists lines) ≡ Err NoneLeft) }
     ensures keeps { (base : ℕ) (machine : Machine) → IsCore machine.core
         → (old new : S) (cache after : Contents) (end : Machine × Done)
         → Ends S.step (through (cache_access base) (step_plan machine) cache) old new (after, end)
@@ -107,14 +107,14 @@ pub fn run_is_fed<S: KeptStore>()
         (through (cache_access machine.core.base) (run_plan n 0 machine) cache)
         (through (lists_access machine.core.base ways) (run_plan n 0 machine) lists) }
     ensures ends { (count ways n : ℕ) (machine : Machine) → IsCore machine.core → machine.core.size ≡ 64 * count
-        → AnswersKeep S.step S.holds → (noted : S → List (List ℕ))
+        → AnswersKeep S.step S.holds → (noted : S → List NotedLine)
         → NotesAnswers (Within S.holds S.step) line_source noted
         → (old new : S) (cache after : Contents) (lists : Lines) (end : RunEnd) → S.holds old
         → StandsAs count ways cache lists
         → Ends S.step (through (cache_access machine.core.base) (run_plan n 0 machine) cache) old new (after, end)
-        → (lines : List (List ℕ)) × (now : Lines) × (noted new ≡ noted old ++ lines) × AreLines lines × S.holds new
+        → (lines : List NotedLine) × (now : Lines) × (noted new ≡ noted old ++ lines) × AreLines lines × S.holds new
         × StandsAs count ways after now
-        × ((more : List (List ℕ)) → AreLines more
+        × ((more : List NotedLine) → AreLines more
         → fed_run ways n machine (feed_of lists (lines ++ more))
         ≡ record {
           instructions = end.instructions;
@@ -123,24 +123,24 @@ pub fn run_is_fed<S: KeptStore>()
           ending = EndsAs end.ending;
         }) }
     ensures stops { (count ways n : ℕ) (machine : Machine) → IsCore machine.core → machine.core.size ≡ 64 * count
-        → AnswersKeep S.step S.holds → (noted : S → List (List ℕ))
+        → AnswersKeep S.step S.holds → (noted : S → List NotedLine)
         → NotesAnswers (Within S.holds S.step) line_source noted → StopsUnnoted (Within S.holds S.step) noted
         → (old new : S) (cache : Contents) (lists : Lines) (stop : S.Stop) (left : Contents × (ℕ × Machine))
         → S.holds old
         → StandsAs count ways cache lists
         → Stops S.step (through (cache_access machine.core.base) (run_plan n 0 machine) cache) old new stop left
-        → (lines : List (List ℕ)) × (noted new ≡ noted old ++ lines) × AreLines lines
+        → (lines : List NotedLine) × (noted new ≡ noted old ++ lines) × AreLines lines
         × (let run = fed_run ways n machine (feed_of lists lines) in
         (run.instructions ≡ (left.1).0) × (run.machine ≡ (left.1).1) × (run.feed.left ≡ [])
         × (run.ending ≡ Starves)) }
     ensures answered { (count ways n : ℕ) (machine : Machine) → IsCore machine.core → machine.core.size ≡ 64 * count
         → (old new : S) (cache after : Contents) (lists : Lines) (end : RunEnd) → StandsAs count ways cache lists
         → Ends S.step (through (cache_access machine.core.base) (run_plan n 0 machine) cache) old new (after, end)
-        → (lines : List (List ℕ)) × (now : Lines)
+        → (lines : List NotedLine) × (now : Lines)
         × Ends (Beside S.step) (through (cache_access machine.core.base) (run_plan n 0 machine) cache) (old, [])
         (new, lines) (after, end)
         × AreLines lines × StandsAs count ways after now
-        × ((more : List (List ℕ)) → AreLines more
+        × ((more : List NotedLine) → AreLines more
         → fed_run ways n machine (feed_of lists (lines ++ more))
         ≡ record {
           instructions = end.instructions;
@@ -153,7 +153,7 @@ pub fn run_is_fed<S: KeptStore>()
         → (old new : S) (cache : Contents) (lists : Lines) (stop : S.Stop) (left : Contents × (ℕ × Machine))
         → StandsAs count ways cache lists
         → Stops S.step (through (cache_access machine.core.base) (run_plan n 0 machine) cache) old new stop left
-        → (lines : List (List ℕ))
+        → (lines : List NotedLine)
         × Stops (Beside S.step) (through (cache_access machine.core.base) (run_plan n 0 machine) cache) (old, [])
         (new, lines) stop left
         × AreLines lines
@@ -179,14 +179,14 @@ pub fn whole_run_is_fed<S: KeptStore>()
     ensures ends { (count ways sets n : ℕ) (image marked : List ℕ) (machine : Machine) → 0 < sets → 0 < ways
         → All (λ line. line < count) marked → length image ≡ 64 * count
         → IsCore machine.core → machine.core.size ≡ 64 * count
-        → AnswersKeep S.step S.holds → (noted : S → List (List ℕ))
+        → AnswersKeep S.step S.holds → (noted : S → List NotedLine)
         → NotesAnswers (Within S.holds S.step) line_source noted
         → (old new : S) (after : Contents) (end : RunEnd) → S.holds old
         → Ends S.step (cache_run image marked n machine (record { ways = ways; sets = replicate sets [] })) old new
         (after, end)
-        → (lines : List (List ℕ)) × (now : Lines) × (noted new ≡ noted old ++ lines) × AreLines lines × S.holds new
+        → (lines : List NotedLine) × (now : Lines) × (noted new ≡ noted old ++ lines) × AreLines lines × S.holds new
         × StandsAs count ways after now
-        × ((more : List (List ℕ)) → AreLines more
+        × ((more : List NotedLine) → AreLines more
         → fed ways sets image marked n machine (lines ++ more)
         ≡ record {
           instructions = end.instructions;
@@ -197,13 +197,13 @@ pub fn whole_run_is_fed<S: KeptStore>()
     ensures stops { (count ways sets n : ℕ) (image marked : List ℕ) (machine : Machine) → 0 < sets → 0 < ways
         → All (λ line. line < count) marked → length image ≡ 64 * count
         → IsCore machine.core → machine.core.size ≡ 64 * count
-        → AnswersKeep S.step S.holds → (noted : S → List (List ℕ))
+        → AnswersKeep S.step S.holds → (noted : S → List NotedLine)
         → NotesAnswers (Within S.holds S.step) line_source noted → StopsUnnoted (Within S.holds S.step) noted
         → (old new : S) (stop : S.Stop) (left : Contents × (ℕ × Machine)) → S.holds old
         → Stops S.step (cache_run image marked n machine (record { ways = ways; sets = replicate sets [] })) old new
         stop left
         → ((noted new ≡ noted old) × (left.1 ≡ (0, machine)))
-        ⊎ ((lines : List (List ℕ)) × (noted new ≡ noted old ++ lines) × AreLines lines
+        ⊎ ((lines : List NotedLine) × (noted new ≡ noted old ++ lines) × AreLines lines
         × (let run = fed ways sets image marked n machine lines in
         (run.instructions ≡ (left.1).0) × (run.machine ≡ (left.1).1) × (run.feed.left ≡ [])
         × (run.ending ≡ Starves))) }

@@ -1,19 +1,21 @@
 //! What a core over a cache computes on: the flat machine, fed with the lines that the store answered.
 //!
 //! `specs/Fed.antt` has the flat run taken use by use of its lines, where each line for which the cache's lists ask a
-//! fetch first takes its bytes from a list of lines, whatever they are. The crate has laws alone; the calls do nothing.
+//! fetch first takes its bytes from the next of a list of lines, whatever they are, where it has that line's number. The
+//! crate has laws alone; the calls do nothing.
 #![tactic(auto)]
 
 mod chains;
 mod runs;
 
-ghost use Rattle.std.specs.Prelude.{◌≡◌, ℕ, List, [], ◌∷◌, ◌++◌, length, replicate};
+ghost use Rattle.std.specs.Prelude.{◌≡◌, ℕ, List, [], ◌∷◌, ◌++◌, Err, length, replicate};
 ghost use Rattle.asc_base.specs.Memory.{IsMemory};
 ghost use Rattle.rv32_core.specs.Machine.{Machine};
 ghost use Rattle.rv32_core.specs.FlatRun.{Exited, flat_run, machine_at_start, output_limit};
 ghost use Rattle.data_cache.specs.CacheLists.{Sets};
 ghost use Rattle.rv32_core.specs.Access.{slice_of};
-ghost use Rattle.fed_run.specs.Fed.{Ends, Starves, fed_run, flat_answers};
+ghost use Rattle.fed_run.specs.Fed.{NotedLine, numbered, Ends, Starves, Refuses, AnotherLine, fed_step, fed_run};
+ghost use Rattle.fed_run.specs.Fed.{flat_answers};
 ghost use Rattle.fed_run.specs.Fed.{program_line, over_line, over_image_line, reading_line, writing_line, eight_bytes};
 ghost use Rattle.fed_run.specs.Whole.{feed_at_start};
 
@@ -27,7 +29,7 @@ pub use runs::{fed_runs_go_on, more_lines_go_on};
 /// are kept at its start: as many instructions, the machine, the bytes and the ending; and it uses these lines, in
 /// order, and no other.
 pub fn honest_lines_give_the_flat_run()
-    ensures { (ways n : ℕ) (machine : Machine) (memory : List ℕ) (sets : Sets) (more : List (List ℕ))
+    ensures { (ways n : ℕ) (machine : Machine) (memory : List ℕ) (sets : Sets) (more : List NotedLine)
         → IsMemory machine.core.base machine.core.size → length memory ≡ machine.core.size
         → let fed = fed_run ways n machine (record {
           memory = memory;
@@ -41,15 +43,24 @@ pub fn honest_lines_give_the_flat_run()
 
 /// Worked rows over one set of one way, whose image line has the program `lw x5, 64(x0); addi x17, x0, 93; ecall`: line
 /// 1 is fetched, and then line 0 again. With both it exits, and with the first alone it starves in its second
-/// instruction.
+/// instruction. Where another line's number stands in a line's place, the bytes aren't taken: the instruction is refused,
+/// and that line is left.
 pub fn worked_fed_runs()
     ensures exits { let run = fed_run 1 9 (machine_at_start 0 0 128 0 [] output_limit)
-        (over_image_line (replicate 64 7 ∷ program_line ∷ [])) in
+        (over_image_line (numbered 1 (replicate 64 7) ∷ numbered 0 program_line ∷ [])) in
         (run.ending ≡ Ends (Exited 0)) × (run.instructions ≡ 3) × (run.feed.left ≡ []) }
     ensures starves { let run = fed_run 1 9 (machine_at_start 0 0 128 0 [] output_limit)
-        (over_image_line (replicate 64 7 ∷ [])) in (run.ending ≡ Starves) × (run.instructions ≡ 1) }
-    ensures same_start { feed_at_start 1 1 (program_line ++ replicate 64 0) (0 ∷ []) (replicate 64 7 ∷ [])
-        ≡ over_image_line (replicate 64 7 ∷ []) }
+        (over_image_line (numbered 1 (replicate 64 7) ∷ [])) in (run.ending ≡ Starves) × (run.instructions ≡ 1) }
+    ensures refuses { let left = numbered 3 (replicate 64 7) ∷ numbered 0 program_line ∷ [] in
+        let machine = machine_at_start 0 0 128 0 [] output_limit in
+        let run = fed_run 1 9 machine (over_image_line left) in
+        (fed_step 1 machine (over_image_line left) ≡ Err AnotherLine)
+        × (run.ending ≡ Refuses) × (run.instructions ≡ 0) × (run.feed.left ≡ left) }
+    ensures refuses_second { let left = numbered 1 (replicate 64 7) ∷ numbered 1 program_line ∷ [] in
+        let run = fed_run 1 9 (machine_at_start 0 0 128 0 [] output_limit) (over_image_line left) in
+        (run.ending ≡ Refuses) × (run.instructions ≡ 1) × (run.feed.left ≡ numbered 1 program_line ∷ []) }
+    ensures same_start { feed_at_start 1 1 (program_line ++ replicate 64 0) (0 ∷ [])
+        (numbered 1 (replicate 64 7) ∷ []) ≡ over_image_line (numbered 1 (replicate 64 7) ∷ []) }
 {}
 
 /// Worked rows of host calls whose eight bytes from address 60 on cross from line 0, which is kept, into line 1. A read
@@ -58,11 +69,11 @@ pub fn worked_fed_runs()
 /// them.
 pub fn worked_crossings()
     ensures read { let run = fed_run 2 9 (machine_at_start 0 0 128 0 eight_bytes output_limit)
-        (over_line reading_line (replicate 64 9 ∷ [])) in
+        (over_line reading_line (numbered 1 (replicate 64 9) ∷ [])) in
         (run.ending ≡ Ends (Exited 8)) × (run.instructions ≡ 6) × (run.feed.left ≡ [])
         × (slice_of run.feed.memory 60 10 ≡ 1 ∷ 2 ∷ 3 ∷ 4 ∷ 5 ∷ 6 ∷ 7 ∷ 8 ∷ 9 ∷ 9 ∷ []) }
     ensures write { let run = fed_run 1 9 (machine_at_start 0 0 128 0 [] output_limit)
-        (over_line writing_line (replicate 64 9 ∷ writing_line ∷ [])) in
+        (over_line writing_line (numbered 1 (replicate 64 9) ∷ numbered 0 writing_line ∷ [])) in
         (run.ending ≡ Ends (Exited 8)) × (run.instructions ≡ 7) × (run.feed.left ≡ [])
         × (run.machine.files.output ≡ 0 ∷ 0 ∷ 0 ∷ 0 ∷ 9 ∷ 9 ∷ 9 ∷ 9 ∷ []) }
     ensures read_starves { let run = fed_run 2 9 (machine_at_start 0 0 128 0 eight_bytes output_limit)

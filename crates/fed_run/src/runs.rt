@@ -3,7 +3,7 @@
 ghost use Rattle.std.specs.Prelude.{◌≡◌, ℕ, suc, ◌+◌, ◌≤◌, List, ◌++◌};
 ghost use Rattle.rv32_core.specs.FlatRun.{FlatEnding, Budget};
 ghost use Rattle.rv32_core.specs.Machine.{Machine};
-ghost use Rattle.fed_run.specs.Fed.{Feed, Ends, fed_step, fed_from, fed_run, fed_gone_on, IsDone, with_more};
+ghost use Rattle.fed_run.specs.Fed.{Feed, NotedLine, Ends, fed_step, fed_from, fed_run, fed_gone_on, IsDone, with_more};
 ghost use Rattle.fed_run.specs.Fed.{run_with_more};
 
 /// A run that is fed is its first instruction and the run from there, and n instructions and then k more are n + k:
@@ -27,14 +27,14 @@ pub fn fed_runs_go_on()
 /// Fed with fewer lines is the beginning of Fed with more: a run that ended ends so, and leaves the others; the
 /// instructions that finished finish, and leave the same machine; and the output begins with that of fewer lines.
 pub fn more_lines_go_on()
-    ensures ended { (ways n : ℕ) (machine : Machine) (feed : Feed) (more : List (List ℕ)) (ending : FlatEnding)
+    ensures ended { (ways n : ℕ) (machine : Machine) (feed : Feed) (more : List NotedLine) (ending : FlatEnding)
         → (fed_run ways n machine feed).ending ≡ Ends ending
         → fed_run ways n machine (with_more more feed) ≡ run_with_more more (fed_run ways n machine feed) }
-    ensures finished { (ways n : ℕ) (machine : Machine) (feed : Feed) (more : List (List ℕ))
+    ensures finished { (ways n : ℕ) (machine : Machine) (feed : Feed) (more : List NotedLine)
         → let run = fed_run ways n machine feed in
         let same = fed_run ways run.instructions machine (with_more more feed) in
         (same.instructions ≡ run.instructions) × (same.machine ≡ run.machine) }
-    ensures output { (ways n : ℕ) (machine : Machine) (feed : Feed) (more : List (List ℕ)) → (rest : List ℕ)
+    ensures output { (ways n : ℕ) (machine : Machine) (feed : Feed) (more : List NotedLine) → (rest : List ℕ)
         × ((fed_run ways n machine (with_more more feed)).machine.files.output
         ≡ (fed_run ways n machine feed).machine.files.output ++ rest) }
 {}

@@ -1,12 +1,12 @@
 -- The costs of the instructions that finish, one after another.
-use Rattle.std.proofs.Common.{◌≡◌, ℕ, zero, suc, ◌+◌, Option, Some, None, refl, sym, ap, arith, ◌∙◌}
+use Rattle.std.proofs.Common.{◌≡◌, ℕ, zero, suc, ◌+◌, Result, Ok, Err, refl, sym, ap, arith, ◌∙◌}
 use Rattle.rv32_core.specs.FlatRun.{Exited, Trapped, Budget}
 use Rattle.rv32_core.specs.Machine.{Machine}
 use Rattle.rv32_core.specs.declared.outcome.Ended.{Ended}
 use Rattle.rv32_core.specs.declared.outcome.Ended.TheVariants.{No, Exit, Trap}
 use Rattle.rv32_core.specs.declared.outcome.TrapKind.{TrapKind}
 use Rattle.fed_run.specs.Fed.{Feed, FedStep, fed_step, FedEnding, Ends, Starves, FedRun, one_before, fed_on, fed_from}
-use Rattle.fed_run.specs.Fed.{fed_run}
+use Rattle.fed_run.specs.Fed.{fed_run, Refuses, Unfed, NoneLeft, AnotherLine}
 use Rattle.fed_run.proofs.HonestLaws.{fed_run-zero, fed_run-suc}
 use Rattle.play_run.specs.Spent.{cost_on, cost_from, fed_cost}
 
@@ -21,29 +21,30 @@ cost-suc ways n machine feed = refl
 
 -- ---- the first instruction
 cost-first : (ways n : ℕ) (machine : Machine) (feed : Feed) (step : FedStep) (ended : Ended)
-    → fed_step ways machine feed ≡ Some step → step.done.ended ≡ ended
+    → fed_step ways machine feed ≡ Ok step → step.done.ended ≡ ended
     → fed_cost ways (suc n) machine feed ≡ cost_on (fed_cost ways n) step ended
 cost-first ways n machine feed step ended is ends =
     cost-suc ways n machine feed ∙ ap (cost_from (fed_cost ways n)) is ∙ ap (cost_on (fed_cost ways n) step) ends
 
 pub cost-goes-on : (ways n : ℕ) (machine : Machine) (feed : Feed) (step : FedStep)
-    → fed_step ways machine feed ≡ Some step → step.done.ended ≡ No
+    → fed_step ways machine feed ≡ Ok step → step.done.ended ≡ No
     → fed_cost ways (suc n) machine feed ≡ step.done.cost + fed_cost ways n step.machine step.feed
 cost-goes-on ways n machine feed step is ends = cost-first ways n machine feed step No is ends
 
 pub cost-exits : (ways n status : ℕ) (machine : Machine) (feed : Feed) (step : FedStep)
-    → fed_step ways machine feed ≡ Some step → step.done.ended ≡ Exit status
+    → fed_step ways machine feed ≡ Ok step → step.done.ended ≡ Exit status
     → fed_cost ways (suc n) machine feed ≡ step.done.cost
 cost-exits ways n status machine feed step is ends = cost-first ways n machine feed step (Exit status) is ends
 
 pub cost-traps : (ways n : ℕ) (kind : TrapKind) (pc : ℕ) (machine : Machine) (feed : Feed) (step : FedStep)
-    → fed_step ways machine feed ≡ Some step → step.done.ended ≡ Trap kind pc
+    → fed_step ways machine feed ≡ Ok step → step.done.ended ≡ Trap kind pc
     → fed_cost ways (suc n) machine feed ≡ 0
 cost-traps ways n kind pc machine feed step is ends = cost-first ways n machine feed step (Trap kind pc) is ends
 
-pub cost-starves : (ways n : ℕ) (machine : Machine) (feed : Feed) → fed_step ways machine feed ≡ None
+pub cost-starves : (ways n : ℕ) (why : Unfed) (machine : Machine) (feed : Feed)
+    → fed_step ways machine feed ≡ Err why
     → fed_cost ways (suc n) machine feed ≡ 0
-cost-starves ways n machine feed is = cost-suc ways n machine feed ∙ ap (cost_from (fed_cost ways n)) is
+cost-starves ways n why machine feed is = cost-suc ways n machine feed ∙ ap (cost_from (fed_cost ways n)) is
 
 -- ---- a run in parts
 -- what more instructions cost behind a run: they come only where all of it finished
@@ -52,6 +53,7 @@ costs_behind ways more run (Ends Budget) = fed_cost ways more run.machine run.fe
 costs_behind ways more run (Ends (Exited status)) = 0
 costs_behind ways more run (Ends (Trapped kind pc)) = 0
 costs_behind ways more run Starves = 0
+costs_behind ways more run Refuses = 0
 
 -- one instruction before the run makes no difference
 same-behind : (ways more : ℕ) (run : FedRun) (ending : FedEnding)
@@ -60,6 +62,7 @@ same-behind ways more run (Ends Budget) = refl
 same-behind ways more run (Ends (Exited status)) = refl
 same-behind ways more run (Ends (Trapped kind pc)) = refl
 same-behind ways more run Starves = refl
+same-behind ways more run Refuses = refl
 
 abbrev behind : ℕ → ℕ → FedRun → ℕ
 behind ways more run = costs_behind ways more run run.ending
@@ -76,13 +79,14 @@ on-parts ways n more step No h =
 on-parts ways n more step (Exit status) h = omega arith
 on-parts ways n more step (Trap kind pc) h = refl
 
-from-parts : (ways n more : ℕ) (machine : Machine) (feed : Feed) (step : Option FedStep)
+from-parts : (ways n more : ℕ) (machine : Machine) (feed : Feed) (step : Result FedStep Unfed)
     → ((s : FedStep) → fed_cost ways (n + more) s.machine s.feed
     ≡ fed_cost ways n s.machine s.feed + behind ways more (fed_run ways n s.machine s.feed))
     → cost_from (fed_cost ways (n + more)) step
     ≡ cost_from (fed_cost ways n) step + behind ways more (fed_from (fed_run ways n) machine feed step)
-from-parts ways n more machine feed None each = refl
-from-parts ways n more machine feed (Some s) each = on-parts ways n more s s.done.ended (each s)
+from-parts ways n more machine feed (Err NoneLeft) each = refl
+from-parts ways n more machine feed (Err AnotherLine) each = refl
+from-parts ways n more machine feed (Ok s) each = on-parts ways n more s s.done.ended (each s)
 
 cost-parts : (ways n more : ℕ) (machine : Machine) (feed : Feed)
     → fed_cost ways (n + more) machine feed
@@ -122,6 +126,7 @@ none-behind ways more run (Ends Budget) other = absurd (other refl)
 none-behind ways more run (Ends (Exited status)) other = refl
 none-behind ways more run (Ends (Trapped kind pc)) other = refl
 none-behind ways more run Starves other = refl
+none-behind ways more run Refuses other = refl
 
 pub cost-ended : (ways m n : ℕ) (machine : Machine) (feed : Feed)
     → ((fed_run ways m machine feed).ending ≡ Ends Budget → ⊥)

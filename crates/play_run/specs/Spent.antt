@@ -1,6 +1,6 @@
 -- What the clock of a run over an encrypted memory is made of: the costs of its image lines and of its finished
 -- instructions, and what it waited for its slots.
-use Rattle.std.specs.Prelude.{◌≡◌, ◌+◌, ◌-◌, ◌<◌, ◌≤◌, ℕ, zero, suc, List, Option, None, Some}
+use Rattle.std.specs.Prelude.{◌≡◌, ◌+◌, ◌-◌, ◌<◌, ◌≤◌, ℕ, zero, suc, List, None, Some, Result, Ok, Err}
 use Rattle.std.specs.List.{sum_by}
 use Rattle.asc_base.specs.Settings.{greatest_rate}
 use Rattle.asc_base.specs.TreeShape.{olat_of}
@@ -10,7 +10,7 @@ use Rattle.asc_base.specs.declared.stop.Stop.TheVariants.{TimeUp}
 use Rattle.bus_watch.specs.Log.{LogLists}
 use Rattle.bus_watch.specs.declared.log.Event.{Event}
 use Rattle.bus_watch.specs.declared.log.Event.TheVariants.{Access, Drawn, Tagged, Accepted, Chosen, Answered}
-use Rattle.fed_run.specs.Fed.{Feed, FedStep, fed_step}
+use Rattle.fed_run.specs.Fed.{Feed, FedStep, Unfed, fed_step}
 use Rattle.oram_play.specs.Taken.{HasTaken}
 use Rattle.play_run.specs.Timed.{TimedState}
 use Rattle.rate_enforcer.specs.PortStep.{PortState}
@@ -40,10 +40,10 @@ cost_on rest step No = step.done.cost + rest step.machine step.feed
 cost_on rest step (Exit status) = step.done.cost
 cost_on rest step (Trap kind pc) = 0
 
--- the same of an instruction that may starve
-abbrev pub cost_from : (Machine → Feed → ℕ) → Option FedStep → ℕ
-cost_from rest None = 0
-cost_from rest (Some step) = cost_on rest step step.done.ended
+-- the same of an instruction that may not be fed
+abbrev pub cost_from : (Machine → Feed → ℕ) → Result FedStep Unfed → ℕ
+cost_from rest (Err why) = 0
+cost_from rest (Ok step) = cost_on rest step step.done.ended
 
 -- The cost of the instructions that finish among the first so many of a machine that is fed.
 unfoldable pub fed_cost : (ways n : ℕ) → Machine → Feed → ℕ

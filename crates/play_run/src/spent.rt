@@ -1,6 +1,6 @@
 //! Laws of what the clock of a run is made of. The functions do nothing: each states laws in its contract.
 
-ghost use Rattle.std.specs.Prelude.{◌≡◌, ◌≤◌, ◌+◌, ℕ, suc, max, List, [], ◌∷◌, None, Some, Result, replicate};
+ghost use Rattle.std.specs.Prelude.{◌≡◌, ◌≤◌, ◌+◌, ℕ, suc, max, List, [], ◌∷◌, None, Some, Result, Ok, Err, replicate};
 ghost use Rattle.asc_base.specs.TreeShape.{olat_of};
 ghost use Rattle.asc_base.specs.declared.block.Leaf.{Leaf};
 ghost use Rattle.asc_base.specs.declared.block.Point.{Point};
@@ -8,7 +8,8 @@ ghost use Rattle.asc_base.specs.declared.settings.Config.{Config};
 ghost use Rattle.asc_base.specs.declared.stop.Stop.{Stop};
 ghost use Rattle.bus_watch.specs.declared.log.Event.TheVariants.{Access, Drawn, Chosen};
 ghost use Rattle.data_cache.specs.Lines.{LineRequest};
-ghost use Rattle.fed_run.specs.Fed.{Feed, FedStep, Ends as EndsAs, fed_step, fed_run, over_image_line, program_line};
+ghost use Rattle.fed_run.specs.Fed.{Feed, FedStep, Unfed, Ends as EndsAs, fed_step, fed_run, over_image_line, program_line};
+ghost use Rattle.fed_run.specs.Fed.{numbered};
 ghost use Rattle.oram_contents.specs.Entries.{Keys};
 ghost use Rattle.oram_frontend.specs.Oram.{OramState, OramStep, Told, Wait};
 ghost use Rattle.oram_frontend.specs.Slots.{FitKeys};
@@ -53,20 +54,21 @@ pub fn cycles_are_spent<A, B>()
 {}
 
 /// The cost of the instructions that finish is that of the first and of those behind it: an exit is the last, and a
-/// trap costs nothing, nor does an instruction that starves. Where the first m of them finished and the machine goes
+/// trap costs nothing, nor does an instruction that isn't fed. Where the first m of them finished and the machine goes
 /// on, the cost of m + n is theirs and that of n from there; and else no other finishes.
 pub fn finished_costs_go_on()
     ensures none { (ways : ℕ) (machine : Machine) (feed : Feed) → fed_cost ways 0 machine feed ≡ 0 }
     ensures goes_on { (ways n : ℕ) (machine : Machine) (feed : Feed) (step : FedStep)
-        → fed_step ways machine feed ≡ Some step → step.done.ended ≡ No
+        → fed_step ways machine feed ≡ Ok step → step.done.ended ≡ No
         → fed_cost ways (suc n) machine feed ≡ step.done.cost + fed_cost ways n step.machine step.feed }
     ensures exits { (ways n status : ℕ) (machine : Machine) (feed : Feed) (step : FedStep)
-        → fed_step ways machine feed ≡ Some step → step.done.ended ≡ Exit status
+        → fed_step ways machine feed ≡ Ok step → step.done.ended ≡ Exit status
         → fed_cost ways (suc n) machine feed ≡ step.done.cost }
     ensures traps { (ways n : ℕ) (kind : TrapKind) (pc : ℕ) (machine : Machine) (feed : Feed) (step : FedStep)
-        → fed_step ways machine feed ≡ Some step → step.done.ended ≡ Trap kind pc
+        → fed_step ways machine feed ≡ Ok step → step.done.ended ≡ Trap kind pc
         → fed_cost ways (suc n) machine feed ≡ 0 }
-    ensures starves { (ways n : ℕ) (machine : Machine) (feed : Feed) → fed_step ways machine feed ≡ None
+    ensures starves { (ways n : ℕ) (why : Unfed) (machine : Machine) (feed : Feed)
+        → fed_step ways machine feed ≡ Err why
         → fed_cost ways (suc n) machine feed ≡ 0 }
     ensures parts { (ways m n : ℕ) (machine : Machine) (feed : Feed) → let run = fed_run ways m machine feed in
         run.ending ≡ EndsAs Budget
@@ -86,7 +88,7 @@ pub fn worked_costs_and_waits()
       altered = [];
     }) ≡ 414 }
     ensures exits { fed_cost 1 9 (machine_at_start 0 0 128 0 [] output_limit)
-        (over_image_line (replicate 64 7 ∷ program_line ∷ [])) ≡ 13 }
+        (over_image_line (numbered 1 (replicate 64 7) ∷ numbered 0 program_line ∷ [])) ≡ 13 }
     ensures starves { fed_cost 1 9 (machine_at_start 0 0 128 0 [] output_limit)
-        (over_image_line (replicate 64 7 ∷ [])) ≡ 2 }
+        (over_image_line (numbered 1 (replicate 64 7) ∷ [])) ≡ 2 }
 {}
