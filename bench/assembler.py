@@ -1,6 +1,6 @@
 #!/usr/bin/env python3
-"""Assembles texts of 1, 2 and 4 MiB, and prints the seconds that each takes: they grow with the length. It runs the program
-`ascend` that `rt run` leaves in crates/ascend/out; where it is missing, nothing is done.
+"""Assembles texts of 1, 2 and 4 MiB, and prints the seconds that each takes: they grow with the length. It runs the
+program `ascend` that `rt run` leaves in crates/ascend/out; where it is missing, nothing is done.
 """
 import subprocess
 import sys

@@ -1,6 +1,6 @@
 #!/usr/bin/env python3
-"""Runs a program of some ten million instructions with `ascend run` and `ascend flat`, and prints how many instructions a
-second each makes, beside qemu-riscv32 on the same file where Debian's qemu-user is installed.
+"""Runs a program of some ten million instructions with `ascend run` and `ascend flat`, and prints how many instructions
+a second each makes, beside qemu-riscv32 on the same file where Debian's qemu-user is installed.
 
 `rt` must be on the path: it builds the program first. Each command is run several times, and the least time counts; the
 time of a program that ends at once is taken off.
@@ -83,7 +83,8 @@ def least_time(command, folder, wanted):
 def show(name, command, folder, loop, empty, report):
     whole = least_time(command(loop), folder, report)
     start = least_time(command(empty), folder, b"")
-    print(f"{name}: {INSTRUCTIONS} instructions in {whole - start:.3f} s, {INSTRUCTIONS / (whole - start) / 1e6:.1f} million a second")
+    took = whole - start
+    print(f"{name}: {INSTRUCTIONS} instructions in {took:.3f} s, {INSTRUCTIONS / took / 1e6:.1f} million a second")
 
 
 def main():

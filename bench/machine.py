@@ -1,10 +1,10 @@
 #!/usr/bin/python3
-"""Runs two programs over encrypted memory and prints how fast: a loop whose lines stay in the cache, and a walk over memory
-that misses the cache on every load, at the default rates and at a rate of 64 cycles.
+"""Runs two programs over encrypted memory and prints how fast: a loop whose lines stay in the cache, and a walk over
+memory that misses the cache on every load, at the default rates and at a rate of 64 cycles.
 
-For each: instructions and slots a second, the most memory that the process held, the time of `flat` on the same file, and
-how many slots a second the hashes and pads of a slot alone would allow by openssl's SHA-256 and ChaCha20 on this machine.
-Times are user times. `rt` must be on the path: it builds the program first.
+For each: instructions and slots a second, the most memory that the process held, and the time of `flat` on the same
+file; at the end how many slots a second the hashes and pads of a slot alone would allow by openssl's SHA-256 and
+ChaCha20 on this machine. Times are user times. `rt` must be on the path: it builds the program first.
 """
 import os
 import re

@@ -1,7 +1,8 @@
 #!/usr/bin/env bash
-# Builds the C program examples/euler.c with the machine's start code and link script, and runs it. It needs clang and lld,
-# or the compiler of Debian's package gcc-riscv64-unknown-elf; where neither is there, it says so and does nothing. `rt` has
-# to be on the path. The last lines that it prints are the report, and then the program's output.
+# Builds the C program examples/euler.c with the machine's start code and link script, and runs it over encrypted
+# memory. It needs clang and lld, or the compiler of Debian's package gcc-riscv64-unknown-elf; where neither is there,
+# it says so and does nothing. `rt` has to be on the path. The last lines that it prints are the report, and then the
+# program's output.
 set -eu
 cd "$(dirname "$0")/.."
 flags="-march=rv32im -mabi=ilp32 -O2 -ffreestanding -nostdlib -Wl,--no-relax -T examples/program.ld"

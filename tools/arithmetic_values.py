@@ -56,7 +56,8 @@ BRANCHES = {
 
 ENDS = [(LEAST, GREATEST), (GREATEST, LEAST), (MINUS_1, 0), (0, MINUS_1), (5, 5), (4, 5)]
 AMOUNTS = [(ODD, amount) for amount in (0, 1, 31, 32, 33, MINUS_1)]
-FACTORS = [(MINUS_1, MINUS_1), (LEAST, LEAST), (LEAST, MINUS_1), (MINUS_7, 3), (3, MINUS_7), (GREATEST, GREATEST), MIXED]
+FACTORS = [(MINUS_1, MINUS_1), (LEAST, LEAST), (LEAST, MINUS_1), (MINUS_7, 3), (3, MINUS_7), (GREATEST, GREATEST),
+           MIXED]
 SIGNED_QUOTIENTS = [(7, 0), (MINUS_7, 0), (0, 0), (LEAST, MINUS_1), (GREATEST, MINUS_1), (MINUS_7, 2), (7, MINUS_2),
                     (MINUS_7, MINUS_2), (7, 2), (LEAST, GREATEST)]
 UNSIGNED_QUOTIENTS = [(7, 0), (MINUS_1, 0), (LEAST, MINUS_1), (MINUS_7, 2), (7, MINUS_2), (MINUS_1, 3)]
@@ -73,8 +74,8 @@ IMMEDIATES = [
     ("Srai", [(ODD, 0), (ODD, 1), (ODD, 31)]),
 ]
 
-TARGETS = [(0, -4), (MINUS_1, 1), (WORD - 4, 8), (2**16, -4096), (2**16, 1048574), (GREATEST, GREATEST), (LEAST, -LEAST),
-           (7, -2), (7, 0), (7, 1), (MINUS_1, 0), (0, -1)]
+TARGETS = [(0, -4), (MINUS_1, 1), (WORD - 4, 8), (2**16, -4096), (2**16, 1048574), (GREATEST, GREATEST),
+           (LEAST, -LEAST), (7, -2), (7, 0), (7, 1), (MINUS_1, 0), (0, -1)]
 
 
 def shown(value):

@@ -1,7 +1,7 @@
 #!/usr/bin/env python3
-"""Prints outside values for the tests of bucket_codec: the key stream is that of the openssl program (ChaCha20, with the
-block's count and the stream's number as 64 bits each, low byte first), the codes are those of Python's hmac module, and
-which slots are in the form is judged by this script's own reading of the text.
+"""Prints outside values for the tests of bucket_codec: the key stream is that of the openssl program (ChaCha20, with
+the block's count and the stream's number as 64 bits each, low byte first), the codes are those of Python's hmac module,
+and which slots are in the form is judged by this script's own reading of the text.
 """
 import hashlib
 import hmac

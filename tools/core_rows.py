@@ -1,7 +1,8 @@
 #!/usr/bin/env python3
 """Prints the rows of the tests of rv32_core: words by the formats of the RISC-V unprivileged manual (RV32I 2.1, M 2.0,
 Zifencei), and what they do, computed by an interpreter over Python's whole numbers. The host calls are those of
-specs/Machine.antt, and the costs those of the crate cycle_table. With `--assembler AS` the words are compared with those of a GNU assembler for riscv.
+the crate's specs/Machine.antt, and the costs those of the crate cycle_table. With `--assembler AS` the words are
+compared with those of a GNU assembler for riscv.
 """
 import subprocess
 import sys
@@ -100,12 +101,14 @@ class Machine:
         elif code == 0x17:
             self.set(rd, self.pc + (word & 0xFFFFF000))
         elif code == 0x6F:
-            offset = signed((word >> 31) << 20 | (word >> 12 & 255) << 12 | (word >> 20 & 1) << 11 | (word >> 21 & 1023) << 1, 21)
+            offset = signed((word >> 31) << 20 | (word >> 12 & 255) << 12 | (word >> 20 & 1) << 11
+                            | (word >> 21 & 1023) << 1, 21)
             return self.jump(rd, (self.pc + offset) % WORD)
         elif code == 0x67 and f3 == 0:
             return self.jump(rd, (a + imm) % WORD & ~1)
         elif code == 0x63 and f3 in BRANCHES.values():
-            offset = signed((word >> 31) << 12 | (word >> 7 & 1) << 11 | (word >> 25 & 63) << 5 | (word >> 8 & 15) << 1, 13)
+            offset = signed((word >> 31) << 12 | (word >> 7 & 1) << 11 | (word >> 25 & 63) << 5
+                            | (word >> 8 & 15) << 1, 13)
             less = signed(a) < signed(b) if f3 < 6 else a < b
             if (a == b if f3 < 4 else less) != bool(f3 & 1):
                 return self.jump(0, (self.pc + offset) % WORD)
@@ -259,7 +262,8 @@ def arithmetic():
         ("mul", ones, ones), ("mulh", ones, ones), ("mulhsu", ones, ones), ("mulhu", ones, ones),
         ("mulh", least, least), ("mulhsu", least, ones), ("mulhu", least, least), ("mulhsu", 2, ones),
         ("add", ones, 2), ("sub", 1, 2), ("sll", 3, 33), ("srl", least, 31), ("sra", least, 31), ("slt", ones, 0),
-        ("sltu", ones, 0), ("xor", 0xF0F0F0F0, 0xFF00FF00), ("or", 0xF0F0F0F0, 0xFF00FF00), ("and", 0xF0F0F0F0, 0xFF00FF00)]]
+        ("sltu", ones, 0), ("xor", 0xF0F0F0F0, 0xFF00FF00), ("or", 0xF0F0F0F0, 0xFF00FF00),
+        ("and", 0xF0F0F0F0, 0xFF00FF00)]]
     rows += [("addi x7, x5, -1", 0, 0), ("slti x7, x5, -1", WORD - 2, 0), ("sltiu x7, x5, -1", WORD - 2, 0),
              ("xori x7, x5, -1", 0x12345678, 0), ("ori x7, x5, -2048", 1, 0), ("andi x7, x5, -2048", 0x12345FFF, 0),
              ("slli x7, x5, 31", 3, 0), ("srli x7, x5, 31", ones, 0), ("srai x7, x5, 31", least, 0),
@@ -285,7 +289,8 @@ def jumps():
         steps = 2 if len(texts) > 1 else 1
         (finished, ended, cost), pc = m.run(steps), m.pc
         assert (finished, ended) == (steps, "GOES_ON"), texts
-        yield "; ".join(texts), f"(&[{codes(texts)}], {steps}, {shown(x)}, {shown(y)}, {shown(m.x[7])}, {shown(pc)}, {cost})"
+        left = f"{shown(m.x[7])}, {shown(pc)}, {cost}"
+        yield "; ".join(texts), f"(&[{codes(texts)}], {steps}, {shown(x)}, {shown(y)}, {left})"
 
 
 def accesses():
@@ -329,7 +334,8 @@ def traps():
         m = bench([text], at)
         before = (list(m.x), bytes(m.memory))
         finished, ended, cost = m.run(1)
-        assert (finished, ended != "GOES_ON", cost, m.pc) == (0, True, 0, 4108) and before == (list(m.x), bytes(m.memory)), text
+        assert (finished, ended != "GOES_ON", cost, m.pc) == (0, True, 0, 4108), text
+        assert before == (list(m.x), bytes(m.memory)), text
         kind = ended[len("trap(TrapKind::"):].split(",")[0]
         yield text, f"({code(text)}, {shown(at)}, TrapKind::{kind})"
 
@@ -342,14 +348,15 @@ def calls():
     """Each case is a list of calls; the program makes them in a loop."""
     end, text = BASE + SIZE, bytes(i * 7 % 251 for i in range(200))
     cases = [
-        [(63, 7, 6144, 1), (64, 7, 6144, 1), (64, 0, 6144, 1), (63, 1, 6144, 1), (63, 0, end - 1, 2), (64, 2, end - 1, 2),
-         (63, 0, BASE - 1, 1), (64, 1, WORD - 1, WORD - 1), (63, 7, WORD - 1, WORD - 1), (63, 0, WORD - 1, 0),
-         (64, 1, 0, 0), (1000, 5, 6, 7), (0, 5, 6, 7), (WORD - 1, 5, 6, 7), (93, 0x1FF, 0, 0)],
+        [(63, 7, 6144, 1), (64, 7, 6144, 1), (64, 0, 6144, 1), (63, 1, 6144, 1), (63, 0, end - 1, 2),
+         (64, 2, end - 1, 2), (63, 0, BASE - 1, 1), (64, 1, WORD - 1, WORD - 1), (63, 7, WORD - 1, WORD - 1),
+         (63, 0, WORD - 1, 0), (64, 1, 0, 0), (1000, 5, 6, 7), (0, 5, 6, 7), (WORD - 1, 5, 6, 7), (93, 0x1FF, 0, 0)],
         # the break: below the first, at it, in between, at the memory's end, past it, and where it is now
         [(214, 0, 0, 0), (214, 6159, 0, 0), (214, 6160, 0, 0), (214, 7000, 0, 0), (214, 0, 0, 0), (214, end, 0, 0),
          (214, end + 1, 0, 0), (214, WORD - 1, 0, 0), (214, 6160, 0, 0), (214, 6159, 0, 0), (93, 0, 0, 0)],
-        # all 200 bytes of the input, over four lines or five; then none is left; they are written over three lines, and two
-        [(63, 0, 6140, 100), (63, 0, 6240, 1000), (63, 0, 6144, 1000), (64, 1, 6140, 130), (64, 2, 6270, 70), (93, 256, 0, 0)],
+        # all 200 bytes of the input in two reads; then none is left; and they are written in two writes
+        [(63, 0, 6140, 100), (63, 0, 6240, 1000), (63, 0, 6144, 1000), (64, 1, 6140, 130), (64, 2, 6270, 70),
+         (93, 256, 0, 0)],
         # to the memory's last byte and from it
         [(63, 0, end - 200, 200), (64, 1, end - 1, 1), (64, 1, end - 64, 64), (64, 1, end, 1), (93, 1, 0, 0)],
         # up to the limit, and not beyond
@@ -368,7 +375,9 @@ def calls():
         for row in case:
             assert m.run(4) == (4, "GOES_ON", 8)
             finished, ended, cost = m.run(1)
-            print(f"        ({row[0]}, [{', '.join(map(shown, row[1:]))}], {ended}, {shown(m.x[10])}, {cost}, {len(m.output)}),".replace(str(WORD - 1), "u32::MAX"))
+            given = f"{row[0]}, [{', '.join(map(shown, row[1:]))}]"
+            left = f"{ended}, {shown(m.x[10])}, {cost}, {len(m.output)}"
+            print(f"        ({given}, {left}),".replace(str(WORD - 1), "u32::MAX"))
             if ended != "GOES_ON":
                 break
             assert m.run(2) == (2, "GOES_ON", 3)
@@ -384,13 +393,16 @@ def programs():
         (0, 0, ["addi x17, x0, 93", "ecall"], 0),
         (0, 0, ["addi x10, x0, -1", "addi x17, x0, 93", "ecall"], 10),
         (0, 0, ["bne x0, x0, 2", "beq x0, x0, 2"], 10),
-        (0, 0, ["addi x0, x0, 5", "add x0, x2, x2", "lui x0, 1", "auipc x0, 1", "jal x0, 4", "lw x0, 0(x0)", "mul x0, x2, x2",
-                "divu x0, x2, x2", "auipc x5, 0", "jalr x0, 8(x5)", "slti x0, x0, 1", "addi x10, x0, 0", "addi x17, x0, 93", "ecall"], 20),
+        (0, 0, ["addi x0, x0, 5", "add x0, x2, x2", "lui x0, 1", "auipc x0, 1", "jal x0, 4", "lw x0, 0(x0)",
+                "mul x0, x2, x2", "divu x0, x2, x2", "auipc x5, 0", "jalr x0, 8(x5)", "slti x0, x0, 1",
+                "addi x10, x0, 0", "addi x17, x0, 93", "ecall"], 20),
         # the sum of 10, 9, .. 1
-        (0, 0, ["addi x5, x0, 10", "add x10, x10, x5", "addi x5, x5, -1", "bne x5, x0, -8", "addi x17, x0, 93", "ecall"], 100),
+        (0, 0, ["addi x5, x0, 10", "add x10, x10, x5", "addi x5, x5, -1", "bne x5, x0, -8", "addi x17, x0, 93",
+                "ecall"], 100),
         # 7 ! by multiplication, and 5040 / 60 % 47
-        (0, 0, ["addi x5, x0, 7", "addi x10, x0, 1", "mul x10, x10, x5", "addi x5, x5, -1", "blt x0, x5, -8", "addi x6, x0, 60",
-                "div x10, x10, x6", "addi x6, x0, 47", "rem x10, x10, x6", "addi x17, x0, 93", "ecall"], 100),
+        (0, 0, ["addi x5, x0, 7", "addi x10, x0, 1", "mul x10, x10, x5", "addi x5, x5, -1", "blt x0, x5, -8",
+                "addi x6, x0, 60", "div x10, x10, x6", "addi x6, x0, 47", "rem x10, x10, x6", "addi x17, x0, 93",
+                "ecall"], 100),
         # x2 is 16 below the memory's end
         (0, 0, ["sw x2, 12(x2)", "lbu x10, 13(x2)", "addi x17, x0, 93", "ecall"], 10),
         (BASE, BASE, ["sw x2, 12(x2)", "lbu x10, 13(x2)", "addi x17, x0, 93", "ecall"], 10),
@@ -421,7 +433,8 @@ def compare(assembler):
     with tempfile.TemporaryDirectory() as place:
         with open(f"{place}/rows.s", "w") as source:
             source.write("".join(relative(text) + "\n" for text in texts))
-        subprocess.run([assembler, "-march=rv32im_zifencei", "-mabi=ilp32", "-mno-relax", "-o", f"{place}/rows.o", f"{place}/rows.s"], check=True)
+        flags = ["-march=rv32im_zifencei", "-mabi=ilp32", "-mno-relax"]
+        subprocess.run([assembler, *flags, "-o", f"{place}/rows.o", f"{place}/rows.s"], check=True)
         copy = assembler[:-2] + "objcopy"
         subprocess.run([copy, "-O", "binary", "-j", ".text", f"{place}/rows.o", f"{place}/rows.bin"], check=True)
         with open(f"{place}/rows.bin", "rb") as binary:
@@ -433,7 +446,8 @@ def compare(assembler):
 
 
 def main():
-    for name, rows in [("arithmetic", arithmetic), ("jumps", jumps), ("accesses", accesses), ("traps", traps), ("programs", programs)]:
+    for name, rows in [("arithmetic", arithmetic), ("jumps", jumps), ("accesses", accesses), ("traps", traps),
+                       ("programs", programs)]:
         print(f"{name}:")
         before = ""
         for comment, row in rows():

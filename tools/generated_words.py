@@ -1,7 +1,7 @@
 #!/usr/bin/env python3
-"""Prints what the tests of rv32_asm and the rows of generated_run say of programs that are made from a number: the words of
-the instructions, as LLVM's assembler gives them (where it is missing, none is printed), and for each seed and count of data
-words the words and the hash that the program writes.
+"""Prints what the tests of rv32_asm and the rows of generated_run say of programs that are made from a number: the
+words of the instructions, as LLVM's assembler gives them (where it is missing, none is printed), and for each seed and
+count of data words the words and the hash that the program writes.
 """
 import re
 import shutil

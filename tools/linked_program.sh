@@ -40,7 +40,8 @@ run() {
     "$tool-ld" -m elf32lriscv --no-relax -Ttext=0x10000 -Tdata=0x20000 -o "$work/$1" "$work/$1.o"
     printf '%b' "$3" >"$work/wanted"
     status=0
-    (cd crates/ascend && rt run -- run "elf=$work/$1" "key=$work/key" "output=$work/output") >"$work/log" 2>&1 || status=$?
+    (cd crates/ascend && rt run -- run "elf=$work/$1" "key=$work/key" "output=$work/output") >"$work/log" 2>&1 \
+        || status=$?
     tail -n 10 "$work/log" | head -n 2 >"$work/report"
     cmp "$work/report" "$work/wanted"
     printf '%b' "$4" | cmp - "$work/output"

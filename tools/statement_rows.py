@@ -1,6 +1,6 @@
 #!/usr/bin/env python3
-"""Prints rows of words and their statements for the tests of rv32_asm, and rows of texts and their bytes. Words and bytes are
-those that LLVM's assembler (Debian's package llvm) gives; where it is missing, nothing is printed.
+"""Prints rows of words and their statements for the tests of rv32_asm, and rows of texts and their bytes. Words and
+bytes are those that LLVM's assembler (Debian's package llvm) gives; where it is missing, nothing is printed.
 """
 import re
 import shutil
@@ -62,8 +62,8 @@ def halves(register, value):
 
 
 def programs():
-    """Texts, with what LLVM reads in place of each where it reads it otherwise. The first place is 67,584, whose low twelve
-    bits are 2,048."""
+    """Texts, with what LLVM reads in place of each where it reads it otherwise. The first place is 67,584, whose low
+    twelve bits are 2,048."""
     yield "\n".join(f"add {name}, {name}, x0" for name in NAMES), None
     yield "nop\nret\nj -2\naddi x5, x6, 0x7fF", None
     yield " \t lw\tx7 , -4 ( x8 ) # a comment", "lw x7, -4(x8)"

@@ -27,7 +27,8 @@ pub fn slots_join()
 /// overlap. The writes come after the turn at the reads' end.
 pub fn moves_rise()
     ensures within { (levels start leaf : ℕ)
-        → All (λ (m : Move). (start ≤ m.time) × (m.time + move_cycles ≤ start + olat_of levels)) (slot_moves levels start leaf) }
+        → All (λ (m : Move). (start ≤ m.time) × (m.time + move_cycles ≤ start + olat_of levels))
+        (slot_moves levels start leaf) }
     ensures reads { (levels start leaf : ℕ)
         → All (λ (m : Move). m.time + move_cycles ≤ reads_end levels start) (reads levels start leaf) }
     ensures writes { (levels start leaf : ℕ)

@@ -40,13 +40,14 @@ pub fn log_is_scheduled()
         → start < end → end < start + olat_of p.levels → IsScheduled p end log }
     ensures reads { (p : Public) (n start leaf made end : ℕ) (log : LogLists)
         → Inside p n leaf (along p.levels false start leaf made) log → start ≡ start_at p (log_code p log) n
-        → made ≤ p.levels + 1 → start < end → start + move_cycles * made < end + move_cycles → end ≤ start + move_cycles * made
-        → IsScheduled p end log }
+        → made ≤ p.levels + 1 → start < end → start + move_cycles * made < end + move_cycles
+        → end ≤ start + move_cycles * made → IsScheduled p end log }
     ensures writes { (p : Public) (n start leaf made end : ℕ) (log : LogLists)
         → Inside p n leaf (reads p.levels start leaf ++ along p.levels true (writes_start p.levels start) leaf made) log
         → start ≡ start_at p (log_code p log) n → made ≤ p.levels + 1
-        → writes_start p.levels start + move_cycles * made < end + move_cycles → end ≤ writes_start p.levels start + move_cycles * made
-        → end < start + olat_of p.levels → IsScheduled p end log }
+        → writes_start p.levels start + move_cycles * made < end + move_cycles
+        → end ≤ writes_start p.levels start + move_cycles * made → end < start + olat_of p.levels
+        → IsScheduled p end log }
 {}
 
 /// The choice at a slot's end is noted by the time of that end, and not before; and no more choices are noted than

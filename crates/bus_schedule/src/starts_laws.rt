@@ -86,8 +86,8 @@ pub fn codes_compare()
         → code < other }
 {}
 
-/// A start tells a digit: of the codes under which the 45th slot of four rates starts at 49,472, each has the digit 3 first,
-/// and 3 is the least.
+/// A start tells a digit: of the codes under which the 45th slot of four rates starts at 49,472, each has the digit 3
+/// first, and 3 is the least.
 pub fn digit_rows()
     ensures digit { (other : ℕ) → start_at four_rates other 44 ≡ 49472 → digit_of other 4 0 ≡ 3 }
     ensures least { (other : ℕ) → start_at four_rates other 44 ≡ 49472 → 3 ≤ other }

@@ -138,7 +138,8 @@ fn read_along<M: UntrustedMemory, W: Watch>(
     ensures read { OnOk result
         (Ran M.state W.state Whole (reads shape.now.levels start leaf.0) [] bus.old bus.new) }
     ensures cut { OnErr result ((level : ℕ) × (level ≤ shape.now.levels)
-        × Ran M.state W.state (end_of result) (along shape.now.levels false start leaf.0 (level + 1)) [] bus.old bus.new) }
+        × Ran M.state W.state (end_of result) (along shape.now.levels false start leaf.0 (level + 1))
+        [] bus.old bus.new) }
     ensures cause { IsErrOf result BusStop.Device
         → Rose (M.state bus.old.memory.now).faults (M.state bus.new.memory.now).faults }
 {

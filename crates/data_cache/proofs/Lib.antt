@@ -6,3 +6,4 @@ pub mod UseLaws
 pub mod ToldLaws
 pub mod CachedLaws
 pub mod AccessAlike
+pub mod Masks

@@ -21,13 +21,18 @@ pub struct Held {
     pub value: Line,
 }
 
-/// Which of the sets is a line's.
+/// Which of the sets is a line's: by a mask and not by a division, where their number is a power of two.
+#[tactic(auto, using(crate::proofs::Masks::masked_is))]
 pub(crate) fn set_index(sets: &Vec<Vec<Held>>, line: u32) -> usize
     requires { 0 < vec_len sets.now }
     ensures set { result ≡ line % vec_len sets.now }
     ensures inside { result < vec_len sets.now }
 {
-    line as usize % sets.len()
+    let count = sets.len();
+    if count & (count - 1) == 0 {
+        return line as usize & (count - 1);
+    }
+    line as usize % count
 }
 
 /// Where a line stands in a set.

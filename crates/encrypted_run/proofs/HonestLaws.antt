@@ -1,15 +1,19 @@
--- Where no reply was altered no plan over an encrypted memory is stopped by evidence.
-use Rattle.std.proofs.Common.{◌≡◌, ◌<◌, inl, inr, ℕ, List, [], None, Ok, Err, get_or}
+-- Where no reply was altered no plan over an encrypted memory is stopped by evidence; and where one is stopped no point
+-- was drawn twice, or the log shows a forgery.
+use Rattle.std.proofs.Common.{◌≡◌, ◌<◌, ◌⊎◌, inl, inr, ℕ, List, [], None, Ok, Err, get_or}
 use Rattle.request_plan.specs.Plan.{Plan, Done, Ask, Stops, through}
 use Rattle.asc_base.specs.Settings.{IsConfig}
 use Rattle.asc_base.specs.declared.block.Line.{Line}
 use Rattle.asc_base.specs.declared.settings.Config.{Config}
 use Rattle.asc_base.specs.declared.stop.Evidence.{Evidence}
+use Rattle.asc_base.specs.declared.stop.Stop.{Stop}
 use Rattle.asc_base.specs.declared.stop.Stop.TheVariants.{Integrity}
 use Rattle.oram_contents.specs.Entries.{Keys, AreKeys}
+use Rattle.oram_contents.specs.Forgery.{Forgery}
 use Rattle.oram_frontend.specs.Oram.{OramState, OramStep, Wait, Fetch as OramFetch, Store as OramStore}
 use Rattle.oram_lines.specs.Lines.{IsNew}
-use Rattle.oram_lines.proofs.HonestLaws.{call_blameless, serves_on}
+use Rattle.oram_lines.specs.Standing.{DrawnOnce}
+use Rattle.oram_lines.proofs.HonestLaws.{call_blameless, points_stop, serves_on}
 use Rattle.oram_lines.proofs.HonestTriples.{unforged}
 use Rattle.rv32_core.specs.Machine.{Machine}
 use Rattle.rv32_core.specs.RunPlan.{run_plan}
@@ -57,6 +61,28 @@ module _ (keys : Keys) (lawful : AreKeys keys) (levels : ℕ) where
             (plan_stop keys lawful levels (k x) mid new (Integrity evidence) left rest forged) none
         | inr (now, flat, holds) ↦ plan_blameless (k x) now mid new evidence left holds
             (line_serves old mid q x one) rest none
+      ]
+
+  -- where a request is stopped no point was drawn twice, or the log shows a forgery, and so of a plan of requests
+  line_points : (list : List (List ℕ)) (old new : OramState) (request : LineRequest) (stop : Stop)
+      → HoldsList keys levels list old → OramLine keys levels old request (Err stop) new
+      → Forgery keys new.port.tap.log ⊎ DrawnOnce new.port.tap.log.events
+  line_points list old new (Fetch line) stop x (below, asked, one) =
+      points_stop keys lawful levels (λ n. get_or list n []) old new (OramFetch asked line) stop x.holds below one
+  line_points list old new (Store line value) stop x (below, whole, asked, one) =
+      points_stop keys lawful levels (λ n. get_or list n []) old new (OramStore asked line (record { 0 = value })) stop
+      x.holds (below, whole) one
+
+  pub plan_points : {B A : Type 0} (plan : Plan LineRequest (List ℕ) B A) (list : List (List ℕ))
+      (old new : OramState) (stop : Stop) (left : B) → HoldsList keys levels list old
+      → Stops (OramLine keys levels) plan old new stop left
+      → Forgery keys new.port.tap.log ⊎ DrawnOnce new.port.tap.log.events
+  plan_points (Done x) list old new stop left held stops = absurd stops
+  plan_points (Ask q b k) list old new stop left held (inl (one, is)) = line_points list old new q stop held one
+  plan_points (Ask q b k) list old new stop left held (inr (x, mid, one, rest)) =
+      elim (step_holds keys lawful levels list old mid q x held one) [
+        | inl forged ↦ inl (plan_stop keys lawful levels (k x) mid new stop left rest forged)
+        | inr (now, flat, holds) ↦ plan_points (k x) now mid new stop left holds rest
       ]
 
   -- A line that is written whole, an instruction, and a run.

@@ -81,13 +81,14 @@ pub fn stands_keep_pace()
         → Stands config n last next learner log → last ≤ end → end ≤ next → KeepsPace config end log }
     ensures reads { (config : Config) (n start leaf made end : ℕ) (learner : Learner) (log : LogLists)
         → StandsIn config n start leaf (along config.shape.levels false start leaf made) learner log
-        → made ≤ config.shape.levels + 1 → start < end → start + move_cycles * made < end + move_cycles → end ≤ start + move_cycles * made
-        → KeepsPace config end log }
+        → made ≤ config.shape.levels + 1 → start < end → start + move_cycles * made < end + move_cycles
+        → end ≤ start + move_cycles * made → KeepsPace config end log }
     ensures writes { (config : Config) (n start leaf made end : ℕ) (learner : Learner) (log : LogLists)
         → StandsIn config n start leaf
         (reads config.shape.levels start leaf
         ++ along config.shape.levels true (writes_start config.shape.levels start) leaf made) learner log
-        → made ≤ config.shape.levels + 1 → writes_start config.shape.levels start + move_cycles * made < end + move_cycles
+        → made ≤ config.shape.levels + 1
+        → writes_start config.shape.levels start + move_cycles * made < end + move_cycles
         → end ≤ writes_start config.shape.levels start + move_cycles * made → end < start + olat_of config.shape.levels
         → KeepsPace config end log }
     ensures budget { (config : Config) (end : ℕ) (log : LogLists) → IsConfig config → KeepsPace config end log

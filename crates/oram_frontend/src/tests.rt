@@ -219,6 +219,8 @@ struct Outcome {
     moves: usize,
     /// The points that were drawn.
     points: Vec<Point>,
+    /// The times and the buckets of the altered replies.
+    altered: Vec<(u64, u32)>,
 }
 
 /// What is left of calls to a new encrypted memory over an outer one.
@@ -246,6 +248,7 @@ fn outcome_of<L: LeafFn, M: UntrustedMemory>(
         last: oram.last(),
         moves: tap.log().moves.len(),
         points: points(alloc, tap.log())?,
+        altered: altered(alloc, tap.log())?,
     })
 }
 
@@ -258,6 +261,15 @@ fn points(alloc: Global, log: &Log) -> Result<Vec<Point>, Fail> {
         }
     }
     Ok(points)
+}
+
+/// The times and the buckets of the altered replies.
+fn altered(alloc: Global, log: &Log) -> Result<Vec<(u64, u32)>, Fail> {
+    let mut altered = Vec::new(alloc);
+    for reply in &log.altered {
+        altered.push((reply.time, reply.bucket))?;
+    }
+    Ok(altered)
 }
 
 /// A stop by evidence, without the tags and the line that a bad tag shows.
@@ -589,6 +601,8 @@ fn blanked_line_is_missing(rt: HostRuntime) -> Result<(), Fail> {
     ];
     assert_eq!(rt; left.answers.as_slice(), wanted.as_slice());
     assert_eq!(rt; left.last, 2_752);
+    // the eighteenth reply is that of the third slot's lowest bucket
+    assert_eq!(rt; left.altered.as_slice(), [(1_960, 31)].as_slice());
     Ok(())
 }
 

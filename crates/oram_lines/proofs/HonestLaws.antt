@@ -1,15 +1,19 @@
--- Where no reply was altered no call of an encrypted memory is stopped by evidence.
-use Rattle.std.proofs.Common.{◌≡◌, inl, inr, ℕ, [], ◌∷◌, Option, None, Some, Ok, Err, sym, ◌∙◌, subst}
+-- Where no reply was altered no call of an encrypted memory is stopped by evidence; and none that is stopped drew a point
+-- twice, or the log shows a forgery.
+use Rattle.std.proofs.Common.{◌≡◌, ◌⊎◌, inl, inr, ℕ, [], ◌∷◌, Option, None, Some, Ok, Err, sym, ◌∙◌, subst}
 use Rattle.asc_base.specs.declared.stop.Evidence.{Evidence}
 use Rattle.asc_base.specs.declared.stop.Stop.{Stop}
 use Rattle.asc_base.specs.declared.stop.Stop.TheVariants.{Integrity}
 use Rattle.oram_contents.specs.Entries.{Keys, AreKeys}
+use Rattle.oram_contents.specs.Forgery.{Forgery}
 use Rattle.oram_frontend.specs.Oram.{OramState, OramRequest, OramStep, Fetch, Store, Wait, Told}
 use Rattle.oram_lines.specs.Lines.{Lines, HoldsLines, IsRequest, Calls, Answered, AreRequests}
+use Rattle.oram_lines.specs.Standing.{DrawnOnce}
 use Rattle.oram_lines.proofs.HonestSlots.{idle_clear}
-use Rattle.oram_lines.proofs.HonestStops.{fetch_blameless, store_blameless}
+use Rattle.oram_lines.proofs.HonestStops.{fetch_blameless, store_blameless, fetch_points, store_points}
 use Rattle.oram_lines.proofs.HonestTriples.{unforged}
 use Rattle.oram_lines.proofs.LineLaws.{calls_hold, forgery_stop}
+use Rattle.oram_lines.proofs.PointStops.{idle_stop}
 
 module _ (keys : Keys) (lawful : AreKeys keys) (levels : ℕ) where
   -- it answered, and so can serve
@@ -29,6 +33,12 @@ module _ (keys : Keys) (lawful : AreKeys keys) (levels : ℕ) where
   had : (old : OramState) (evidence : Evidence) → old.stop ≡ None → old.stop ≡ Some (Integrity evidence) → ⊥
   had old evidence serves stopped =
       let bad : ◌≡◌ {A = Option Stop} None (Some (Integrity evidence)) = sym serves ∙ stopped in cc
+
+  -- where nothing is done no point is drawn
+  stays : (lines : Lines) (old new : OramState) → HoldsLines keys levels lines old → new ≡ old
+      → DrawnOnce new.port.tap.log.events
+  stays lines old new x same =
+      subst (λ (o : OramState). DrawnOnce o.port.tap.log.events) (sym same) x.stands.known.points
 
   pub call_blameless : (lines : Lines) (old new : OramState) (request : OramRequest) (evidence : Evidence)
       → HoldsLines keys levels lines old → IsRequest keys.shape.lines request → old.stop ≡ None
@@ -50,6 +60,23 @@ module _ (keys : Keys) (lawful : AreKeys keys) (levels : ℕ) where
       sym (x.stands.rests.2).going ∙ before.0 in cc
   call_blameless lines old new (Wait time) evidence x below serves (inr (stops, is, inr stop)) none =
       idle_clear keys lawful levels x.ghost old.port new.port time evidence x.stands.known none stop
+
+  -- a stopped one leaves no point that was drawn twice
+  pub points_stop : (lines : Lines) (old new : OramState) (request : OramRequest) (stop : Stop)
+      → HoldsLines keys levels lines old → IsRequest keys.shape.lines request
+      → OramStep keys levels old request (Err stop) new
+      → Forgery keys new.port.tap.log ⊎ DrawnOnce new.port.tap.log.events
+  points_stop lines old new (Fetch asked line) stop x below (inl before) = inr (stays lines old new x before.1)
+  points_stop lines old new (Fetch asked line) stop x below (inr stops) =
+      fetch_points keys lawful levels old.front x.ghost old.port asked line x.stands x.calm below new.port stop new.front
+      stops.1
+  points_stop lines old new (Store asked line value) stop x below (inl before) = inr (stays lines old new x before.1)
+  points_stop lines old new (Store asked line value) stop x (below, whole) (inr stops) =
+      store_points keys lawful levels old.front x.ghost old.port asked line value x.stands x.calm below whole new.port
+      stop new.front stops.1
+  points_stop lines old new (Wait time) stop x below (inl before) = inr (stays lines old new x before.1)
+  points_stop lines old new (Wait time) stop x below (inr stops) =
+      inr (idle_stop keys lawful levels x.ghost old.port new.port time stop x.stands.known stops.2)
 
   -- nor one behind others
   pub calls_blameless : (lines : Lines) (old mid new : OramState) (calls : Calls) (request : OramRequest)

@@ -1,5 +1,6 @@
 -- What a port's calls leave, however many there were.
-use Rattle.std.proofs.Common.{◌≡◌, ◌+◌, ◌<◌, ◌≤◌, ◌∙◌, ℕ, List, [], Ok, length, refl, sym, ap, subst, inl, inr, arith}
+use Rattle.std.proofs.Common.{◌≡◌, ◌≢◌, ◌+◌, ◌<◌, ◌≤◌, ◌∙◌, ℕ, List, [], Ok, length, refl, sym, ap, subst, inl, inr}
+use Rattle.std.proofs.Common.{arith, min}
 use Rattle.request_plan.specs.Plan.{Plan, Done, Ask, Ends}
 use Rattle.std.proofs.lemmas.List.{length-append}
 use Rattle.asc_base.specs.TreeShape.{olat_of}
@@ -10,12 +11,15 @@ use Rattle.asc_base.specs.declared.stop.Stop.TheVariants.{Integrity, StashFull, 
 use Rattle.asc_outside.proofs.RoseLaws.{rose_since}
 use Rattle.asc_outside.specs.Memory.{MemoryState}
 use Rattle.asc_outside.specs.Rose.{Rose}
-use Rattle.bus_watch.specs.Honest.{TellsMirror}
-use Rattle.bus_watch.specs.Log.{TapState}
+use Rattle.bus_schedule.proofs.TimetableParts.{timetable-before, first-is}
+use Rattle.bus_schedule.specs.Scheduled.{log_code}
+use Rattle.bus_schedule.specs.Timetable.{Public, public_of, timetable, first_from}
+use Rattle.bus_watch.specs.Honest.{TellsMirror, MayTellMirror}
+use Rattle.bus_watch.specs.Log.{TapState, LogLists}
 use Rattle.bus_watch.specs.Made.{Made}
 use Rattle.bus_watch.specs.declared.log.Move.{Move}
 use Rattle.bus_watch.specs.declared.log.Event.{Event}
-use Rattle.bus_watch.specs.RunEnd.{RunEnd, Whole}
+use Rattle.bus_watch.specs.RunEnd.{RunEnd, Whole, RanOut}
 use Rattle.bus_watch.specs.Tied.{Tied}
 use Rattle.epoch_learner.proofs.StandLaws.{stands_pace, stands_next}
 use Rattle.epoch_learner.specs.Stands.{KeepsPace}
@@ -24,9 +28,10 @@ use Rattle.rate_enforcer.specs.Counts.{IsCounted}
 use Rattle.rate_enforcer.specs.PortStep.{PortState, PortStep, PortRequest, Open, Take, Note, Put, Close, Abort, Join}
 use Rattle.rate_enforcer.specs.PortStep.{Idle, Said, Used, KeepsCount, Resting, HandOnly}
 use Rattle.rate_enforcer.specs.PortStep.{OpenStopped, CloseStopped, IdleStopped, Aborted}
+use Rattle.rate_enforcer.specs.State.{IsUp}
 use Rattle.rate_enforcer.specs.Stops.{IsEndOf}
 use Rattle.rate_enforcer.specs.declared.clock.Clock.{Clock}
-use Rattle.secure_machine.specs.Goes.{Goes, Breaks, PaceAt, TiedAfter, AsksMoves, Asks}
+use Rattle.secure_machine.specs.Goes.{Goes, Breaks, PaceAt, TiedAfter, AsksMoves, Asks, MayTellOn, IsNextStart}
 
 -- the moves of a run of bus calls were asked of the memory
 made_asked : {end : RunEnd} {moves : List Move} {events : List Event} {m m' : MemoryState} {t t' : TapState}
@@ -43,6 +48,11 @@ still_asked old new memory tap =
     let moves : length new.tap.log.moves ≡ length old.tap.log.moves = ap (λ (t : TapState). length t.log.moves) tap in
     omega (arith, moved, moves)
 
+-- and it still tells the mirror's buckets, where it told them
+pub still_told : (old new : PortState) → new.memory ≡ old.memory → new.tap ≡ old.tap → MayTellOn old new
+still_told old new memory tap told = subst (λ (t : TapState). MayTellMirror new.memory t) (sym tap)
+    (subst (λ (m : MemoryState). MayTellMirror m old.tap) (sym memory) told)
+
 -- nothing was asked
 pub goes_none : (s : PortState) → Goes s s
 goes_none s = record {
@@ -53,6 +63,8 @@ goes_none s = record {
   real = omega arith;
   unaltered = λ tells. refl;
   tells = λ tells. tells;
+  told = λ told. told;
+  prepared = refl;
   asked = refl;
 }
 
@@ -66,6 +78,8 @@ goes_then one two = record {
   real = omega (arith, one.real, two.real);
   unaltered = λ tells. two.unaltered (one.tells tells) ∙ one.unaltered tells;
   tells = λ tells. two.tells (one.tells tells);
+  told = λ told. two.told (one.told told);
+  prepared = two.prepared ∙ one.prepared;
   asked = omega (arith, one.asked, two.asked);
 }
 
@@ -81,6 +95,8 @@ breaks_then {stop} {a} {b} {c} one two = record {
   in_time = subst (λ (config : Config). c.clock.last < config.time + olat_of config.shape.levels) one.config
       two.in_time;
   unaltered = λ tells. two.unaltered (one.tells tells) ∙ one.unaltered tells;
+  told = λ other told. two.told other (one.told told);
+  prepared = two.prepared ∙ one.prepared;
   asked = omega (arith, one.asked, two.asked);
 }
 
@@ -98,6 +114,8 @@ hand_goes {leaf_of} {levels} {old} {new} h = record {
   unaltered = λ tells. ap (λ (t : TapState). t.log.altered) h.tap;
   tells = λ tells. subst (λ (t : TapState). TellsMirror new.memory t) (sym h.tap)
       (subst (λ (m : MemoryState). TellsMirror m old.tap) (sym h.memory) tells);
+  told = still_told old new h.memory h.tap;
+  prepared = ap (λ (m : MemoryState). m.count) h.memory;
   asked = still_asked old new h.memory h.tap;
 }
 
@@ -112,6 +130,8 @@ used_goes used config counts real = record {
   real = real;
   unaltered = used.made.honest.unaltered;
   tells = used.made.honest.whole refl;
+  told = used.made.honest.told (λ bad. cc);
+  prepared = used.made.prepared;
   asked = made_asked used.made;
 }
 
@@ -134,6 +154,8 @@ abort_goes {leaf_of} {levels} {end} {stop} {old} {new} h =
       unaltered = λ tells. ap (λ (t : TapState). t.log.altered) h.tap;
       tells = λ tells. subst (λ (t : TapState). TellsMirror new.memory t) (sym h.tap)
           (subst (λ (m : MemoryState). TellsMirror m old.tap) (sym h.memory) tells);
+      told = still_told old new h.memory h.tap;
+      prepared = ap (λ (m : MemoryState). m.count) h.memory;
       asked = still_asked old new h.memory h.tap;
     }
 
@@ -153,6 +175,8 @@ step_goes leaf_of levels old (Note event) said new h =
       real = omega (arith, real);
       unaltered = h.1.made.honest.unaltered;
       tells = h.1.made.honest.whole refl;
+      told = h.1.made.honest.told (λ bad. cc);
+      prepared = h.1.made.prepared;
       asked = made_asked h.1.made;
     }
 step_goes leaf_of levels old (Put entry) said new h = hand_goes h.1.others
@@ -182,6 +206,35 @@ stop_cause : (stop : Stop) {old new : PortState} (end : RunEnd) → IsEndOf stop
     → stop ≡ Device → Rose old.memory.faults new.memory.faults
 stop_cause stop end is used same = used.made.cause (subst (λ (s : Stop). IsEndOf s end) same is)
 
+-- only want of memory can leave the memory's buckets apart from the mirror's
+stop_whole : (stop : Stop) (end : RunEnd) → IsEndOf stop end → stop ≢ NoMemory → end ≢ RanOut
+stop_whole (Integrity evidence) end is other ran = cc
+stop_whole (StashFull held) end is other ran = cc
+stop_whole (TimeUp at) end is other ran = cc
+stop_whole Device end is other ran = cc
+stop_whole NoMemory end is other ran = other refl
+
+stop_told : (stop : Stop) {old new : PortState} (end : RunEnd) → IsEndOf stop end → Used end old new
+    → stop ≢ NoMemory → MayTellOn old new
+stop_told stop end is used other = used.made.honest.told (stop_whole stop end is other)
+
+-- no start lies between a time and a later one where the first from it on isn't before that one
+first-late : (p : Public) (code time later : ℕ) → time ≤ later → later ≤ first_from p code time
+    → first_from p code later ≡ first_from p code time
+first-late p code time later up reached =
+    first-is p code later (length (timetable p code time)) reached
+    (λ k below. omega (arith, (timetable-before p code time).before k below, up))
+
+-- where no slot is left, the next one is the first from the time of the settings on
+next_start : (config : Config) (at asked : ℕ) (clock : Clock) (log : LogLists) → clock.last ≤ at
+    → IsUp config at asked clock log → IsNextStart config at log
+next_start config at asked clock log early up = record {
+  late = up.late;
+  first = up.first ∙ sym (first-late (public_of config) (log_code (public_of config) log) (min asked config.time)
+      config.time (omega arith) (omega (arith, up.late, up.first)));
+  done = (up.pace at early (omega arith)).scheduled.starts;
+}
+
 module _ (leaf_of : Point → ℕ) (levels : ℕ) where
   open_pace : (asked : ℕ) (point : Point) (stop : Stop) (old new : PortState)
       → OpenStopped leaf_of levels asked point stop old new → PaceAt old.clock.config stop new
@@ -190,7 +243,8 @@ module _ (leaf_of : Point → ℕ) (levels : ℕ) where
   open_pace asked point (TimeUp at) old new h =
       let (up, passed, more, few) = h.breaks [] in
       let (next, rate) = h.stopped.ends in
-      (up.late, omega (arith, next, rate), up.pace)
+      let early : new.clock.last ≤ at = omega (arith, next, rate) in
+      (up.late, early, up.pace, next_start old.clock.config at asked new.clock new.tap.log early up)
   open_pace asked point Device old new h = h.stopped.pace
   open_pace asked point NoMemory old new h = h.stopped.pace
 
@@ -205,6 +259,8 @@ module _ (leaf_of : Point → ℕ) (levels : ℕ) where
     pace = open_pace asked point stop old new h;
     in_time = h.stopped.in_time;
     unaltered = h.used.made.honest.unaltered;
+    told = stop_told stop h.end h.is_end h.used;
+    prepared = h.used.made.prepared;
     asked = made_asked h.used.made;
   }
 
@@ -227,6 +283,8 @@ module _ (leaf_of : Point → ℕ) (levels : ℕ) where
     pace = close_pace stop old new h;
     in_time = h.stopped.in_time;
     unaltered = h.used.made.honest.unaltered;
+    told = stop_told stop h.end h.is_end h.used;
+    prepared = h.used.made.prepared;
     asked = made_asked h.used.made;
   }
 
@@ -252,6 +310,8 @@ module _ (leaf_of : Point → ℕ) (levels : ℕ) where
     pace = idle_pace time stop old new h;
     in_time = h.stopped.in_time;
     unaltered = h.used.made.honest.unaltered;
+    told = stop_told stop h.end h.is_end h.used;
+    prepared = h.used.made.prepared;
     asked = made_asked h.used.made;
   }
 

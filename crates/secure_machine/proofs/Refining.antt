@@ -17,19 +17,20 @@ use Rattle.data_cache.specs.Lines.{LineRequest, Fetch, Store}
 use Rattle.encrypted_run.specs.Refined.{OramLine, Computes, loaded}
 use Rattle.data_cache.specs.CacheLists.{line_in}
 use Rattle.encrypted_run.proofs.RefinedLaws.{forgery_plan, instruction_refines, line_refines}
-use Rattle.encrypted_run.proofs.HonestLaws.{plan_blameless, wait_clear}
+use Rattle.encrypted_run.proofs.HonestLaws.{plan_blameless, plan_points, wait_clear}
 use Rattle.encrypted_run.proofs.StopLaws.{plan_stop}
 use Rattle.oram_contents.specs.Entries.{Keys, AreKeys}
 use Rattle.oram_contents.specs.Forgery.{Forgery}
-use Rattle.oram_frontend.specs.Oram.{OramState, OramStep, Wait}
+use Rattle.oram_frontend.specs.Oram.{OramState, OramStep, Wait, Told}
+use Rattle.oram_lines.proofs.HonestLaws.{points_stop}
 use Rattle.oram_lines.proofs.HonestTriples.{unforged}
-use Rattle.oram_lines.proofs.LineLaws.{forgery_stop}
+use Rattle.oram_lines.proofs.LineLaws.{call_holds, forgery_call, forgery_stop}
 use Rattle.rv32_core.specs.Access.{spliced}
 use Rattle.rv32_core.specs.FlatMachine.{flat_step}
 use Rattle.rv32_core.specs.Machine.{Machine, IsCore}
 use Rattle.rv32_core.specs.StepPlan.{step_plan}
 use Rattle.rv32_core.specs.declared.outcome.Done.{Done as Finished}
-use Rattle.secure_machine.specs.Refines.{IsForged, StandFor, Knows, IsUnblamed}
+use Rattle.secure_machine.specs.Refines.{IsForged, StandFor, Knows, IsUnblamed, DrewOnce, StopUnblamed}
 use Rattle.play_run.specs.Timed.{Serving}
 use Rattle.secure_machine.specs.Runs.{Ready}
 use Rattle.secure_machine.specs.Same.{IsSameLines, timed_of, keys_in, oram_over}
@@ -244,11 +245,11 @@ module _ {M W L : Type 0} (memory_of : M → MemoryState) (tap_of : W → TapSta
       (oram t) stop left calls forged)
 
   -- Where no reply was altered no request is stopped by evidence.
-  pub stop_unblamed : {B A : Type 0} (plan : Plan LineRequest (List ℕ) B A) (s t : Lines) (stop : Stop) (left : B)
+  stop_evidence : {B A : Type 0} (plan : Plan LineRequest (List ℕ) B A) (s t : Lines) (stop : Stop) (left : B)
       (cache : Contents) (memory : List ℕ) → AreKeys (keys_in leaf_of s) → Ready memory_of tap_of levels_of s
       → Knows memory_of tap_of leaf_of levels_of cache memory s → Stops Step plan s t stop left
       → IsUnblamed stop (oram t).port.tap.log
-  stop_unblamed plan s t stop left cache memory lawful ready known stops evidence is none =
+  stop_evidence plan s t stop left cache memory lawful ready known stops evidence is none =
       let (calls, same) = chain_stops plan s t stop left (keys_in leaf_of s) (levels s) refl refl (lines_in s ready)
       stops in
       elim known [
@@ -260,7 +261,63 @@ module _ {M W L : Type 0} (memory_of : M → MemoryState) (tap_of : W → TapSta
             calls) none
       ]
 
-  -- nor are the slots up to a time
+  -- where one is stopped no point was drawn twice, or the log shows a forgery
+  stop_points : {B A : Type 0} (plan : Plan LineRequest (List ℕ) B A) (s t : Lines) (stop : Stop) (left : B)
+      (cache : Contents) (memory : List ℕ) → AreKeys (keys_in leaf_of s) → Ready memory_of tap_of levels_of s
+      → Knows memory_of tap_of leaf_of levels_of cache memory s → Stops Step plan s t stop left
+      → DrewOnce memory_of tap_of leaf_of levels_of t
+  stop_points plan s t stop left cache memory lawful ready known stops =
+      let (calls, same) = chain_stops plan s t stop left (keys_in leaf_of s) (levels s) refl refl (lines_in s ready)
+      stops in
+      elim known [
+        | inl forged ↦ inl (forged_now s t same
+            (plan_stop (keys_in leaf_of s) lawful (levels s) plan (oram s) (oram t) stop left calls forged))
+        | inr stands ↦ elim (plan_points (keys_in leaf_of s) lawful (levels s) plan stands.list (oram s) (oram t) stop
+            left stands.held calls) [
+              | inl forged ↦ inl (forged_now s t same forged)
+              | inr once ↦ inr once
+            ]
+      ]
+
+  pub stop_unblamed : {B A : Type 0} (plan : Plan LineRequest (List ℕ) B A) (s t : Lines) (stop : Stop) (left : B)
+      (cache : Contents) (memory : List ℕ) → AreKeys (keys_in leaf_of s) → Ready memory_of tap_of levels_of s
+      → Knows memory_of tap_of leaf_of levels_of cache memory s → Stops Step plan s t stop left
+      → StopUnblamed memory_of tap_of leaf_of levels_of stop t
+  stop_unblamed plan s t stop left cache memory lawful ready known stops = (
+    stop_evidence plan s t stop left cache memory lawful ready known stops,
+    stop_points plan s t stop left cache memory lawful ready known stops,
+  )
+
+  -- no point is drawn twice in the slots up to a time, whether they stop or not
+  pub waited_points : (s t : Lines) (time : ℕ) (told : Told) (cache : Contents) (memory : List ℕ)
+      → AreKeys (keys_in leaf_of s) → IsSameLines s t → Knows memory_of tap_of leaf_of levels_of cache memory s
+      → OramStep (keys_in leaf_of s) (levels s) (oram s) (Wait time) (Ok told) (oram t)
+      → DrewOnce memory_of tap_of leaf_of levels_of t
+  waited_points s t time told cache memory lawful same known step = elim known [
+    | inl forged ↦ inl (forged_now s t same
+        (forgery_call (keys_in leaf_of s) lawful (levels s) (oram s) (oram t) (Wait time) told step forged))
+    | inr stands ↦ elim (call_holds (keys_in leaf_of s) lawful (levels s) (λ n. get_or stands.list n []) (oram s)
+        (oram t) (Wait time) told stands.held.holds tt step) [
+          | inl forged ↦ inl (forged_now s t same forged)
+          | inr (holds, right) ↦ inr holds.stands.known.points
+        ]
+  ]
+
+  pub wait_points : (s t : Lines) (time : ℕ) (stop : Stop) (cache : Contents) (memory : List ℕ)
+      → AreKeys (keys_in leaf_of s) → IsSameLines s t → Knows memory_of tap_of leaf_of levels_of cache memory s
+      → OramStep (keys_in leaf_of s) (levels s) (oram s) (Wait time) (Err stop) (oram t)
+      → DrewOnce memory_of tap_of leaf_of levels_of t
+  wait_points s t time stop cache memory lawful same known step = elim known [
+    | inl forged ↦ inl (forged_now s t same
+        (forgery_stop (keys_in leaf_of s) lawful (levels s) (oram s) (oram t) (Wait time) stop step forged))
+    | inr stands ↦ elim (points_stop (keys_in leaf_of s) lawful (levels s) (λ n. get_or stands.list n []) (oram s)
+        (oram t) (Wait time) stop stands.held.holds tt step) [
+          | inl forged ↦ inl (forged_now s t same forged)
+          | inr once ↦ inr once
+        ]
+  ]
+
+  -- nor are the slots up to a time stopped by evidence
   pub wait_unblamed : (s t : Lines) (time : ℕ) (stop : Stop) (cache : Contents) (memory : List ℕ)
       → AreKeys (keys_in leaf_of s) → Serving (levels s) (oram s)
       → Knows memory_of tap_of leaf_of levels_of cache memory s

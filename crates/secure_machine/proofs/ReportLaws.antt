@@ -23,7 +23,7 @@ use Rattle.rate_enforcer.specs.Counts.{IsCounted, is_answered}
 use Rattle.bus_schedule.specs.Scheduled.{log_code}
 use Rattle.bus_schedule.specs.Timetable.{public_of}
 use Rattle.rate_enforcer.specs.PortStep.{PortState}
-use Rattle.secure_machine.specs.Finish.{Settled, Short, IsRightEnding}
+use Rattle.secure_machine.specs.Finish.{Settled, Short, IsRightEnding, IsTimeUp}
 use Rattle.secure_machine.specs.FlatEnds.{FlatEnds, IsFlat}
 use Rattle.secure_machine.specs.Run.{Reported, Wanting, DrawsLeaves, IsFlatReport, IsUnprepared, start_of}
 use Rattle.secure_machine.proofs.ImageZeros.{loaded_image}
@@ -71,6 +71,8 @@ reported_of config report instructions cycles last ending old new same counted s
       later = s.later;
       cause = λ failed. s.cause (sym ends ∙ failed);
       unaltered = s.unaltered;
+      told = s.told;
+      prepared = s.prepared;
       asked = s.asked;
       right = subst (λ (c : Config). IsRightEnding config.budget c.time report.instructions report.cycles report.last
           report.ending) same
@@ -79,6 +81,8 @@ reported_of config report instructions cycles last ending old new same counted s
           report.ending) (sym ran) (subst (λ n. IsRightEnding config.budget old.clock.config.time instructions cycles n
           report.ending) (sym up) (subst (IsRightEnding config.budget old.clock.config.time instructions cycles last)
           (sym ends) s.right))));
+      time_up = λ at is. subst (λ (c : Config). IsTimeUp c report.cycles new.tap.log at) same
+          (subst (λ n. IsTimeUp old.clock.config n new.tap.log at) (sym ran) (s.time_up at (sym ends ∙ is)));
     }
 
 -- what is left where memory was wanted
@@ -91,6 +95,7 @@ wanting_of config old new same counted s = record {
   tied = s.tied;
   later = s.later;
   unaltered = s.unaltered;
+  prepared = s.prepared;
   asked = s.asked;
 }
 

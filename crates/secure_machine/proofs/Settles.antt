@@ -11,7 +11,7 @@ use Rattle.epoch_learner.specs.Stands.{KeepsPace}
 use Rattle.rate_enforcer.specs.PortStep.{PortState}
 use Rattle.rate_enforcer.specs.Stops.{IsEndOf}
 use Rattle.secure_machine.specs.Goes.{Goes, Breaks}
-use Rattle.secure_machine.specs.Finish.{Settled, Short, IsOwnEnding, IsRightEnding}
+use Rattle.secure_machine.specs.Finish.{Settled, Short, IsOwnEnding, IsRightEnding, IsTimeUp}
 use Rattle.secure_machine.specs.declared.report.Ending.{Ending}
 use Rattle.secure_machine.specs.declared.report.Ending.TheVariants.{Exit, Trap, Budget, TimeUp, StashFull, Integrity}
 use Rattle.secure_machine.specs.declared.report.Ending.TheVariants.{Device}
@@ -33,6 +33,13 @@ own_none : (budget time instructions cycles until : ℕ) (ending : Ending)
 own_none budget time instructions cycles until ending h is =
     subst (IsOwnEnding budget time instructions cycles until) is h
 
+-- where time is up by itself, it is so at the clock
+own_up : (budget time instructions cycles until at : ℕ) (ending : Ending)
+    → IsOwnEnding budget time instructions cycles until ending → ending ≡ TimeUp at → (at ≡ cycles) × (time ≤ cycles)
+own_up budget time instructions cycles until at ending h is =
+    let (late, all, same) = subst (IsOwnEnding budget time instructions cycles until) is h in
+    (same, omega (arith, late, same))
+
 -- after the slots that were still to be done
 pub idle_settles : (budget instructions cycles until last : ℕ) (ending : Ending) (old mid new : PortState)
     → Goes old mid → Goes mid new → KeepsPace mid.clock.config last new.tap.log
@@ -48,7 +55,10 @@ idle_settles budget instructions cycles until last ending old mid new one two pa
   pace = subst (λ (config : Config). KeepsPace config last new.tap.log) one.config pace;
   in_time = subst (λ (config : Config). last < config.time + olat_of config.shape.levels) one.config soon;
   right = own_right budget old.clock.config.time instructions cycles until last ending own after;
+  time_up = λ at is. inl (own_up budget old.clock.config.time instructions cycles until at ending own is);
   unaltered = λ tells. two.unaltered (one.tells tells) ∙ one.unaltered tells;
+  told = λ told. two.told (one.told told);
+  prepared = two.prepared ∙ one.prepared;
   asked = omega (arith, one.asked, two.asked);
 }
 
@@ -70,7 +80,10 @@ module _ (budget instructions cycles : ℕ) (old new : PortState) where
     pace = h.pace;
     in_time = h.in_time;
     right = tt;
+    time_up = λ at is. absurd cc;
     unaltered = h.unaltered;
+    told = h.told (λ bad. cc);
+    prepared = h.prepared;
     asked = h.asked;
   }
 
@@ -86,7 +99,10 @@ module _ (budget instructions cycles : ℕ) (old new : PortState) where
     pace = h.pace;
     in_time = h.in_time;
     right = tt;
+    time_up = λ at is. absurd cc;
     unaltered = h.unaltered;
+    told = h.told (λ bad. cc);
+    prepared = h.prepared;
     asked = h.asked;
   }
 
@@ -103,7 +119,12 @@ module _ (budget instructions cycles : ℕ) (old new : PortState) where
     pace = h.pace.2 last (omega (arith, is)) (omega (arith, is, h.pace.0, h.pace.1));
     in_time = omega (arith, is, h.in_time);
     right = (h.pace.0, omega (arith, is));
+    time_up = λ other same.
+        let e : at ≡ other = cc in
+        subst (IsTimeUp old.clock.config cycles new.tap.log) e (inr h.pace.3);
     unaltered = h.unaltered;
+    told = h.told (λ bad. cc);
+    prepared = h.prepared;
     asked = h.asked;
   }
 
@@ -119,7 +140,10 @@ module _ (budget instructions cycles : ℕ) (old new : PortState) where
     pace = h.pace;
     in_time = h.in_time;
     right = tt;
+    time_up = λ at is. absurd cc;
     unaltered = h.unaltered;
+    told = h.told (λ bad. cc);
+    prepared = h.prepared;
     asked = h.asked;
   }
 
@@ -140,5 +164,6 @@ module _ (budget instructions cycles : ℕ) (old new : PortState) where
     end = new.clock.last;
     pace = h.pace;
     unaltered = h.unaltered;
+    prepared = h.prepared;
     asked = h.asked;
   }

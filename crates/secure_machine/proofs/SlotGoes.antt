@@ -35,8 +35,8 @@ use Rattle.rate_enforcer.proofs.Steps.{of_slot}
 use Rattle.rate_enforcer.specs.Stops.{IsEndOf}
 use Rattle.rate_enforcer.specs.declared.clock.Clock.{Clock}
 use Rattle.secure_machine.specs.Goes.{Breaks, PaceAt}
-use Rattle.secure_machine.proofs.PortGoes.{still_asked, goes_then, breaks_then, step_goes, plan_goes, open_breaks}
-use Rattle.secure_machine.proofs.PortGoes.{close_breaks}
+use Rattle.secure_machine.proofs.PortGoes.{still_asked, still_told, goes_then, breaks_then, step_goes, plan_goes}
+use Rattle.secure_machine.proofs.PortGoes.{open_breaks, close_breaks}
 use Rattle.secure_machine.proofs.PortGoes.{resting_pace}
 
 -- a port of which only the clock's stop and end are set
@@ -63,6 +63,8 @@ module _ {stop : Stop} {old new : PortState} (memory : new.memory ≡ old.memory
     pace = pace;
     in_time = in_time;
     unaltered = λ tells. ap (λ (t : TapState). t.log.altered) tap;
+    told = λ other. still_told old new memory tap;
+    prepared = ap (λ (m : MemoryState). m.count) memory;
     asked = still_asked old new memory tap;
   }
 
@@ -235,5 +237,7 @@ module _ (keys : Keys) (levels : ℕ) where
     pace = resting_pace s rests;
     in_time = rests.in_time;
     unaltered = λ tells. refl;
+    told = λ other told. told;
+    prepared = refl;
     asked = refl;
   }

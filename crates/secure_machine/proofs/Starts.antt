@@ -21,7 +21,7 @@ use Rattle.bus_schedule.specs.Shown.{indices_of, leaves_of, code_of}
 use Rattle.bus_watch.proofs.TiedLaws.{tied_start}
 use Rattle.bus_watch.specs.declared.bus.BusStop.{BusStop}
 use Rattle.bus_watch.specs.declared.bus.BusStop.TheVariants.{Device, NoMemory}
-use Rattle.bus_watch.specs.Honest.{TellsMirror}
+use Rattle.bus_watch.specs.Honest.{TellsMirror, MayTellMirror}
 use Rattle.bus_watch.specs.Log.{TapState, LogLists}
 use Rattle.bus_watch.specs.Prepared.{IsPrepared}
 use Rattle.bus_watch.specs.Ready.{IsReady}
@@ -33,6 +33,7 @@ use Rattle.oram_contents.specs.Entries.{AreKeys}
 use Rattle.oram_contents.specs.Starts.{empty_log}
 use Rattle.oram_frontend.specs.Oram.{oram_of}
 use Rattle.oram_lines.specs.Lines.{IsNew}
+use Rattle.oram_lines.specs.Standing.{DrawnOnce}
 use Rattle.rate_enforcer.specs.PortStep.{Resting, port_of}
 use Rattle.rate_enforcer.specs.Served.{keys_of}
 use Rattle.secure_machine.specs.Run.{chip_keys}
@@ -74,6 +75,10 @@ pub start_leaves : (config : Config) (log : LogLists) → log.events ≡ [] → 
 start_leaves config log events =
     subst (All (λ leaf. leaf < 2 ^ config.shape.levels)) (sym (ap leaves_of events))
     (All-nil (λ leaf. leaf < 2 ^ config.shape.levels))
+
+-- in a log of no events no point was drawn twice
+pub start_once : (log : LogLists) → log.events ≡ [] → DrawnOnce log.events
+start_once log none = subst DrawnOnce (sym none) tt
 
 -- a log that keeps the pace tells no more bits than the budget
 pub pace_bits : (config : Config) (end : ℕ) (log : LogLists) → IsConfig config → KeepsPace config end log
@@ -244,6 +249,17 @@ prepared_tells buckets levels accesses m m' t t' some prepared =
         → m'.told ≡ Some (zero_buckets buckets)
     told (Some all) some is = is
     told None some is = absurd cc
+
+-- Where a prepared memory tells its buckets, whatever it told before, they are the mirror's, which are of zeros.
+pub prepared_may : (buckets levels accesses : ℕ) (m m' : MemoryState) (t t' : TapState)
+    → IsPrepared (Ok tt) buckets levels accesses m m' t t' → MayTellMirror m' t'
+prepared_may buckets levels accesses m m' t t' prepared all is =
+    zeros m.told (sym prepared.by_answer.told ∙ is) ∙ sym prepared.by_answer.mirror
+  where
+    zeros : (told : Option (List (List ℕ))) → option_map (λ _. zero_buckets buckets) told ≡ Some all
+        → all ≡ zero_buckets buckets
+    zeros (Some before) same = cc
+    zeros None same = absurd cc
 
 -- The moves of a run are all that was asked of the memory, where its log was empty.
 pub all_asked : (m m' m2 : MemoryState) (t t' t2 : TapState) → t.log.moves ≡ [] → m'.moved ≡ m.moved

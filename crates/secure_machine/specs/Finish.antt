@@ -1,14 +1,16 @@
 -- How a run comes to its end, and what it leaves then.
-use Rattle.std.specs.Prelude.{◌≡◌, ◌+◌, ◌<◌, ◌≤◌, ℕ, List, min}
+use Rattle.std.specs.Prelude.{◌≡◌, ◌+◌, ◌<◌, ◌≤◌, ◌⊎◌, ℕ, List, min}
 use Rattle.asc_base.specs.TreeShape.{olat_of}
+use Rattle.asc_base.specs.declared.settings.Config.{Config}
 use Rattle.asc_outside.specs.Memory.{MemoryState}
 use Rattle.asc_outside.specs.Rose.{Rose}
+use Rattle.bus_watch.specs.Log.{LogLists}
 use Rattle.bus_watch.specs.RunEnd.{RanOut}
 use Rattle.bus_watch.specs.Tied.{Tied, TiedAt}
 use Rattle.epoch_learner.specs.Stands.{KeepsPace}
 use Rattle.oram_frontend.specs.Oram.{OramState}
 use Rattle.rate_enforcer.specs.PortStep.{PortState, KeepsCount}
-use Rattle.secure_machine.specs.Goes.{Goes, Breaks, Unaltered, Asks}
+use Rattle.secure_machine.specs.Goes.{Goes, Breaks, Unaltered, Asks, MayTellOn, SameCount, IsNextStart}
 use Rattle.play_run.specs.Timed.{Serving}
 use Rattle.secure_machine.specs.declared.machine.Cause.{Cause}
 use Rattle.secure_machine.specs.declared.machine.Cause.TheVariants.{Ends, Stops}
@@ -19,12 +21,12 @@ use Rattle.secure_machine.specs.declared.report.Ending.TheVariants.{Device}
 
 -- An ending that comes by itself, after so many instructions and cycles, and up to when slots are still to be done: to
 -- the smaller of the clock and the time of the settings, and to that time when time is up. At the budget all of it is
--- used, and when time is up the time of the settings is reached.
+-- used, and when time is up that is at the clock, which has reached the time of the settings.
 abbrev pub IsOwnEnding : (budget time instructions cycles until : ℕ) → Ending → Type 0
 IsOwnEnding budget time instructions cycles until (Exit status) = until ≡ min cycles time
 IsOwnEnding budget time instructions cycles until (Trap kind pc) = until ≡ min cycles time
 IsOwnEnding budget time instructions cycles until Budget = (instructions ≡ budget) × (until ≡ min cycles time)
-IsOwnEnding budget time instructions cycles until (TimeUp at) = (time ≤ at) × (until ≡ time)
+IsOwnEnding budget time instructions cycles until (TimeUp at) = (time ≤ at) × (until ≡ time) × (at ≡ cycles)
 IsOwnEnding budget time instructions cycles until (StashFull held) = ⊥
 IsOwnEnding budget time instructions cycles until (Integrity evidence) = ⊥
 IsOwnEnding budget time instructions cycles until Device = ⊥
@@ -40,6 +42,11 @@ IsRightEnding budget time instructions cycles last (StashFull held) = Unit {0}
 IsRightEnding budget time instructions cycles last (Integrity evidence) = Unit {0}
 IsRightEnding budget time instructions cycles last Device = Unit {0}
 
+-- When time is up: at the clock, where it has reached the time of the settings before an instruction; or at the start
+-- of the first slot that wasn't done.
+abbrev pub IsTimeUp : Config → (cycles : ℕ) → LogLists → (at : ℕ) → Type 0
+IsTimeUp config cycles log at = ((at ≡ cycles) × (config.time ≤ cycles)) ⊎ IsNextStart config at log
+
 -- No more instructions come: the run ends by itself, and the slots up to a time are still to be done; or a line was
 -- stopped.
 abbrev pub HaltsBy : (budget levels instructions cycles : ℕ) → Cause → PortState → OramState → Type 0
@@ -52,7 +59,8 @@ abbrev pub Halts : (budget levels : ℕ) → Halted → PortState → OramState 
 Halts budget levels halted old new = HaltsBy budget levels halted.instructions halted.cycles halted.cause old new
 
 -- What a run leaves that is reported: all is counted and tied, the log keeps the pace up to its end, which comes less
--- than a slot's cycles after the time of the settings, its ending is right, and a failure of the memory has its cause.
+-- than a slot's cycles after the time of the settings, its ending is right, time is up when it is said to be, and a
+-- failure of the memory has its cause.
 pub record Settled (budget instructions cycles : ℕ) (ending : Ending) (last : ℕ) (old new : PortState) : Type 0 where
   pub config : new.clock.config ≡ old.clock.config
   pub counts : KeepsCount old new
@@ -63,7 +71,10 @@ pub record Settled (budget instructions cycles : ℕ) (ending : Ending) (last : 
   pub pace : KeepsPace old.clock.config last new.tap.log
   pub in_time : last < old.clock.config.time + olat_of old.clock.config.shape.levels
   pub right : IsRightEnding budget old.clock.config.time instructions cycles last ending
+  pub time_up : (at : ℕ) → ending ≡ TimeUp at → IsTimeUp old.clock.config cycles new.tap.log at
   pub unaltered : Unaltered old new
+  pub told : MayTellOn old new
+  pub prepared : SameCount old new
   pub asked : Asks old new
 
 -- What want of memory leaves: up to some time the log keeps the pace, all is counted, and all is tied, but what the
@@ -77,4 +88,5 @@ pub record Short (old new : PortState) : Type 0 where
   pub end : ℕ
   pub pace : KeepsPace old.clock.config end new.tap.log
   pub unaltered : Unaltered old new
+  pub prepared : SameCount old new
   pub asked : Asks old new

@@ -8,7 +8,7 @@ use Rattle.asc_outside.specs.Rose.{Rose}
 use Rattle.bus_schedule.specs.Scheduled.{log_code}
 use Rattle.bus_schedule.specs.Shown.{indices_of, leaves_of}
 use Rattle.bus_schedule.specs.Timetable.{public_of, count_of}
-use Rattle.bus_watch.specs.Honest.{TellsMirror}
+use Rattle.bus_watch.specs.Honest.{TellsMirror, MayTellMirror}
 use Rattle.bus_watch.specs.Log.{TapState, LogLists}
 use Rattle.bus_watch.specs.RunEnd.{RanOut}
 use Rattle.bus_watch.specs.Tied.{Tied, TiedAt}
@@ -19,10 +19,10 @@ use Rattle.elf_loader.specs.declared.image.Image.{Image}
 use Rattle.oram_contents.specs.Entries.{Keys}
 use Rattle.rv32_core.specs.FlatRun.{flat_run, machine_at_start, output_limit}
 use Rattle.rv32_core.specs.Machine.{Machine}
-use Rattle.secure_machine.specs.Finish.{IsRightEnding}
+use Rattle.secure_machine.specs.Finish.{IsRightEnding, IsTimeUp}
 use Rattle.secure_machine.specs.FlatEnds.{FlatEnds}
 use Rattle.secure_machine.specs.Goes.{AsksMoves}
-use Rattle.secure_machine.specs.declared.report.Ending.TheVariants.{Device}
+use Rattle.secure_machine.specs.declared.report.Ending.TheVariants.{Device, TimeUp}
 use Rattle.secure_machine.specs.declared.report.Report.{Report}
 
 -- A log's code is below the number of codes with so many digits as it has choices, and these are no more than the budget
@@ -37,7 +37,8 @@ DrawsLeaves config log = All (λ leaf. leaf < 2 ^ config.shape.levels) (leaves_o
 
 -- A report over a prepared bus: the log keeps the pace up to its end, which comes less than a slot's cycles after the
 -- time of the settings, draws leaves of the tree, has as many starts, choices and answered lines as it says, and their
--- code, and is tied to what the memory was asked; a failure has its cause, and the ending is right.
+-- code, and is tied to what the memory was asked; a failure has its cause, the ending is right, and time is up when it
+-- is said to be. Buckets that the memory tells are still the mirror's, and as many of them are prepared.
 pub record Reported (config : Config) (report : Report) (memory memory' : MemoryState) (tap tap' : TapState)
     : Type 0 where
   pub pace : KeepsPace config report.last tap'.log
@@ -54,7 +55,10 @@ pub record Reported (config : Config) (report : Report) (memory memory' : Memory
   pub cause : report.ending ≡ Device → Rose memory.faults memory'.faults
   pub right : IsRightEnding config.budget config.time report.instructions report.cycles report.last
       report.ending
+  pub time_up : (at : ℕ) → report.ending ≡ TimeUp at → IsTimeUp config report.cycles tap'.log at
   pub unaltered : TellsMirror memory tap → tap'.log.altered ≡ tap.log.altered
+  pub told : MayTellMirror memory tap → MayTellMirror memory' tap'
+  pub prepared : memory'.count ≡ memory.count
   pub asked : AsksMoves memory memory' tap tap'
 
 -- Want of memory over a prepared bus: up to some time the log keeps the pace, and it draws leaves of the tree.
@@ -66,6 +70,7 @@ pub record Wanting (config : Config) (memory memory' : MemoryState) (tap tap' : 
       → TiedAt RanOut start buckets memory' tap'
   pub later : memory.faults ≤ memory'.faults
   pub unaltered : TellsMirror memory tap → tap'.log.altered ≡ tap.log.altered
+  pub prepared : memory'.count ≡ memory.count
   pub asked : AsksMoves memory memory' tap tap'
 
 -- The memory failed before the first slot: nothing was noted, and all numbers are 0.

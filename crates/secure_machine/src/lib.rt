@@ -31,6 +31,7 @@ ghost use Rattle.asc_outside.specs.Rose.{Rose};
 ghost use Rattle.bus_schedule.specs.Scheduled.{log_code};
 ghost use Rattle.bus_schedule.specs.Shown.{indices_of};
 ghost use Rattle.bus_schedule.specs.Timetable.{public_of};
+ghost use Rattle.bus_watch.specs.Honest.{MayTellMirror};
 ghost use Rattle.bus_watch.specs.Log.{TapState, LogLists};
 ghost use Rattle.bus_watch.specs.Ready.{IsReady};
 ghost use Rattle.bus_watch.specs.Same.{IsSameBus};
@@ -43,6 +44,7 @@ ghost use Rattle.oram_contents.specs.Forgery.{Forgery};
 ghost use Rattle.oram_contents.specs.Starts.{empty_log};
 ghost use Rattle.oram_frontend.specs.Oram.{oram_of};
 ghost use Rattle.oram_lines.specs.Lines.{IsNew};
+ghost use Rattle.oram_lines.specs.Standing.{DrawnOnce};
 ghost use Rattle.rate_enforcer.specs.PortStep.{Resting, port_of};
 ghost use Rattle.rate_enforcer.specs.Served.{keys_of};
 ghost use Rattle.rate_enforcer.specs.Counts.{IsCounted, is_dummy, is_real, is_answered};
@@ -54,7 +56,7 @@ ghost use Rattle.log_replay.specs.Order.{LogOrder};
 ghost use Rattle.play_run.specs.Given.{CallsPlay};
 ghost use Rattle.play_run.specs.Shows.{IsPlayed};
 ghost use Rattle.secure_machine.specs.Plays.{play_report, play_with};
-ghost use Rattle.secure_machine.specs.Finish.{IsRightEnding};
+ghost use Rattle.secure_machine.specs.Finish.{IsRightEnding, IsTimeUp};
 ghost use Rattle.secure_machine.specs.Judged.{ShowsEnding, EndsReplayed, WantsReplayed, SaysWanting, log_end};
 ghost use Rattle.secure_machine.specs.Run.{Reported, Wanting, IsFlatReport, IsUnprepared, IsTiedOr, IsTiedButLast};
 ghost use Rattle.secure_machine.specs.Run.{chip_keys, start_of, IsInBudget, DrawsLeaves};
@@ -197,6 +199,9 @@ fn run_prepared<M: UntrustedMemory, W: Watch, L: LeafFn>(
     ensures honest { AreKeys (keys_of oram.port.tree oram.tagger (L.leaf_of oram.port.leaves))
         → (W.state bus.new.tap.now).log.altered ≡ []
         → IfOk result (λ report. (evidence : Evidence) → report.ending ≡ Ending.Integrity evidence → ⊥) }
+    ensures points { AreKeys (keys_of oram.port.tree oram.tagger (L.leaf_of oram.port.leaves))
+        → Forgery (keys_of oram.port.tree oram.tagger (L.leaf_of oram.port.leaves)) (W.state bus.new.tap.now).log
+        ⊎ DrawnOnce (W.state bus.new.tap.now).log.events }
     ensures fed { IfOk result (λ report.
         IsFed config.now image.now files.input report (answered_lines (W.state bus.new.tap.now).log.events)) }
     ensures spent { IfOk result (λ report.
@@ -246,7 +251,9 @@ fn run_prepared<M: UntrustedMemory, W: Watch, L: LeafFn>(
 /// cycles after the time of the settings.
 ///
 /// Whatever the memory replies, the log tells how the run ended: it notes slots in order, the verdict on them is the
-/// ending, and the buckets are those that it says.
+/// ending, and the buckets are those that it says. For each point a leaf is drawn at most once, however the run ends, or
+/// the log shows a forgery. Where the bus was prepared and the memory tells its buckets afterwards, they are the mirror's.
+/// After a report as many buckets count as prepared as the shape has, and after want of memory so many, or none.
 pub fn run<M: UntrustedMemory, W: Watch, L: LeafFn>(
     alloc: Global,
     config: &Config,
@@ -290,9 +297,16 @@ pub fn run<M: UntrustedMemory, W: Watch, L: LeafFn>(
         → Rose (M.state bus.old.memory.now).faults (M.state bus.new.memory.now).faults) }
     ensures right { IfOk result (λ report.
         IsRightEnding config.now.budget config.now.time report.instructions report.cycles report.last report.ending) }
+    ensures time_up { IfOk result (λ report. (at : ℕ) → report.ending ≡ Ending.TimeUp at
+        → IsTimeUp config.now report.cycles (W.state bus.new.tap.now).log at) }
     ensures asked { (M.state bus.new.memory.now).moved
         ≡ (M.state bus.old.memory.now).moved + length (W.state bus.new.tap.now).log.moves }
     ensures unaltered { IsSome (M.state bus.old.memory.now).told → (W.state bus.new.tap.now).log.altered ≡ [] }
+    ensures told { IfOk result (λ report. MayTellMirror (M.state bus.new.memory.now) (W.state bus.new.tap.now)
+        ⊎ IsUnprepared report (W.state bus.old.tap.now) (W.state bus.new.tap.now)) }
+    ensures count { IfOk result (λ _. (M.state bus.new.memory.now).count ≡ config.now.shape.buckets) }
+    ensures count_err { OnErr result (((M.state bus.new.memory.now).count ≡ 0)
+        ⊎ ((M.state bus.new.memory.now).count ≡ config.now.shape.buckets)) }
     ensures flat { IsSome (M.state bus.old.memory.now).told
         → IfOk result (IsFlatReport config.now image.now input.now) }
     ensures refines { IfOk result (λ report.
@@ -302,6 +316,8 @@ pub fn run<M: UntrustedMemory, W: Watch, L: LeafFn>(
         Forgery (chip_keys config.now codec tagger (L.leaf_of leaf)) (W.state bus.new.tap.now).log
         ⊎ IsPlayed config.now (play_with config.now image.now input.now) (play_report report)
         (W.state bus.new.tap.now).log) }
+    ensures points { Forgery (chip_keys config.now codec tagger (L.leaf_of leaf)) (W.state bus.new.tap.now).log
+        ⊎ DrawnOnce (W.state bus.new.tap.now).log.events }
     ensures flat_unaltered { (W.state bus.new.tap.now).log.altered ≡ []
         → IfOk result (IsFlatReport config.now image.now input.now) }
     ensures plays_unaltered { (W.state bus.new.tap.now).log.altered ≡ []

@@ -19,6 +19,7 @@ ghost use Rattle.fed_run.specs.Answered.{feed_of};
 ghost use Rattle.fed_run.specs.Fed.{Feed};
 ghost use Rattle.oram_contents.specs.Entries.{AreKeys};
 ghost use Rattle.oram_contents.specs.Forgery.{Forgery};
+ghost use Rattle.oram_lines.specs.Standing.{DrawnOnce};
 ghost use Rattle.rate_enforcer.specs.Served.{keys_of};
 ghost use Rattle.rv32_core.specs.Access.{spliced};
 ghost use Rattle.rv32_core.specs.FlatMachine.{flat_step};
@@ -31,7 +32,8 @@ ghost use Rattle.secure_machine.specs.Answered.{answered_lines};
 ghost use Rattle.secure_machine.specs.Fed.{noted, over_image, over_loaded, IsFedStep, IsStarvedStep, HaltsFed};
 ghost use Rattle.secure_machine.specs.Fed.{CauseFed, IsFedRun};
 ghost use Rattle.secure_machine.specs.FlatEnds.{HaltsFlat, HaltsRun, IsFlat, ending_by};
-ghost use Rattle.secure_machine.specs.Refines.{IsForged, StandFor, Knows, IsUnblamed, EndsUnblamed, CauseUnblamed};
+ghost use Rattle.secure_machine.specs.Refines.{IsForged, StandFor, Knows, StopUnblamed, EndsUnblamed, CauseUnblamed};
+ghost use Rattle.secure_machine.specs.Refines.{DrewOnce};
 ghost use Rattle.std.specs.Prelude.{◌≡◌, ◌<◌, ◌*◌, ◌%◌, ℕ, Some, OnOk, OnErr, IfOk, IfErr, MatchResult, vec_len};
 ghost use Rattle.std.specs.Prelude.{length};
 ghost use Rattle.std.specs.List.{count_by};
@@ -147,7 +149,7 @@ fn load_line<M: UntrustedMemory, W: Watch, L: LeafFn>(
         → IsForged M.state W.state L.leaf_of L.levels lines.new) }
     ensures honest { (memory : List ℕ) → AreKeys (keys_in L.leaf_of lines.old)
         → Knows M.state W.state L.leaf_of L.levels cache.old memory lines.old
-        → IfErr result (λ stop. IsUnblamed stop (timed_of M.state W.state lines.new).oram.port.tap.log) }
+        → IfErr result (λ stop. StopUnblamed M.state W.state L.leaf_of L.levels stop lines.new) }
     ensures fed { (ways : ℕ) (sets : Sets) → StandsAs lines.old.count ways cache.old (over_image image.now sets)
         → (noted W.state lines.new ≡ noted W.state lines.old)
         × OnOk result (StandsAs lines.new.count ways cache.new (over_image image.now
@@ -267,7 +269,7 @@ fn step<M: UntrustedMemory, W: Watch, L: LeafFn>(
         × (machine_of core.new files.new ≡ machine_of core.old files.old)) }
     ensures honest { (memory : List ℕ) → AreKeys (keys_in L.leaf_of lines.old)
         → Knows M.state W.state L.leaf_of L.levels cache.old memory lines.old
-        → IfErr result (λ stop. IsUnblamed stop (timed_of M.state W.state lines.new).oram.port.tap.log) }
+        → IfErr result (λ stop. StopUnblamed M.state W.state L.leaf_of L.levels stop lines.new) }
     ensures fed { (ways : ℕ) (lists : Lines) → IsCore core.old → StandsAs lines.old.count ways cache.old lists
         → MatchResult result
         (λ done. IsFedStep W.state ways (machine_of core.old files.old) lists lines.old lines.new cache.new
@@ -494,6 +496,9 @@ fn finish<M: UntrustedMemory, W: Watch, L: LeafFn>(
     ensures honest { AreKeys (keys_in L.leaf_of lines.old)
         → CauseUnblamed M.state W.state L.leaf_of L.levels halted.cause lines.old
         → IfOk result (λ (ending, end). EndsUnblamed ending (timed_of M.state W.state lines.new).oram.port.tap.log) }
+    ensures points { AreKeys (keys_in L.leaf_of lines.old)
+        → CauseUnblamed M.state W.state L.leaf_of L.levels halted.cause lines.old
+        → DrewOnce M.state W.state L.leaf_of L.levels lines.new }
     ensures fetches { KeepsNoted (timed_of M.state W.state lines.old) (timed_of M.state W.state lines.new) }
     ensures noted { noted W.state lines.new ≡ noted W.state lines.old }
     ensures fed { (ways : ℕ) (machine last : Machine) (feed : Feed)
@@ -569,6 +574,13 @@ pub(crate) fn drive<M: UntrustedMemory, W: Watch, L: LeafFn>(
         (L.levels oram.old.port.leaves) cache.old memory
         (oram_over M.state W.state oram.old bus.old.memory.now bus.old.tap.now)
         → IfOk result (λ course. EndsUnblamed course.ending (W.state bus.new.tap.now).log) }
+    ensures points { (memory : List ℕ)
+        → AreKeys (keys_of oram.old.port.tree oram.old.tagger (L.leaf_of oram.old.port.leaves)) → IsCore core.old
+        → Computes (keys_of oram.old.port.tree oram.old.tagger (L.leaf_of oram.old.port.leaves))
+        (L.levels oram.old.port.leaves) cache.old memory
+        (oram_over M.state W.state oram.old bus.old.memory.now bus.old.tap.now)
+        → Forgery (keys_of oram.old.port.tree oram.old.tagger (L.leaf_of oram.old.port.leaves))
+        (W.state bus.new.tap.now).log ⊎ DrawnOnce (W.state bus.new.tap.now).log.events }
     ensures fetches { count_by is_answered (W.state bus.old.tap.now).log.events ≡ 0
         → IfOk result (λ course. course.fetches ≡ count_by is_answered (W.state bus.new.tap.now).log.events) }
     ensures fed { (ways : ℕ) (sets : Sets) → IsCore core.old

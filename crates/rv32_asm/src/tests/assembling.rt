@@ -14,10 +14,15 @@ fn file_at(rt: &impl Abort, alloc: Global, text: &str, at: u32) -> Result<Vec<u8
     assemble(alloc, text.as_bytes(), at)
 }
 
-/// Each text stands for these words.
-fn assembled(rt: &impl Abort, alloc: Global, rows: &[(&str, &[u32])]) -> Result<(), Fail> {
+/// Each text stands for these words, where it begins at this place.
+fn assembled(
+    rt: &impl Abort,
+    alloc: Global,
+    at: u32,
+    rows: &[(&str, &[u32])],
+) -> Result<(), Fail> {
     for (text, words) in rows {
-        let file = file_at(rt, alloc, text, AT)?;
+        let file = file_at(rt, alloc, text, at)?;
         let mut wanted = Vec::new(alloc);
         for word in *words {
             wanted.extend_from_slice(&word.to_le_bytes())?;
@@ -127,13 +132,34 @@ fn programs(rt: HostRuntime) -> Result<(), Fail> {
             &[0x0007_80ff, 0x0000_0100, 0x0000_0002],
         ),
     ];
-    assembled(&rt, rt.alloc(), &rows)
+    assembled(&rt, rt.alloc(), AT, &rows)?;
+    // the addresses 0, 2,047, 2,048 and the last one whose low twelve bits are -2,048
+    let labels: [(u32, &str, &[u32]); 4] = [
+        (0, "a: la x5, a", &[0x0000_02b7, 0x0002_8293]),
+        (
+            2_044,
+            ".zero 3\na: .byte 0\nla x5, a",
+            &[0x0000_0000, 0x0000_02b7, 0x7ff2_8293],
+        ),
+        (2_048, "a: la x5, a", &[0x0000_12b7, 0x8002_8293]),
+        (
+            4_294_899_712,
+            "a: la x5, a",
+            &[0xffff_02b7, 0x8002_8293],
+        ),
+    ];
+    for (at, text, words) in labels {
+        assembled(&rt, rt.alloc(), at, &[(text, words)])?;
+    }
+    Ok(())
 }
 
-/// Jumps and branches as far as they go: the word at an offset of the file.
+/// Jumps and branches as far as they go, and the longest row of zero bytes up to a multiple: the word at an offset of the
+/// file.
 #[test]
 fn far_targets(rt: HostRuntime) -> Result<(), Fail> {
-    let rows: [(&str, usize, u32); 4] = [
+    let rows: [(&str, usize, u32); 5] = [
+        ("nop\n.balign 4096\necall", 84 + 2_048, 0x0000_0073),
         ("back: .zero 4096\n beq x1, x2, back", 4_180, 0x8020_8063),
         (
             "bltu x3, x4, far\n.zero 4088\n.byte 0\n.byte 0\nfar:",
@@ -219,6 +245,7 @@ fn faults(rt: HostRuntime) -> Result<(), Fail> {
         ("j nowhere\n.byte 256", 1, AsmKind::Unknown),
         ("jal x1, 1", 1, AsmKind::Range),
         ("jal x1, 1048576", 1, AsmKind::Range),
+        ("jal x1, -1048578", 1, AsmKind::Range),
         ("beq x0, x0, 4096", 1, AsmKind::Range),
         ("bne x0, x0, -4098", 1, AsmKind::Range),
         ("lui x5, 1048576", 1, AsmKind::Range),

@@ -51,6 +51,45 @@ returns-clause-honest g c memory lawful core stands =
     c.new-lines.result c.play-halted.new.lines same)) lawful_first)
     (c.play-halted.ensures.honest memory lawful_first core (inr stands_first))
 
+-- the points of a run that was driven, whether it was answered or wanted memory
+pub returns-clause-points : goal.returns-clause-points
+returns-clause-points g c memory lawful core stands =
+    let keys = keys_by g.M.UntrustedMemory.state g.W.Watch.state g.L.LeafFn.leaf_of g.L.LeafFn.levels in
+    let same = c.play-halted.ensures.halts.same in
+    let lawful_first = subst (λ o. AreKeys (keys o)) (sym c.new-lines.ensures.oram) lawful in
+    let stands_first = at_parts g.M.UntrustedMemory.state g.W.Watch.state g.L.LeafFn.leaf_of g.L.LeafFn.levels
+    (StandBy g.M.UntrustedMemory.state g.W.Watch.state g.L.LeafFn.leaf_of g.L.LeafFn.levels c.args.cache.now memory)
+    c.new-lines.result c.args.oram.now c.args.bus.now.memory.now c.args.bus.now.tap.now c.new-lines.ensures.memory
+    c.new-lines.ensures.tap c.new-lines.ensures.oram stands in
+    elim (c.finish.ensures.points
+    (subst AreKeys (sym (keys_same g.M.UntrustedMemory.state g.W.Watch.state g.L.LeafFn.leaf_of g.L.LeafFn.levels
+    c.new-lines.result c.play-halted.new.lines same)) lawful_first)
+    (c.play-halted.ensures.honest memory lawful_first core (inr stands_first))) [
+      | inl forged ↦ inl (forged_first g.M.UntrustedMemory.state g.W.Watch.state g.L.LeafFn.leaf_of g.L.LeafFn.levels
+          c.new-lines.result c.finish.new.lines c.args.oram.now c.new-lines.ensures.oram
+          (same_then same c.finish.ensures.same) forged)
+      | inr once ↦ inr once
+    ]
+
+pub returns-in_err-ending-clause-points : goal.returns-in_err-ending-clause-points
+returns-in_err-ending-clause-points g c memory lawful core stands =
+    let keys = keys_by g.M.UntrustedMemory.state g.W.Watch.state g.L.LeafFn.leaf_of g.L.LeafFn.levels in
+    let same = c.play-halted.ensures.halts.same in
+    let lawful_first = subst (λ o. AreKeys (keys o)) (sym c.new-lines.ensures.oram) lawful in
+    let stands_first = at_parts g.M.UntrustedMemory.state g.W.Watch.state g.L.LeafFn.leaf_of g.L.LeafFn.levels
+    (StandBy g.M.UntrustedMemory.state g.W.Watch.state g.L.LeafFn.leaf_of g.L.LeafFn.levels c.args.cache.now memory)
+    c.new-lines.result c.args.oram.now c.args.bus.now.memory.now c.args.bus.now.tap.now c.new-lines.ensures.memory
+    c.new-lines.ensures.tap c.new-lines.ensures.oram stands in
+    elim (c.finish.ensures.points
+    (subst AreKeys (sym (keys_same g.M.UntrustedMemory.state g.W.Watch.state g.L.LeafFn.leaf_of g.L.LeafFn.levels
+    c.new-lines.result c.play-halted.new.lines same)) lawful_first)
+    (c.play-halted.ensures.honest memory lawful_first core (inr stands_first))) [
+      | inl forged ↦ inl (forged_first g.M.UntrustedMemory.state g.W.Watch.state g.L.LeafFn.leaf_of g.L.LeafFn.levels
+          c.new-lines.result c.finish.new.lines c.args.oram.now c.new-lines.ensures.oram
+          (same_then same c.finish.ensures.same) forged)
+      | inr once ↦ inr once
+    ]
+
 pub returns-clause-fed : goal.returns-clause-fed
 returns-clause-fed g c ways sets core stands =
     let machine = machine_of c.args.core.now c.args.files.now in

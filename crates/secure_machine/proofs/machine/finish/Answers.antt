@@ -6,7 +6,7 @@ use Rattle.oram_lines.proofs.LineLaws.{forgery_call, forgery_stop}
 use Rattle.secure_machine.specs.FlatEnds.{CauseRuns}
 use Rattle.secure_machine.specs.Refines.{CauseUnblamed}
 use Rattle.secure_machine.proofs.FlatLaws.{prefix_ends, ended_stops, evidence_named}
-use Rattle.secure_machine.proofs.Refining.{forged_now, wait_unblamed}
+use Rattle.secure_machine.proofs.Refining.{forged_now, wait_unblamed, waited_points, wait_points}
 use Rattle.oram_frontend.specs.Oram.{OramStep, Wait}
 use Rattle.oram_frontend.specs.Slots.{FitKeys}
 use Rattle.secure_machine.specs.Finish.{HaltsBy, IsOwnEnding}
@@ -146,9 +146,29 @@ returns-in-Err-clause-honest g c lawful unblamed =
 pub returns-in-Stops-clause-honest : goal.returns-in-Stops-clause-honest
 returns-in-Stops-clause-honest g c lawful unblamed =
     IfOk-weaker c.ending_of-in-Stops.result _ _ (λ (ending, end) named evidence is none.
-    subst (λ (cause : Cause). CauseUnblamed g.M.UntrustedMemory.state g.W.Watch.state g.L.LeafFn.leaf_of
-    g.L.LeafFn.levels cause c.args.lines.now) c.in-Stops.is unblamed evidence
+    (subst (λ (cause : Cause). CauseUnblamed g.M.UntrustedMemory.state g.W.Watch.state g.L.LeafFn.leaf_of
+    g.L.LeafFn.levels cause c.args.lines.now) c.in-Stops.is unblamed).0 evidence
     (evidence_named c.in-Stops.stop evidence (named ∙ ap Some is)) none) c.ending_of-in-Stops.ensures.named
+
+pub returns-in-Ok-clause-points : goal.returns-in-Ok-clause-points
+returns-in-Ok-clause-points g c lawful unblamed =
+    let (cache, memory, known) = subst (λ (cause : Cause). CauseUnblamed g.M.UntrustedMemory.state g.W.Watch.state
+    g.L.LeafFn.leaf_of g.L.LeafFn.levels cause c.args.lines.now) c.in-Ends.is unblamed in
+    waited_points g.M.UntrustedMemory.state g.W.Watch.state g.L.LeafFn.leaf_of g.L.LeafFn.levels c.args.lines.now
+    c.idle_until.new.self c.in-Ends.until _ cache memory lawful c.idle_until.ensures.same known c.in-Ok.ensures.step
+
+pub returns-in-Err-clause-points : goal.returns-in-Err-clause-points
+returns-in-Err-clause-points g c lawful unblamed =
+    let (cache, memory, known) = subst (λ (cause : Cause). CauseUnblamed g.M.UntrustedMemory.state g.W.Watch.state
+    g.L.LeafFn.leaf_of g.L.LeafFn.levels cause c.args.lines.now) c.in-Ends.is unblamed in
+    wait_points g.M.UntrustedMemory.state g.W.Watch.state g.L.LeafFn.leaf_of g.L.LeafFn.levels c.args.lines.now
+    c.idle_until.new.self c.in-Ends.until c.in-Err.stop cache memory lawful c.idle_until.ensures.same known
+    c.in-Err.ensures.step
+
+pub returns-in-Stops-clause-points : goal.returns-in-Stops-clause-points
+returns-in-Stops-clause-points g c lawful unblamed =
+    (subst (λ (cause : Cause). CauseUnblamed g.M.UntrustedMemory.state g.W.Watch.state g.L.LeafFn.leaf_of
+    g.L.LeafFn.levels cause c.args.lines.now) c.in-Stops.is unblamed).1
 
 pub returns-in-Ok-clause-noted : goal.returns-in-Ok-clause-noted
 returns-in-Ok-clause-noted g c =
