@@ -31,7 +31,8 @@ module _ (o : Option (List ℕ)) (bytes file : List ℕ) (base to_base size to_s
         (subst (λ l. AllDone (where_named o l []) old mid) e written) (
           mid,
           subst (λ l. Does (Loads l to_base to_size) mid mid) e
-              (subst (λ n. Does (Loads bytes n to_size) mid mid) b (subst (λ n. Does (Loads bytes base n) mid mid) s does)),
+              (subst (λ n. Does (Loads bytes n to_size) mid mid) b
+              (subst (λ n. Does (Loads bytes base n) mid mid) s does)),
           refl,
         )
 

@@ -101,8 +101,8 @@ program_reports given told config (Err refusal) is same of = tt
 
 -- a run begins so
 pub begins : (command : Command) (given : List Pair) (told : Option Files) (settings : Settings) (config : Config)
-    (key : List ℕ) (program : Program) → settings ≡ settings_of given → IsConfigOf settings config → program.config ≡ config
-    → CanRun program → length key ≡ key_length
+    (key : List ℕ) (program : Program) → settings ≡ settings_of given → IsConfigOf settings config
+    → program.config ≡ config → CanRun program → length key ≡ key_length
     → ((files : Files) → told ≡ Some files → key ≡ bytes_in files (file_in given Key))
     → IsProgramBy command given told program
     → IsBegin command given told (record { key = key; program = program })

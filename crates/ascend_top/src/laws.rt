@@ -23,8 +23,8 @@ ghost use Rattle.ascend_top.specs.Texts.{run_text};
 ghost use Rattle.ascend_top.specs.declared.commands.run.Encrypted.{Encrypted as EncryptedRun};
 
 /// `parse` accepts every file that `assemble` gives, where the program is inside the memory: the memory has the
-/// program's bytes at their place and zeros elsewhere, and the first instruction is the program's first. A program of one
-/// word, `ecall`, is inside the default memory.
+/// program's bytes at their place and zeros elsewhere, and the first instruction is the program's first. A program of
+/// one word, `ecall`, is inside the default memory.
 pub fn assembled_files_are_accepted()
     ensures faultless { (base size at : ℕ) (bytes : List ℕ) → IsInside base size at bytes
         → IsFaultless base size (file_of at bytes) }

@@ -1,8 +1,8 @@
 //! The commands of `ascend`, over any host, memory and tap.
 //!
 //! A command is a list of steps: numbers are judged, files are read, a program is run, assembled or listed, or a trace
-//! is checked, files are written, a text is printed. The first refusal ends it, and its text is printed. `run` and `gen`
-//! alone ask the memory and tell the tap.
+//! is checked, files are written, a text is printed. The first refusal ends it, and its text is printed. `run` and
+//! `gen` alone ask the memory and tell the tap.
 #![tactic(auto)]
 
 mod commands;
@@ -53,7 +53,8 @@ use std::alloc::Global;
 /// | 0 | the text was assembled and its file written; the program's statements were printed; the trace holds |
 /// | 2 | the words break a rule, or a required one is missing |
 /// | 3 | the ELF file, or that of a made program, has a fault, the first of which is printed |
-/// | 4 | a setting or number is out of range, the key file is shorter than a key, the text has a fault or is no trace's |
+/// | 4 | a setting or number is out of range, the key file is shorter than a key |
+/// | 4 | the text has a fault or is no trace's |
 /// | 5 | a call of the host failed |
 /// | 11 | there is no memory |
 /// | 12 | no choices of rates make the slots of the trace |

@@ -52,7 +52,8 @@ module _ (keys : Keys) (lawful : AreKeys keys) (levels : ℕ) (config : Config) 
       (asked slots now old request x below whole) going step
 
   waits : WaitPlays keys levels config
-  waits slots now old new time told x step = inr (wait_stands keys lawful levels config slots now time told old new x step)
+  waits slots now old new time told x step =
+      inr (wait_stands keys lawful levels config slots now time told old new x step)
 
   -- what a stop leaves of a wait
   wait-leaves : (slots : List Slot) (now : Standing) (time : ℕ) (old new : PortState) → old.clock.config ≡ config
@@ -64,7 +65,8 @@ module _ (keys : Keys) (lawful : AreKeys keys) (levels : ℕ) (config : Config) 
           → IsCut levels slots (passed (public_of old.clock.config) now.numbers time now.pace).slots how new
           → IsCut levels slots (waited config time now).slots how new
       at how c =
-          subst (λ (c : Config). IsCut levels slots (passed (public_of c) now.numbers time now.pace).slots how new) same c
+          subst (λ (c : Config). IsCut levels slots (passed (public_of c) now.numbers time now.pace).slots how new)
+          same c
 
       by_stop : (stop : Stop) → WaitLeaves keys levels now.numbers slots now.pace time old stop new
           → LeavesOf levels slots (waited config time now) stop new

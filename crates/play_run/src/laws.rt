@@ -35,9 +35,9 @@ ghost use Rattle.rv32_core.specs.Machine.{Machine, IsCore};
 ghost use Rattle.rv32_core.specs.StepPlan.{step_plan};
 ghost use Rattle.rv32_core.specs.declared.outcome.Done.{Done};
 
-/// Each call of an encrypted memory that stands in a play takes the slots of the play's request, and where it is stopped
-/// leaves a cut of them; so does a wait with its dummies; and a new one stands where the play begins. Else the log shows
-/// a forgery. These are the premises of the laws below.
+/// Each call of an encrypted memory that stands in a play takes the slots of the play's request, and where it is
+/// stopped leaves a cut of them; so does a wait with its dummies; and a new one stands where the play begins. Else the
+/// log shows a forgery. These are the premises of the laws below.
 pub fn calls_take_slots()
     ensures { (keys : Keys) → AreKeys keys → (levels : ℕ) (config : Config) → IsConfig config
         → CallsPlay keys levels config }
@@ -97,8 +97,8 @@ pub fn image_lines_take_slots()
 
 /// Where a run stands in a whole play before an instruction, the real cache's requests take the slots of the play's
 /// instruction, and the core comes to its machine and ending: the run stands before the next one at the end of the
-/// cost, or ends with the exit or the trap. A request that is stopped shows the play cut by the stop, or its end where no
-/// time is left. Where no time or no instruction is left the run ends so.
+/// cost, or ends with the exit or the trap. A request that is stopped shows the play cut by the stop, or its end where
+/// no time is left. Where no time or no instruction is left the run ends so.
 pub fn instructions_stand_in_the_play()
     ensures ends { (keys : Keys) (levels : ℕ) (config : Config) → AreKeys keys → RequestPlays keys levels config
         → (machine : Machine) → IsCore machine.core → machine.core.size ≡ 64 * keys.shape.lines → (whole : Play)

@@ -25,10 +25,11 @@ ghost use Rattle.rv32_core.specs.declared.outcome.TrapKind.{TrapKind};
 
 /// The clock of an encrypted memory is the costs that were spent and what was waited for its slots: for each that was
 /// asked for, its end less the time for which it was asked. So it begins, so a plan of requests that are answered
-/// leaves it, and so does a cost; and no request takes the clock back, nor further than a slot's cycles after the time of
-/// the settings. Where a plan is stopped, the clock before it is no more than that by the log then; and where no time is
-/// left, the slot that came too late starts less than a slot's cycles and the greatest rate after that. A wait adds
-/// nothing, also where it is stopped, since nobody waits for a dummy. All of this holds whatever the memory replies.
+/// leaves it, and so does a cost; and no request takes the clock back, nor further than a slot's cycles after the time
+/// of the settings. Where a plan is stopped, the clock before it is no more than that by the log then; and where no
+/// time is left, the slot that came too late starts less than a slot's cycles and the greatest rate after that. A wait
+/// adds nothing, also where it is stopped, since nobody waits for a dummy. All of this holds whatever the memory
+/// replies.
 pub fn cycles_are_spent<A, B>()
     ensures start { (keys : Keys) (levels : ℕ) (config : Config) (s : TimedState) → IsNew keys config levels s.oram
         → s.clock ≡ 0 → IsSpent levels 0 s }

@@ -52,8 +52,8 @@ module _ (base count : ℕ) (image : Image) (is : IsImage base (64 * count) imag
         (λ k within. get_or-take 64 (drop (64 * n) image.bytes.items) k 0 within
         ∙ (get_or-drop (64 * n) image.bytes.items k 0
         ∙ is.blank (64 * n + k) (omega (arith, below, within))
-        (λ contains. none (subst (Contains image.marked.items) (let e : (64 * n + k) / 64 ≡ n = omega (arith, within) in e)
-        contains)))))
+        (λ contains. none (subst (Contains image.marked.items)
+        (let e : (64 * n + k) / 64 ≡ n = omega (arith, within) in e) contains)))))
   ]
 
   pub image_zeros : (n : ℕ) → n < count → Has n image.marked.items ⊎ (line_in image.bytes.items n ≡ replicate 64 0)

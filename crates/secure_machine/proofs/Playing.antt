@@ -155,7 +155,8 @@ module _ {M W L : Type 0} (memory_of : M → MemoryState) (tap_of : W → TapSta
   -- so the clock stays small from image line to image line
   pub limit_small : (config : Config) (at line : ℕ) (marked : List ℕ) (s : Lines) → at < length marked
       → line ≡ get_or marked at line → IsStrictlyIncreasing marked → get_or marked at 0 < s.count
-      → Ready memory_of tap_of levels_of s → IsConfig config → (config.time + olat_of config.shape.levels + at) + 1 < 2 ^ 64
+      → Ready memory_of tap_of levels_of s → IsConfig config
+      → (config.time + olat_of config.shape.levels + at) + 1 < 2 ^ 64
   limit_small config at line marked s below is rise inside ready is_config =
       omega (arith, times_small config is_config, rising_place marked at rise below, inside, lines_small s ready)
 

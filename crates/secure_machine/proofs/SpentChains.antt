@@ -94,7 +94,8 @@ module _ {M W L : Type 0} (memory_of : M → MemoryState) (tap_of : W → TapSta
 
     -- ---- and cycles behind them
     cycles_spent : (cost : ℕ) (t u : Timed) → t.clock + cost < 2 ^ 64
-        → Spends memory_of tap_of leaf_of levels_of cost t u → Spent config levels costs t → Spent config levels (costs + cost) u
+        → Spends memory_of tap_of leaf_of levels_of cost t u → Spent config levels costs t
+        → Spent config levels (costs + cost) u
     cycles_spent cost t u low more x = record {
       config_is = ap (λ (o : Oram L). o.port.clock.config) more.oram ∙ x.config_is;
       levels_are = ap levels_of more.same.leaves ∙ x.levels_are;

@@ -25,8 +25,8 @@ use Rattle.secure_machine.specs.Goes.{AsksMoves}
 use Rattle.secure_machine.specs.declared.report.Ending.TheVariants.{Device, TimeUp}
 use Rattle.secure_machine.specs.declared.report.Report.{Report}
 
--- A log's code is below the number of codes with so many digits as it has choices, and these are no more than the budget
--- of bits allows.
+-- A log's code is below the number of codes with so many digits as it has choices, and these are no more than the
+-- budget of bits allows.
 pub record IsInBudget (config : Config) (log : LogLists) : Type 0 where
   pub code : log_code (public_of config) log < count_of (public_of config) ^ length (indices_of log.events)
   pub few : count_of (public_of config) ^ length (indices_of log.events) ≤ 2 ^ config.leak

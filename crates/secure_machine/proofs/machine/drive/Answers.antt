@@ -153,8 +153,9 @@ returns-clause-spends g c ways sets core stands known =
     let halted = c.play-halted.result in
     let log = (g.W.Watch.state c.finish.new.lines.tap.now).log in
     let begun = clock_begins g.M.UntrustedMemory.state g.W.Watch.state g.L.LeafFn.levels config levels
-    c.new-lines.result c.args.oram.now c.args.bus.now.memory.now c.args.bus.now.tap.now c.new-lines.ensures.memory c.new-lines.ensures.tap
-    c.new-lines.ensures.oram c.new-lines.ensures.clock c.new-lines.ensures.fetches refl refl known in
+    c.new-lines.result c.args.oram.now c.args.bus.now.memory.now c.args.bus.now.tap.now c.new-lines.ensures.memory
+    c.new-lines.ensures.tap c.new-lines.ensures.oram c.new-lines.ensures.clock c.new-lines.ensures.fetches refl refl
+    known in
     let (lines, k, (more, whole), count, cause) = c.play-halted.ensures.spends config levels 0 ways sets core
     (subst (λ n. StandsAs n ways c.args.cache.now (over_image c.args.image.now sets)) (sym c.new-lines.ensures.count)
     stands) (omega (arith, c.new-lines.ensures.clock)) begun in

@@ -100,7 +100,8 @@ returns-in-Stops-clause-refines g c machine last memory lawful known =
     IfOk-weaker c.ending_of-in-Stops.result _ _ (λ (ending, end) named. elim known [
       | inl forged ↦ inl forged
       | inr runs ↦ inr (prefix_ends c.args.halted.instructions machine last memory c.in-Stops.stop ending named
-          (subst (λ (cause : Cause). CauseRuns c.args.halted.instructions machine memory cause last) c.in-Stops.is runs))
+          (subst (λ (cause : Cause). CauseRuns c.args.halted.instructions machine memory cause last)
+          c.in-Stops.is runs))
     ]) c.ending_of-in-Stops.ensures.named
 
 pub returns-in-Ok-clause-fetches : goal.returns-in-Ok-clause-fetches

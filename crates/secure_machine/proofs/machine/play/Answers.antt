@@ -201,8 +201,8 @@ returns-clause-refines g c memory lawful core known =
     let bytes = loaded c.args.image.now.bytes.items c.args.image.now.marked.items memory in
     elim (c.loop-before.invariant.refines memory lawful core known) [
       | inl forged ↦ inl forged
-      | inr (now, reaches, stands) ↦ inr (halts_run c.loop-before.before machine next next bytes now c.ended.result reaches
-          (subst (λ (h : Halted). HaltsFlat c.loop-before.before next now h next) (sym c.ended.ensures) (
+      | inr (now, reaches, stands) ↦ inr (halts_run c.loop-before.before machine next next bytes now c.ended.result
+          reaches (subst (λ (h : Halted). HaltsFlat c.loop-before.before next now h next) (sym c.ended.ensures) (
             let e : c.args.budget ≡ c.loop-before.before
                 = omega (arith, c.loop-before-test.false, c.loop-before.auto.before-end) in e,
             refl,
