@@ -1,5 +1,5 @@
--- Where no reply was altered no call of an encrypted memory is stopped by evidence; and none that is stopped drew a point
--- twice, or the log shows a forgery.
+-- Where no reply was altered no call of an encrypted memory is stopped by evidence; and none that is stopped drew a
+-- point twice, or the log shows a forgery.
 use Rattle.std.proofs.Common.{◌≡◌, ◌⊎◌, inl, inr, ℕ, [], ◌∷◌, Option, None, Some, Ok, Err, sym, ◌∙◌, subst}
 use Rattle.asc_base.specs.declared.stop.Evidence.{Evidence}
 use Rattle.asc_base.specs.declared.stop.Stop.{Stop}
@@ -68,8 +68,8 @@ module _ (keys : Keys) (lawful : AreKeys keys) (levels : ℕ) where
       → Forgery keys new.port.tap.log ⊎ DrawnOnce new.port.tap.log.events
   points_stop lines old new (Fetch asked line) stop x below (inl before) = inr (stays lines old new x before.1)
   points_stop lines old new (Fetch asked line) stop x below (inr stops) =
-      fetch_points keys lawful levels old.front x.ghost old.port asked line x.stands x.calm below new.port stop new.front
-      stops.1
+      fetch_points keys lawful levels old.front x.ghost old.port asked line x.stands x.calm below new.port stop
+      new.front stops.1
   points_stop lines old new (Store asked line value) stop x below (inl before) = inr (stays lines old new x before.1)
   points_stop lines old new (Store asked line value) stop x (below, whole) (inr stops) =
       store_points keys lawful levels old.front x.ghost old.port asked line value x.stands x.calm below whole new.port

@@ -163,8 +163,8 @@ module _ (keys : Keys) (lawful : AreKeys keys) (levels : ℕ) where
   close_stop : (line : Line) (s t : PortState) (stop : Stop)
       → Stops (PortStep keys.leaf_of levels) (close_plan keys line) s t stop tt → Once s → Once t
   close_stop line s t stop (inl one) once =
-      writes_once (keys_of s.tree keys.tags keys.leaf_of) s.tree.stash one.0.path.start one.0.path.leaf.0 stop s.tap.log t.tap.log (contents s) (contents t)
-      (one.0.breaks keys.tags) once
+      writes_once (keys_of s.tree keys.tags keys.leaf_of) s.tree.stash one.0.path.start one.0.path.leaf.0 stop
+      s.tap.log t.tap.log (contents s) (contents t) (one.0.breaks keys.tags) once
   close_stop line s t stop (inr (x, m, one, none)) once = absurd none
 
   -- the rest of a slot stops

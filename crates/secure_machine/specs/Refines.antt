@@ -1,5 +1,5 @@
--- What cache and lines with a clock stand for, unless the log shows a forgery; that stops by evidence come only after an
--- altered reply; and that no leaf is drawn twice for one point where a line was stopped.
+-- What cache and lines with a clock stand for, unless the log shows a forgery; that stops by evidence come only after
+-- an altered reply; and that no leaf is drawn twice for one point where a line was stopped.
 use Rattle.std.specs.Prelude.{◌≡◌, ◌⊎◌, ℕ, List, []}
 use Rattle.asc_base.specs.declared.block.Point.{Point}
 use Rattle.asc_base.specs.declared.stop.Evidence.{Evidence}
@@ -44,8 +44,8 @@ module _ {M W L : Type 0} (memory_of : M → MemoryState) (tap_of : W → TapSta
   abbrev pub DrewOnce : TimedLines M W L → Type 0
   DrewOnce s = IsForged s ⊎ DrawnOnce (timed_of memory_of tap_of s).oram.port.tap.log.events
 
-  -- A line was stopped: by evidence only where a reply was altered, and by then no leaf was drawn twice for one point, or
-  -- the log shows a forgery.
+  -- A line was stopped: by evidence only where a reply was altered, and by then no leaf was drawn twice for one point,
+  -- or the log shows a forgery.
   abbrev pub StopUnblamed : Stop → TimedLines M W L → Type 0
   StopUnblamed stop s = IsUnblamed stop (timed_of memory_of tap_of s).oram.port.tap.log × DrewOnce s
 

@@ -251,9 +251,10 @@ fn run_prepared<M: UntrustedMemory, W: Watch, L: LeafFn>(
 /// cycles after the time of the settings.
 ///
 /// Whatever the memory replies, the log tells how the run ended: it notes slots in order, the verdict on them is the
-/// ending, and the buckets are those that it says. For each point a leaf is drawn at most once, however the run ends, or
-/// the log shows a forgery. Where the bus was prepared and the memory tells its buckets afterwards, they are the mirror's.
-/// After a report as many buckets count as prepared as the shape has, and after want of memory so many, or none.
+/// ending, and the buckets are those that it says. For each point a leaf is drawn at most once, however the run ends,
+/// or the log shows a forgery. Where the bus was prepared and the memory tells its buckets afterwards, they are the
+/// mirror's. After a report as many buckets count as prepared as the shape has, and after want of memory so many, or
+/// none.
 pub fn run<M: UntrustedMemory, W: Watch, L: LeafFn>(
     alloc: Global,
     config: &Config,
