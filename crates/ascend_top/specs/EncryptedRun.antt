@@ -1,5 +1,5 @@
 -- What a run over encrypted memory leaves of the memory and the tap that it was lent.
-use Rattle.std.specs.Prelude.{◌≡◌, ◌<◌, ◌≤◌, ◌+◌, ◌^◌, ◌⊎◌, ℕ, List, [], IsSome, length}
+use Rattle.std.specs.Prelude.{◌≡◌, ◌<◌, ◌≤◌, ◌+◌, ◌^◌, ◌⊎◌, ℕ, List, [], None, IsSome, length}
 use Rattle.std.specs.List.{count_by}
 use Rattle.asc_base.specs.TreeShape.{olat_of}
 use Rattle.asc_base.specs.declared.settings.Config.{Config}
@@ -14,7 +14,7 @@ use Rattle.bus_watch.specs.Log.{TapState}
 use Rattle.elf_loader.specs.declared.image.Image.{Image}
 use Rattle.epoch_learner.specs.Stands.{KeepsPace}
 use Rattle.leaf_function.specs.Leaf.{leaf, leaf_key}
-use Rattle.log_replay.specs.Judged.{SaysMirror}
+use Rattle.log_replay.specs.Judged.{BreaksOffReading, SaysMirror, verdict_on}
 use Rattle.log_replay.specs.Order.{LogOrder}
 use Rattle.oram_contents.specs.Entries.{Keys}
 use Rattle.oram_contents.specs.Forgery.{Forgery}
@@ -24,7 +24,7 @@ use Rattle.play_run.specs.Shows.{IsPlayed}
 use Rattle.secure_machine.specs.Answered.{answered_lines}
 use Rattle.secure_machine.specs.Fed.{IsFed}
 use Rattle.secure_machine.specs.Finish.{IsRightEnding}
-use Rattle.secure_machine.specs.Judged.{ShowsEnding, log_end}
+use Rattle.secure_machine.specs.Judged.{SaysWanting, ShowsEnding, log_end}
 use Rattle.secure_machine.specs.Plays.{play_report, play_with}
 use Rattle.secure_machine.specs.LastMove.{EndsWithMove}
 use Rattle.secure_machine.specs.Run.{DrawsLeaves, IsFlatReport, IsInBudget, IsTiedButLast, IsTiedOr, IsUnprepared}
@@ -95,8 +95,9 @@ pub record IsRunOf (config : Config) (image : Image) (input key : List ℕ) (len
   pub contents : SaysMirror (keys_from config key) lent.tap'.log (log_end report.ending) lent.tap'.mirror
       ⊎ IsUnprepared report lent.tap lent.tap'
 
--- The same of a run that found no memory, in it or for the text of its trace: up to some time the log keeps the pace,
--- and it is on time up to the cycle after its last move.
+-- The same of a run that found no memory: up to some time the log keeps the pace, and it is on time up to the cycle
+-- after its last move. It notes slots in order; nothing is wrong in it, or its reading broke off; and where the bus was
+-- prepared the buckets are those that it says.
 pub record IsWantOf (config : Config) (image : Image) (input key : List ℕ) (lent : Lent) : Type 0 where
   pub end : ℕ
   pub pace : KeepsPace config end lent.tap'.log
@@ -108,3 +109,12 @@ pub record IsWantOf (config : Config) (image : Image) (input key : List ℕ) (le
   pub budget : IsInBudget config lent.tap'.log
   pub asked : lent.memory'.moved ≡ lent.memory.moved + length lent.tap'.log.moves
   pub unaltered : IsSome lent.memory.told → lent.tap'.log.altered ≡ []
+  pub order : LogOrder (keys_from config key) lent.tap'.log
+  pub verdict : (verdict_on (keys_from config key) config.stash lent.tap'.log ≡ None)
+      ⊎ BreaksOffReading (keys_from config key) config.stash lent.tap'.log
+  pub contents : SaysWanting (keys_from config key) lent.tap'.log lent.tap'.mirror ⊎ (lent.tap' ≡ lent.tap)
+
+-- A run wanted memory: it found none, or it was whole and there was none for the text of its trace.
+abbrev pub Wants : (config : Config) (image : Image) (input key : List ℕ) (lent : Lent) → Type 0
+Wants config image input key lent =
+    IsWantOf config image input key lent ⊎ ((report : Report) × IsRunOf config image input key lent report)
