@@ -13,21 +13,23 @@ use Rattle.asc_outside.specs.Rose.{Rose}
 use Rattle.bus_schedule.specs.Scheduled.{log_code}
 use Rattle.bus_schedule.specs.Shown.{indices_of}
 use Rattle.bus_schedule.specs.Timetable.{public_of}
+use Rattle.bus_watch.specs.Honest.{MayTellMirror}
 use Rattle.epoch_learner.specs.Stands.{KeepsPace}
 use Rattle.log_replay.specs.Judged.{BreaksOffReading, SaysMirror, verdict_on}
 use Rattle.log_replay.specs.Order.{LogOrder}
 use Rattle.oram_contents.specs.Forgery.{Forgery}
+use Rattle.oram_lines.specs.Standing.{DrawnOnce}
 use Rattle.rate_enforcer.specs.Counts.{is_answered, is_dummy, is_real}
 use Rattle.play_run.specs.Shows.{IsPlayed}
 use Rattle.secure_machine.specs.Answered.{answered_lines}
 use Rattle.secure_machine.specs.Fed.{IsFed}
-use Rattle.secure_machine.specs.Finish.{IsRightEnding}
+use Rattle.secure_machine.specs.Finish.{IsRightEnding, IsTimeUp}
 use Rattle.secure_machine.specs.Judged.{SaysWanting, ShowsEnding, log_end}
 use Rattle.secure_machine.specs.LastMove.{EndsWithMove}
 use Rattle.secure_machine.specs.Plays.{play_report, play_with}
 use Rattle.secure_machine.specs.Run.{DrawsLeaves, IsFlatReport, IsInBudget, IsTiedButLast, IsTiedOr, IsUnprepared}
 use Rattle.secure_machine.specs.Spent.{IsSpentOn}
-use Rattle.secure_machine.specs.declared.report.Ending.TheVariants.{Device, Integrity}
+use Rattle.secure_machine.specs.declared.report.Ending.TheVariants.{Device, Integrity, TimeUp}
 use Rattle.secure_machine.specs.declared.report.Report.{Report as RunReport}
 use Rattle.elf_loader.specs.Elf.{entry_of}
 use Rattle.elf_loader.specs.Layout.{image_bytes, first_break}
@@ -165,6 +167,7 @@ module _ (config : Config) (image : Image) (input key : List ℕ) (lent : Lent) 
     (asked : lent.memory'.moved ≡ lent.memory.moved + length lent.tap'.log.moves)
     (unaltered : IsSome lent.memory.told → lent.tap'.log.altered ≡ []) (leaves : DrawsLeaves config lent.tap'.log)
     (order : LogOrder (keys_from config key) lent.tap'.log)
+    (points : Forgery (keys_from config key) lent.tap'.log ⊎ DrawnOnce lent.tap'.log.events)
   where
     pub ran_of : {E : Type 0} (result : Result RunReport E) → IfOk result (λ r. KeepsPace config r.last lent.tap'.log)
         → IfOk result (λ r. r.last < config.time + olat_of config.shape.levels)
@@ -188,11 +191,14 @@ module _ (config : Config) (image : Image) (input key : List ℕ) (lent : Lent) 
         → IfOk result (λ r. ShowsEnding (keys_from config key) config.stash r.ending lent.tap'.log)
         → IfOk result (λ r. SaysMirror (keys_from config key) lent.tap'.log (log_end r.ending) lent.tap'.mirror
         ⊎ IsUnprepared r lent.tap lent.tap')
+        → IfOk result (λ r. MayTellMirror lent.memory' lent.tap' ⊎ IsUnprepared r lent.tap lent.tap')
+        → IfOk result (λ _. lent.memory'.count ≡ config.shape.buckets)
+        → IfOk result (λ r. (at : ℕ) → r.ending ≡ TimeUp at → IsTimeUp config r.cycles lent.tap'.log at)
         → IfOk result (IsRunOf config image input key lent)
     ran_of (Err none) pace in_time real dummies tied device right choices code fetches spent flat honest refines plays
-        played fed verdict contents = tt
+        played fed verdict contents told count time_up = tt
     ran_of (Ok report) pace in_time real dummies tied device right choices code fetches spent flat honest refines plays
-        played fed verdict contents = record {
+        played fed verdict contents told count time_up = record {
           pace = pace;
           in_time = in_time;
           leaves = leaves;
@@ -203,6 +209,7 @@ module _ (config : Config) (image : Image) (input key : List ℕ) (lent : Lent) 
           faults = faults;
           device = device;
           right = right;
+          time_up = time_up;
           choices = choices;
           code = code;
           fetches = fetches;
@@ -215,10 +222,13 @@ module _ (config : Config) (image : Image) (input key : List ℕ) (lent : Lent) 
           refines = refines;
           plays = plays;
           played = played;
+          points = points;
           fed = fed;
           order = order;
           verdict = verdict;
           contents = contents;
+          told = told;
+          count = count;
         }
 
     -- the same of one that found no memory
@@ -229,9 +239,10 @@ module _ (config : Config) (image : Image) (input key : List ℕ) (lent : Lent) 
         → OnErr result ((verdict_on (keys_from config key) config.stash lent.tap'.log ≡ None)
         ⊎ BreaksOffReading (keys_from config key) config.stash lent.tap'.log)
         → OnErr result (SaysWanting (keys_from config key) lent.tap'.log lent.tap'.mirror ⊎ (lent.tap' ≡ lent.tap))
+        → OnErr result ((lent.memory'.count ≡ 0) ⊎ (lent.memory'.count ≡ config.shape.buckets))
         → OnErr result (IsWantOf config image input key lent)
-    wants_of (Ok report) pace last_move tied verdict contents = tt
-    wants_of (Err none) (end, pace) last_move tied verdict contents = record {
+    wants_of (Ok report) pace last_move tied verdict contents count = tt
+    wants_of (Err none) (end, pace) last_move tied verdict contents count = record {
       end = end;
       pace = pace;
       leaves = leaves;
@@ -245,6 +256,8 @@ module _ (config : Config) (image : Image) (input key : List ℕ) (lent : Lent) 
       order = order;
       verdict = verdict;
       contents = contents;
+      points = points;
+      count = count;
     }
 
 -- Where the steps of `run` or `gen` before its run were done, and it began so, its run and the steps after it end its

@@ -5,6 +5,7 @@ use Rattle.std.proofs.lemmas.Result.{IfOk-weaker}
 use Rattle.leaf_function.specs.Leaf.{Keyed, leaf, leaf_key}
 use Rattle.oram_contents.specs.Entries.{Keys}
 use Rattle.oram_contents.specs.Forgery.{Forgery}
+use Rattle.oram_lines.specs.Standing.{DrawnOnce}
 use Rattle.pmmac_tags.specs.Tag.{tag_key}
 use Rattle.log_replay.specs.Judged.{BreaksOffReading, SaysMirror, verdict_on}
 use Rattle.log_replay.specs.Order.{LogOrder}
@@ -46,7 +47,9 @@ returns-clause-ran g c =
     c.as_slice.ensures.value
     (ran_of program.config program.image c.as_slice.result.now key lent c.run.ensures.bits c.run.ensures.faults
     c.run.ensures.budget c.run.ensures.asked c.run.ensures.unaltered c.run.ensures.leaves
-    (subst (λ (z : Keys). LogOrder z lent.tap'.log) same c.run.ensures.order) c.run.result c.run.ensures.pace
+    (subst (λ (z : Keys). LogOrder z lent.tap'.log) same c.run.ensures.order)
+    (subst (λ (z : Keys). Forgery z lent.tap'.log ⊎ DrawnOnce lent.tap'.log.events) same c.run.ensures.points)
+    c.run.result c.run.ensures.pace
     c.run.ensures.last c.run.ensures.real c.run.ensures.dummies c.run.ensures.tied c.run.ensures.device
     c.run.ensures.right c.run.ensures.choices c.run.ensures.code c.run.ensures.fetches c.run.ensures.spent
     c.run.ensures.flat_unaltered c.run.ensures.honest
@@ -62,7 +65,8 @@ returns-clause-ran g c =
     (IfOk-weaker c.run.result _ _ (λ report. subst (λ (z : Keys). ShowsEnding z program.config.stash report.ending
     lent.tap'.log) same) c.run.ensures.verdict)
     (IfOk-weaker c.run.result _ _ (λ report. subst (λ (z : Keys). SaysMirror z lent.tap'.log (log_end report.ending)
-    lent.tap'.mirror ⊎ IsUnprepared report lent.tap lent.tap') same) c.run.ensures.contents))
+    lent.tap'.mirror ⊎ IsUnprepared report lent.tap lent.tap') same) c.run.ensures.contents)
+    c.run.ensures.told c.run.ensures.count c.run.ensures.time_up)
 
 pub returns-clause-wanting : goal.returns-clause-wanting
 returns-clause-wanting g c =
@@ -74,9 +78,11 @@ returns-clause-wanting g c =
     c.new-codec.ensures c.new-tagger.ensures c.new-leaf.ensures in
     wants_of program.config program.image program.input.items key lent c.run.ensures.bits c.run.ensures.faults
     c.run.ensures.budget c.run.ensures.asked c.run.ensures.unaltered c.run.ensures.leaves
-    (subst (λ (z : Keys). LogOrder z lent.tap'.log) same c.run.ensures.order) c.run.result c.run.ensures.pace_err
+    (subst (λ (z : Keys). LogOrder z lent.tap'.log) same c.run.ensures.order)
+    (subst (λ (z : Keys). Forgery z lent.tap'.log ⊎ DrawnOnce lent.tap'.log.events) same c.run.ensures.points)
+    c.run.result c.run.ensures.pace_err
     c.run.ensures.end_err c.run.ensures.tied_err
     (subst (λ (z : Keys). OnErr c.run.result ((verdict_on z program.config.stash lent.tap'.log ≡ None)
     ⊎ BreaksOffReading z program.config.stash lent.tap'.log)) same c.run.ensures.verdict_err)
     (subst (λ (z : Keys). OnErr c.run.result (SaysWanting z lent.tap'.log lent.tap'.mirror ⊎ (lent.tap' ≡ lent.tap)))
-    same c.run.ensures.contents_err)
+    same c.run.ensures.contents_err) c.run.ensures.count_err
