@@ -41,7 +41,7 @@ use Rattle.ascend_top.specs.declared.refusal.Refusal.{Refusal}
 use Rattle.ascend_top.specs.declared.refusal.Refusal.TheVariants.{Usage, OutOfRange, Elf, KeyLength, TooLong, Host}
 use Rattle.ascend_top.specs.declared.refusal.Refusal.TheVariants.{NoMemory, NumberOutOfRange, Assembler, Trace, Fails}
 use Rattle.ascend_top.specs.declared.refusal.Source.{Source}
-use Rattle.ascend_top.proofs.StepLaws.{asks_none}
+use Rattle.ascend_top.proofs.StepLaws.{asks_none, shown}
 
 -- a text that is there
 pub some_text : (o : Option (List ℕ)) (x : List ℕ) → Some x ≡ o → IsSome o
@@ -318,7 +318,7 @@ step_free : (files : Files) (step : Step) (refusal : Refusal) (old new : HostSta
     → old.files ≡ Some files → Refuses step refusal old new
     → IsFree refusal old.faults new.faults
 step_free files step refusal old new done told refuses = go (cause_free files step refusal done
-    (refuses.cause files told))
+    (shown old.files (λ f. IsCause f step refusal) refuses.cause files told))
   where
     go : HasNone refusal → IsFree refusal old.faults new.faults
     go (inl e) = inl e
@@ -694,7 +694,7 @@ module _ (files : Files) (refusal : Refusal) (of : IsOfFiles refusal) where
       → old.files ≡ Some now → AllDone steps old at → IsFirstRefusal files steps refusal → ⊥
   never_done now [] old at over told done first = first
   never_done now (step ∷ steps) old at over told (mid, does, rest) (inl cause) =
-      of_files_not_free refusal of (cause_free now step refusal (does.done now told)
+      of_files_not_free refusal of (cause_free now step refusal (shown old.files (λ f. IsDone f step) does.done now told)
       (over_cause files now step steps refusal over cause))
   never_done now (step ∷ steps) old at over told (mid, does, rest) (inr (right, first)) =
       let still = still_over files now step steps old mid over told does in
@@ -706,7 +706,7 @@ module _ (files : Files) (refusal : Refusal) (of : IsOfFiles refusal) where
       ⊎ (status_of_refusal other ≡ status_of_refusal refusal)
   refused_first now [] other old new over told refused first = absurd first
   refused_first now (step ∷ steps) other old new over told (inl refuses) (inl cause) =
-      go (cause_agrees now step other refusal (refuses.cause now told)
+      go (cause_agrees now step other refusal (shown old.files (λ f. IsCause f step other) refuses.cause now told)
       (over_cause files now step steps refusal over cause) of)
     where
       go : Agrees other refusal → IsFree other old.faults new.faults
@@ -717,7 +717,7 @@ module _ (files : Files) (refusal : Refusal) (of : IsOfFiles refusal) where
   refused_first now (step ∷ steps) other old new over told (inl refuses) (inr (right, first)) = inl
       (step_free now step other old new (over_done files now step steps over right) told refuses)
   refused_first now (step ∷ steps) other old new over told (inr (mid, does, rest)) (inl cause) =
-      of_files_not_free refusal of (cause_free now step refusal (does.done now told)
+      of_files_not_free refusal of (cause_free now step refusal (shown old.files (λ f. IsDone f step) does.done now told)
       (over_cause files now step steps refusal over cause))
   refused_first now (step ∷ steps) other old new over told (inr (mid, does, rest)) (inr (right, first)) =
       let still = still_over files now step steps old mid over told does in
@@ -757,17 +757,16 @@ refuses_first read lent files refusal status (Err end) old new is (other, mid, s
     go (inl same) (inr e) = inr (is ∙ ap status_of_refusal same ∙ e)
 
 -- the end of one command's work, which leaves memory and tap, is a command's
-module _ {A : Type 0} (make : A → Made) (after : A → List Step) (Meant : Files → A → Type 0) (command : Command)
+module _ {A : Type 0} (make : A → Made) (after : A → List Step) (Meant : Option Files → A → Type 0) (command : Command)
     (given : List Pair) (lent : Lent) (idle : IsIdle lent) (not_gen : command ≡ Gen → ⊥)
     (same : (made : A) → after made ≡ last_steps given (make made))
-    (are : (told : Option Files) (made : A) → ((files : Files) → told ≡ Some files → Meant files made)
-    → IsMade command given lent told (make made)) (lost : (told : Option Files) → IsLost command given lent told)
+    (are : (told : Option Files) (made : A) → Meant told made → IsMade command given lent told (make made)) (lost : (told : Option Files) → IsLost command given lent told)
   where
     meant : (old at : HostState) (made : A) → AllDone (steps_of command given) old at
-        → ((files : Files) → at.files ≡ Some files → Meant files made)
-        → (files : Files) → old.files ≡ Some files → Meant files made
-    meant old at made done told files e =
-        told files (all_files (steps_of command given) old at (steps_reading command given not_gen) done ∙ e)
+        → Meant at.files made → Meant old.files made
+    meant old at made done =
+        subst (λ told. Meant told made)
+        (all_files (steps_of command given) old at (steps_reading command given not_gen) done)
 
     pub lift_ends : (end : Result A Refusal) (old new : HostState)
         → StepsEnd (steps_of command given) after Meant end old new

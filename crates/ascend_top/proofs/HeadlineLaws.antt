@@ -10,7 +10,7 @@ use Rattle.ascend_top.specs.EncryptedRun.{IsRunOf, IsWantOf, Lent}
 use Rattle.ascend_top.specs.Headline.{CarriesHeadline, Headline, IsCutShort, IsForged, MadeByHeadline}
 use Rattle.ascend_top.specs.Headline.{RunsEncrypted}
 use Rattle.ascend_top.specs.Made.{Made, Encrypted, Ran, Assembled, Listed, Held}
-use Rattle.ascend_top.specs.Run.{IsRun}
+use Rattle.ascend_top.specs.Run.{IsRun, RunWants}
 use Rattle.ascend_top.specs.declared.commands.run.Encrypted.{Encrypted as EncryptedRun}
 use Rattle.ascend_top.specs.declared.commands.flat.Program.{Program}
 use Rattle.ascend_top.specs.declared.refusal.Refusal.{Refusal}
@@ -87,12 +87,19 @@ refused_carries command given lent told (Assembled file) refusal carried = absur
 refused_carries command given lent told (Listed text) refusal carried = absurd carried
 refused_carries command given lent told (Held code bits) refusal carried = absurd carried
 
+-- so where a run wanted memory
+want_carries : (command : Command) (given : List Pair) (lent : Lent) (told : Option Files) (refusal : Refusal)
+    → RunWants command given told lent → CarriesHeadline command given told lent (Err refusal)
+want_carries command given lent told refusal is = elim is.wants [
+  | inl wants ↦ inr (is.begin, is.begins, inr (cut_short is.begin.program is.begin.key lent wants))
+  | inr (report, ran) ↦
+    inr (is.begin, is.begins, inl (report, headline_of is.begin.program is.begin.key lent report ran))
+]
+
 lost_carries : (command : Command) (given : List Pair) (lent : Lent) (told : Option Files) (refusal : Refusal)
     → RunsEncrypted command → IsLost command given lent told → CarriesHeadline command given told lent (Err refusal)
-lost_carries Run given lent told refusal may is =
-    inr (is.begin, is.begins, inr (cut_short is.begin.program is.begin.key lent is.wants))
-lost_carries Gen given lent told refusal may is =
-    inr (is.begin, is.begins, inr (cut_short is.begin.program is.begin.key lent is.wants))
+lost_carries Run given lent told refusal may is = want_carries Run given lent told refusal is
+lost_carries Gen given lent told refusal may is = want_carries Gen given lent told refusal is
 lost_carries Flat given lent told refusal may is = absurd may
 lost_carries Asm given lent told refusal may is = absurd may
 lost_carries Disasm given lent told refusal may is = absurd may

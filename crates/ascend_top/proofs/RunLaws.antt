@@ -1,7 +1,7 @@
 -- What is reported of a program's run is the flat run of its files.
 use Rattle.std.proofs.Common.{◌≡◌, ℕ, List, [], ◌∷◌, Option, Some, None, Result, Ok, Err, length, ap, subst, ◌∙◌}
 use Rattle.std.proofs.Common.{◌<◌, ◌≤◌, ◌+◌, ◌^◌, ◌⊎◌, IsSome, inl, inr, sym}
-use Rattle.std.specs.Prelude.{IfOk}
+use Rattle.std.specs.Prelude.{IfOk, OnErr}
 use Rattle.std.specs.List.{count_by}
 use Rattle.asc_base.specs.Settings.{IsConfig}
 use Rattle.asc_base.specs.TreeShape.{olat_of}
@@ -13,20 +13,23 @@ use Rattle.asc_outside.specs.Rose.{Rose}
 use Rattle.bus_schedule.specs.Scheduled.{log_code}
 use Rattle.bus_schedule.specs.Shown.{indices_of}
 use Rattle.bus_schedule.specs.Timetable.{public_of}
+use Rattle.bus_watch.specs.Honest.{MayTellMirror}
 use Rattle.epoch_learner.specs.Stands.{KeepsPace}
-use Rattle.log_replay.specs.Judged.{SaysMirror}
+use Rattle.log_replay.specs.Judged.{BreaksOffReading, SaysMirror, verdict_on}
 use Rattle.log_replay.specs.Order.{LogOrder}
 use Rattle.oram_contents.specs.Forgery.{Forgery}
+use Rattle.oram_lines.specs.Standing.{DrawnOnce}
 use Rattle.rate_enforcer.specs.Counts.{is_answered, is_dummy, is_real}
 use Rattle.play_run.specs.Shows.{IsPlayed}
 use Rattle.secure_machine.specs.Answered.{answered_lines}
 use Rattle.secure_machine.specs.Fed.{IsFed}
-use Rattle.secure_machine.specs.Finish.{IsRightEnding}
-use Rattle.secure_machine.specs.Judged.{ShowsEnding, log_end}
+use Rattle.secure_machine.specs.Finish.{IsRightEnding, IsTimeUp}
+use Rattle.secure_machine.specs.Judged.{SaysWanting, ShowsEnding, log_end}
+use Rattle.secure_machine.specs.LastMove.{EndsWithMove}
 use Rattle.secure_machine.specs.Plays.{play_report, play_with}
 use Rattle.secure_machine.specs.Run.{DrawsLeaves, IsFlatReport, IsInBudget, IsTiedButLast, IsTiedOr, IsUnprepared}
 use Rattle.secure_machine.specs.Spent.{IsSpentOn}
-use Rattle.secure_machine.specs.declared.report.Ending.TheVariants.{Device, Integrity}
+use Rattle.secure_machine.specs.declared.report.Ending.TheVariants.{Device, Integrity, TimeUp}
 use Rattle.secure_machine.specs.declared.report.Report.{Report as RunReport}
 use Rattle.elf_loader.specs.Elf.{entry_of}
 use Rattle.elf_loader.specs.Layout.{image_bytes, first_break}
@@ -39,12 +42,13 @@ use Rattle.ascend_words.specs.declared.table.Name.TheVariants.{Elf, Key, Output,
 use Rattle.ascend_top.specs.Command.{IsLost, IsMade, WorkEnds, lifted, steps_of}
 use Rattle.ascend_top.specs.FlatRun.{Report, bytes_in, ending_of, file_in, flat_of, flat_report, input_in}
 use Rattle.ascend_top.specs.FlatRun.{outcome_report, report_of, run_over}
-use Rattle.secure_machine.proofs.LastMoves.{ends_with_move}
 use Rattle.ascend_top.specs.EncryptedRun.{IsRunOf, IsWantOf, Lent, keys_from}
 use Rattle.ascend_top.specs.Made.{Encrypted as MadeEncrypted}
 use Rattle.ascend_top.specs.Parts.{CanRun, EndsAs, IsConfigOf, IsImageOf, IsProgramOf, program_report}
 use Rattle.ascend_top.specs.Run.{BegunEnds, IsBegin, IsOutcome, IsProgramBy, IsRun, RunWants, run_report_steps}
-use Rattle.ascend_top.specs.Steps.{AllDone, Does, IsRefused, Prints, Refuses, Step, Writes, key_length, where_named}
+use Rattle.ascend_top.specs.Steps.{AllDone, Does, IsRefused, Prints, Refuses, Shows, Step, Writes, key_length}
+use Rattle.ascend_top.specs.Steps.{where_named}
+use Rattle.ascend_top.proofs.StepLaws.{shows_more}
 use Rattle.ascend_top.specs.Texts.{run_text}
 use Rattle.ascend_top.specs.declared.commands.run.Begin.{Begin}
 use Rattle.ascend_top.specs.declared.commands.run.Encrypted.{Encrypted}
@@ -66,15 +70,15 @@ reported run outcome is =
 abbrev report_over : (budget entry base size heap : ℕ) → (bytes input : List ℕ) → Report
 report_over budget entry base size heap bytes input = report_of (run_over budget entry base size heap bytes input)
 
-module _ (given : List Pair) (files : Files) (base size budget : ℕ) (image : Image) (input : List ℕ) where
+module _ (given : List Pair) (files later : Files) (base size budget : ℕ) (image : Image) (input : List ℕ) where
   pub report_is : base ≡ (settings_of given).base → size ≡ (settings_of given).size
       → budget ≡ (settings_of given).budget
-      → IsImageOf base size (bytes_in files (file_in given Elf)) image → input ≡ input_in files given
-      → report_over budget image.entry base size image.heap image.bytes.items input ≡ flat_report given files
+      → IsImageOf base size (bytes_in files (file_in given Elf)) image → input ≡ input_in later given
+      → report_over budget image.entry base size image.heap image.bytes.items input ≡ flat_report given files later
   unfolding flat_report flat_of
   report_is base_is size_is budget_is is input_is =
       let elf = bytes_in files (file_in given Elf) in
-      let in_full = input_in files given in
+      let in_full = input_in later given in
       ap (λ e. report_over budget e base size image.heap image.bytes.items input) is.entry
       ∙ ap (λ h. report_over budget (entry_of elf) base size h image.bytes.items input) is.heap
       ∙ ap (λ b. report_over budget (entry_of elf) base size (first_break base size elf) b input) is.bytes
@@ -91,12 +95,18 @@ module _ (given : List Pair) (files : Files) (base size budget : ℕ) (image : I
 -- the program that was read is reported as its files are
 pub program_reports : (given : List Pair) (told : Option Files) (config : Config) (answer : Result Program Refusal)
     → IsConfigOf (settings_of given) config → IfOk answer (λ program. program.config ≡ config)
-    → IfOk answer (λ program. (files : Files) → told ≡ Some files → IsProgramOf given files program)
-    → IfOk answer (λ program. (files : Files) → told ≡ Some files → program_report program ≡ flat_report given files)
-program_reports given told config (Ok program) is same of = λ files e.
-    report_is given files program.config.base program.config.size program.config.budget program.image
-    program.input.items (ap (λ (c : Config). c.base) same ∙ is.base) (ap (λ (c : Config). c.size) same ∙ is.size)
-    (ap (λ (c : Config). c.budget) same ∙ is.budget) (of files e).image (of files e).input
+    → IfOk answer (λ program. Shows told (λ files. Shows told (λ later. IsProgramOf given files later program)))
+    → IfOk answer (λ program. Shows told (λ files. Shows told (λ later.
+    program_report program ≡ flat_report given files later)))
+program_reports given told config (Ok program) is same of =
+    shows_more told (λ files. Shows told (λ later. IsProgramOf given files later program))
+    (λ files. Shows told (λ later. program_report program ≡ flat_report given files later))
+    (λ files. shows_more told (λ later. IsProgramOf given files later program)
+    (λ later. program_report program ≡ flat_report given files later)
+    (λ later now. report_is given files later program.config.base program.config.size program.config.budget
+    program.image program.input.items (ap (λ (c : Config). c.base) same ∙ is.base)
+    (ap (λ (c : Config). c.size) same ∙ is.size) (ap (λ (c : Config). c.budget) same ∙ is.budget) now.image now.input))
+    of
 program_reports given told config (Err refusal) is same of = tt
 
 -- a run begins so
@@ -117,27 +127,6 @@ begins command given told settings config key program e is same can long key_is 
       key = key_is;
       program = of;
     }
-
--- a run that was reported leaves what one leaves that found no memory
-pub wanting : (config : Config) (image : Image) (input key : List ℕ) (lent : Lent) (report : RunReport)
-    → IsRunOf config image input key lent report → IsWantOf config image input key lent
-wanting config image input key lent report is = record {
-  end = report.last;
-  pace = is.pace;
-  leaves = is.leaves;
-  bits = is.bits;
-  tied = tied is.tied;
-  faults = is.faults;
-  last_move = ends_with_move config report.last lent.tap'.log is.pace.scheduled;
-  budget = is.budget;
-  asked = is.asked;
-  unaltered = is.unaltered;
-}
-  where
-    tied : IsTiedOr config (IsUnprepared report lent.tap lent.tap') lent.memory lent.memory' lent.tap'
-        → IsTiedButLast config lent.memory lent.memory' lent.tap lent.tap'
-    tied (inl whole) = inl (inl whole)
-    tied (inr none) = inr none.tap_is
 
 -- the write of a file, where one is named, and then the steps after it
 pub named_done : (o : Option (List ℕ)) (text : List ℕ) (steps : List Step) (old mid new : HostState)
@@ -178,6 +167,7 @@ module _ (config : Config) (image : Image) (input key : List ℕ) (lent : Lent) 
     (asked : lent.memory'.moved ≡ lent.memory.moved + length lent.tap'.log.moves)
     (unaltered : IsSome lent.memory.told → lent.tap'.log.altered ≡ []) (leaves : DrawsLeaves config lent.tap'.log)
     (order : LogOrder (keys_from config key) lent.tap'.log)
+    (points : Forgery (keys_from config key) lent.tap'.log ⊎ DrawnOnce lent.tap'.log.events)
   where
     pub ran_of : {E : Type 0} (result : Result RunReport E) → IfOk result (λ r. KeepsPace config r.last lent.tap'.log)
         → IfOk result (λ r. r.last < config.time + olat_of config.shape.levels)
@@ -201,11 +191,14 @@ module _ (config : Config) (image : Image) (input key : List ℕ) (lent : Lent) 
         → IfOk result (λ r. ShowsEnding (keys_from config key) config.stash r.ending lent.tap'.log)
         → IfOk result (λ r. SaysMirror (keys_from config key) lent.tap'.log (log_end r.ending) lent.tap'.mirror
         ⊎ IsUnprepared r lent.tap lent.tap')
+        → IfOk result (λ r. MayTellMirror lent.memory' lent.tap' ⊎ IsUnprepared r lent.tap lent.tap')
+        → IfOk result (λ _. lent.memory'.count ≡ config.shape.buckets)
+        → IfOk result (λ r. (at : ℕ) → r.ending ≡ TimeUp at → IsTimeUp config r.cycles lent.tap'.log at)
         → IfOk result (IsRunOf config image input key lent)
     ran_of (Err none) pace in_time real dummies tied device right choices code fetches spent flat honest refines plays
-        played fed verdict contents = tt
+        played fed verdict contents told count time_up = tt
     ran_of (Ok report) pace in_time real dummies tied device right choices code fetches spent flat honest refines plays
-        played fed verdict contents = record {
+        played fed verdict contents told count time_up = record {
           pace = pace;
           in_time = in_time;
           leaves = leaves;
@@ -216,6 +209,7 @@ module _ (config : Config) (image : Image) (input key : List ℕ) (lent : Lent) 
           faults = faults;
           device = device;
           right = right;
+          time_up = time_up;
           choices = choices;
           code = code;
           fetches = fetches;
@@ -228,11 +222,43 @@ module _ (config : Config) (image : Image) (input key : List ℕ) (lent : Lent) 
           refines = refines;
           plays = plays;
           played = played;
+          points = points;
           fed = fed;
           order = order;
           verdict = verdict;
           contents = contents;
+          told = told;
+          count = count;
         }
+
+    -- the same of one that found no memory
+    pub wants_of : {A E : Type 0} (result : Result A E)
+        → OnErr result ((end : ℕ) × KeepsPace config end lent.tap'.log)
+        → OnErr result (EndsWithMove config lent.tap'.log)
+        → OnErr result (IsTiedButLast config lent.memory lent.memory' lent.tap lent.tap')
+        → OnErr result ((verdict_on (keys_from config key) config.stash lent.tap'.log ≡ None)
+        ⊎ BreaksOffReading (keys_from config key) config.stash lent.tap'.log)
+        → OnErr result (SaysWanting (keys_from config key) lent.tap'.log lent.tap'.mirror ⊎ (lent.tap' ≡ lent.tap))
+        → OnErr result ((lent.memory'.count ≡ 0) ⊎ (lent.memory'.count ≡ config.shape.buckets))
+        → OnErr result (IsWantOf config image input key lent)
+    wants_of (Ok report) pace last_move tied verdict contents count = tt
+    wants_of (Err none) (end, pace) last_move tied verdict contents count = record {
+      end = end;
+      pace = pace;
+      leaves = leaves;
+      bits = bits;
+      tied = tied;
+      faults = faults;
+      last_move = last_move;
+      budget = budget;
+      asked = asked;
+      unaltered = unaltered;
+      order = order;
+      verdict = verdict;
+      contents = contents;
+      points = points;
+      count = count;
+    }
 
 -- Where the steps of `run` or `gen` before its run were done, and it began so, its run and the steps after it end its
 -- work.

@@ -1,7 +1,8 @@
 -- Laws of steps: what a host's answers make of each.
 use Rattle.std.proofs.Common.{◌≡◌, ℕ, ◌≤◌, List, [], ◌∷◌, Option, Some, None, Err, IfSome, refl, sym, ap, subst}
 use Rattle.std.proofs.Common.{◌∙◌, inl, inr, arith, append-nil}
-use Rattle.std.specs.Prelude.{unwrap_or}
+use Rattle.std.specs.Prelude.{◌<◌, ◌+◌, replicate, unwrap_or}
+use Rattle.std.proofs.lemmas.List.{length-replicate}
 use Rattle.asc_base.specs.Settings.{AreAllowed, IsFirstFault as IsFirstSetting, config_of}
 use Rattle.asc_base.specs.declared.settings.Setting.{Setting}
 use Rattle.asc_base.specs.declared.settings.Settings.{Settings}
@@ -17,7 +18,8 @@ use Rattle.elf_loader.specs.declared.fault.ElfFault.{ElfFault}
 use Rattle.ascend_top.specs.FlatRun.{bytes_in}
 use Rattle.ascend_top.specs.Parts.{WasRead, unread, unwritten}
 use Rattle.ascend_top.specs.Steps.{AsksMore, PrintsMore, Breaks, Keeps, Does, Refuses, Rule, Judges, JudgesNumber}
-use Rattle.ascend_top.specs.Steps.{IsInRange, IsRefused, IsWrong, Loads, Reads, Writes, Prints, limit_of, where_named}
+use Rattle.ascend_top.specs.Steps.{IsInRange, IsRefused, IsRight, IsWrong, Loads, Reads, Shows, Writes, Prints, limit_of}
+use Rattle.ascend_top.specs.Steps.{where_named}
 use Rattle.ascend_words.specs.declared.table.Name.{Name}
 use Rattle.rv32_asm.specs.declared.fault.AsmKind.{AsmKind}
 use Rattle.ascend_top.specs.declared.refusal.Refusal.{Refusal}
@@ -39,10 +41,44 @@ pub prints_none : (old new : Option (List ℕ)) → new ≡ old → PrintsMore o
 prints_none None new e = e
 prints_none (Some all) new e = e ∙ ap Some (sym (append-nil all))
 
+-- what is shown of told files, and what of any
+pub shown : (told : Option Files) (Says : Files → Type 0) → Shows told Says → (files : Files) → told ≡ Some files
+    → Says files
+shown (Some known) Says says files e = let same : known ≡ files = cc in subst Says same says
+shown None Says says files e = absurd (let no : ⊥ = cc in no)
+
+pub shows_any : (told : Option Files) (Says : Files → Type 0) → ((files : Files) → Says files) → Shows told Says
+shows_any (Some files) Says says = says files
+shows_any None Says says = (λ name. None, says (λ name. None))
+
+pub shows_more : (told : Option Files) (Says More : Files → Type 0) → ((files : Files) → Says files → More files)
+    → Shows told Says → Shows told More
+shows_more (Some files) Says More more says = more files says
+shows_more None Says More more (files, says) = (files, more files says)
+
+-- the bytes of a file that was read are shown
+pub shows_file : (told : Option Files) (name bytes : List ℕ) (Says : Files → Type 0)
+    → IfSome told (λ files. files name ≡ Some bytes) → ((files : Files) → files name ≡ Some bytes → Says files)
+    → Shows told Says
+shows_file (Some files) name bytes Says is says = says files is
+shows_file None name bytes Says is says = (λ other. Some bytes, says (λ other. Some bytes) refl)
+
+-- so is one that is longer than a limit
+shows_longer : (told : Option Files) (name : List ℕ) (limit : ℕ) (Says : Files → Type 0)
+    → IfSome told (λ files. IsLonger files name limit) → ((files : Files) → IsLonger files name limit → Says files)
+    → Shows told Says
+shows_longer (Some files) name limit Says is says = says files is
+shows_longer None name limit Says is says =
+    let long : List ℕ = replicate (limit + 1) 0 in
+    (
+      λ other. Some long,
+      says (λ other. Some long) (long, refl, omega (arith, length-replicate (limit + 1) 0)),
+    )
+
 -- the settings were judged
 pub judged : (settings : Settings) (state : HostState) → AreAllowed settings → Does (Judges settings) state state
 judged settings state allowed = record {
-  done = λ files told. allowed;
+  done = shows_any state.files _ (λ files. allowed);
   files = refl;
   printed = prints_none state.printed state.printed refl;
   later = omega arith;
@@ -52,7 +88,7 @@ judged settings state allowed = record {
 pub misjudged : (settings : Settings) (setting : Setting) (state : HostState) → IsFirstSetting settings setting
     → Refuses (Judges settings) (OutOfRange setting) state state
 misjudged settings setting state first = record {
-  cause = λ files told. first;
+  cause = shows_any state.files _ (λ files. first);
   fault = λ e. absurd (let no : ⊥ = cc in no);
   files = refl;
   printed = refl;
@@ -64,7 +100,7 @@ misjudged settings setting state first = record {
 pub number_judged : (name : Name) (number : ℕ) (state : HostState) → IsInRange name number
     → Does (JudgesNumber name number) state state
 number_judged name number state within = record {
-  done = λ files told. within;
+  done = shows_any state.files _ (λ files. within);
   files = refl;
   printed = prints_none state.printed state.printed refl;
   later = omega arith;
@@ -74,7 +110,7 @@ number_judged name number state within = record {
 pub number_misjudged : (name : Name) (number : ℕ) (state : HostState) → ¬ IsInRange name number
     → Refuses (JudgesNumber name number) (NumberOutOfRange name) state state
 number_misjudged name number state beyond = record {
-  cause = λ files told. (refl, beyond);
+  cause = shows_any state.files _ (λ files. (refl, beyond));
   fault = λ e. absurd (let no : ⊥ = cc in no);
   files = refl;
   printed = refl;
@@ -86,7 +122,7 @@ number_misjudged name number state beyond = record {
 pub loaded : (bytes : List ℕ) (base size : ℕ) (state : HostState) → IsFaultless base size bytes
     → Does (Loads bytes base size) state state
 loaded bytes base size state faultless = record {
-  done = λ files told. faultless;
+  done = shows_any state.files _ (λ files. faultless);
   files = refl;
   printed = prints_none state.printed state.printed refl;
   later = omega arith;
@@ -96,7 +132,7 @@ loaded bytes base size state faultless = record {
 pub load_refused : (bytes : List ℕ) (base size : ℕ) (fault : ElfFault) (state : HostState)
     → IsFirstElfFault base size bytes fault → Refuses (Loads bytes base size) (Elf fault) state state
 load_refused bytes base size fault state first = record {
-  cause = λ files told. first;
+  cause = shows_any state.files _ (λ files. first);
   fault = λ e. absurd (let no : ⊥ = cc in no);
   files = refl;
   printed = refl;
@@ -107,7 +143,7 @@ load_refused bytes base size fault state first = record {
 pub load_lost : (bytes : List ℕ) (base size : ℕ) (state : HostState)
     → Refuses (Loads bytes base size) NoMemory state state
 load_lost bytes base size state = record {
-  cause = λ files told. tt;
+  cause = shows_any state.files _ (λ files. tt);
   fault = λ e. absurd (let no : ⊥ = cc in no);
   files = refl;
   printed = refl;
@@ -129,7 +165,7 @@ pub made_lost : (o : Option (List ℕ)) (bytes loaded : List ℕ) (base size : �
     → IsRefused (where_named o bytes (Loads loaded base size ∷ [])) NoMemory state state
 made_lost None bytes loaded base size state = inl (load_lost loaded base size state)
 made_lost (Some name) bytes loaded base size state = inl (record {
-  cause = λ files told. tt;
+  cause = shows_any state.files _ (λ files. tt);
   fault = λ e. absurd (let no : ⊥ = cc in no);
   files = others_same name state.files;
   printed = refl;
@@ -146,7 +182,7 @@ pub read_refused : (T : Type 0) (source : Source) (name : List ℕ) (rule : Rule
     → new.asked ≡ asked_after {T = T} old.asked (ReadsFile name) (Err fault)
     → Refuses (Reads source name rule) (unread source fault) old new
 read_refused T source name rule Failed old new long cause later files printed asked = record {
-  cause = λ files' told. tt;
+  cause = shows_any old.files _ (λ files. tt);
   fault = λ e. cause refl;
   files = files;
   printed = printed;
@@ -154,7 +190,7 @@ read_refused T source name rule Failed old new long cause later files printed as
   asked = asked;
 }
 read_refused T source name rule TooLongFile old new long cause later files printed asked = record {
-  cause = λ files' told. (refl, at_some (λ f. IsLonger f name (limit_of source)) old.files files' (long refl) told);
+  cause = shows_longer old.files name (limit_of source) _ (long refl) (λ files is. (refl, is));
   fault = λ e. absurd (let no : ⊥ = cc in no);
   files = files;
   printed = printed;
@@ -162,7 +198,7 @@ read_refused T source name rule TooLongFile old new long cause later files print
   asked = asked;
 }
 read_refused T source name rule OutOfMemory old new long cause later files printed asked = record {
-  cause = λ files' told. tt;
+  cause = shows_any old.files _ (λ files. tt);
   fault = λ e. absurd (let no : ⊥ = cc in no);
   files = files;
   printed = printed;
@@ -175,13 +211,12 @@ module _ (source : Source) (name bytes : List ℕ) (rule : Rule) (old new : Host
   -- the file was read, and its bytes keep the rule
   pub read_done : Keeps rule bytes → Does (Reads source name rule) old new
   read_done keeps = record {
-    done = λ files told. record {
+    done = shows_file old.files name bytes (λ files. IsRight files source name rule) read.told (λ files is. record {
       bytes = bytes;
-      is = at_some (λ (f : Files). f name ≡ Some bytes) old.files files
-          read.told told;
+      is = is;
       within = read.within;
       keeps = keeps;
-    };
+    });
     files = read.files;
     printed = read.printed ∙ prints_none old.printed old.printed refl;
     later = read.later;
@@ -191,7 +226,7 @@ module _ (source : Source) (name bytes : List ℕ) (rule : Rule) (old new : Host
   -- there was no memory for it
   pub read_lost : Refuses (Reads source name rule) NoMemory old new
   read_lost = record {
-    cause = λ files told. tt;
+    cause = shows_any old.files _ (λ files. tt);
     fault = λ e. absurd (let no : ⊥ = cc in no);
     files = read.files;
     printed = read.printed;
@@ -199,14 +234,15 @@ module _ (source : Source) (name bytes : List ℕ) (rule : Rule) (old new : Host
     asked = inr read.asked;
   }
 
-  wrong : (refusal : Refusal) → Breaks rule bytes refusal → (files : Files) → old.files ≡ Some files
-      → IsWrong files source name rule refusal
-  wrong refusal breaks files told = record {
-    bytes = bytes;
-    is = at_some (λ (f : Files). f name ≡ Some bytes) old.files files read.told told;
-    within = read.within;
-    breaks = breaks;
-  }
+  wrong : (refusal : Refusal) → Breaks rule bytes refusal
+      → Shows old.files (λ files. IsWrong files source name rule refusal)
+  wrong refusal breaks =
+      shows_file old.files name bytes (λ files. IsWrong files source name rule refusal) read.told (λ files is. record {
+        bytes = bytes;
+        is = is;
+        within = read.within;
+        breaks = breaks;
+      })
 
   -- its bytes break the rule
   pub key_short : (count : ℕ) → Breaks rule bytes (KeyLength count)
@@ -266,10 +302,11 @@ module _ (source : Source) (name bytes : List ℕ) (rule : Rule) (old new : Host
 
 -- the bytes of a file that was read
 pub read_bytes : (source : Source) (name bytes : List ℕ) (old new : HostState) → WasRead source name bytes old new
-    → (files : Files) → new.files ≡ Some files → bytes ≡ bytes_in files name
-read_bytes source name bytes old new read files told =
-    sym (ap (λ o. unwrap_or o []) (at_some (λ (f : Files). f name ≡ Some bytes) old.files files read.told
-    (sym read.files ∙ told)))
+    → Shows new.files (λ files. bytes ≡ bytes_in files name)
+read_bytes source name bytes old new read =
+    subst (λ told. Shows told (λ files. bytes ≡ bytes_in files name)) (sym read.files)
+    (shows_file old.files name bytes (λ files. bytes ≡ bytes_in files name) read.told
+    (λ files is. sym (ap (λ o. unwrap_or o []) is)))
 
 -- a file was written, or its write refused
 pub write_done : (name bytes : List ℕ) (old new : HostState) → IfSome new.files (λ files. files name ≡ Some bytes)
@@ -277,7 +314,7 @@ pub write_done : (name bytes : List ℕ) (old new : HostState) → IfSome new.fi
     → old.faults ≤ new.faults → new.printed ≡ old.printed → AsksMore old.asked (WritesFile name ∷ []) new.asked
     → Does (Writes name bytes) old new
 write_done name bytes old new written others later printed asked = record {
-  done = λ files told. tt;
+  done = shows_any old.files _ (λ files. tt);
   files = (others, written);
   printed = printed ∙ prints_none old.printed old.printed refl;
   later = later;
@@ -291,7 +328,7 @@ pub write_refused : (T : Type 0) (name bytes : List ℕ) (fault : HostFault) (ol
     → new.asked ≡ asked_after {T = T} old.asked (WritesFile name) (Err fault)
     → Refuses (Writes name bytes) (unwritten fault) old new
 write_refused T name bytes Failed old new long cause others later printed asked = record {
-  cause = λ files told. tt;
+  cause = shows_any old.files _ (λ files. tt);
   fault = λ e. cause refl;
   files = others;
   printed = printed;
@@ -300,7 +337,7 @@ write_refused T name bytes Failed old new long cause others later printed asked 
 }
 write_refused T name bytes TooLongFile old new long cause others later printed asked = absurd (long refl)
 write_refused T name bytes OutOfMemory old new long cause others later printed asked = record {
-  cause = λ files told. tt;
+  cause = shows_any old.files _ (λ files. tt);
   fault = λ e. absurd (let no : ⊥ = cc in no);
   files = others;
   printed = printed;
@@ -313,7 +350,7 @@ pub print_done : (text : List ℕ) (old new : HostState) → PrintsMore old.prin
     → old.faults ≤ new.faults → new.files ≡ old.files
     → AsksMore old.asked (PrintsText ∷ []) new.asked → Does (Prints text) old new
 print_done text old new printed later files asked = record {
-  done = λ files' told. tt;
+  done = shows_any old.files _ (λ files. tt);
   files = files;
   printed = printed;
   later = later;
@@ -324,7 +361,7 @@ pub print_refused : (T : Type 0) (text : List ℕ) (fault : HostFault) (old new 
     → (fault ≡ Failed → Rose old.faults new.faults) → old.faults ≤ new.faults → new.files ≡ old.files
     → new.asked ≡ asked_after {T = T} old.asked PrintsText (Err fault) → Refuses (Prints text) (unwritten fault) old new
 print_refused T text Failed old new long cause later files asked = record {
-  cause = λ files' told. tt;
+  cause = shows_any old.files _ (λ files. tt);
   fault = λ e. cause refl;
   files = files;
   printed = tt;
@@ -333,7 +370,7 @@ print_refused T text Failed old new long cause later files asked = record {
 }
 print_refused T text TooLongFile old new long cause later files asked = absurd (long refl)
 print_refused T text OutOfMemory old new long cause later files asked = record {
-  cause = λ files' told. tt;
+  cause = shows_any old.files _ (λ files. tt);
   fault = λ e. absurd (let no : ⊥ = cc in no);
   files = files;
   printed = tt;
@@ -344,7 +381,7 @@ print_refused T text OutOfMemory old new long cause later files asked = record {
 -- there was no memory for a text
 pub print_lost : (text : List ℕ) (state : HostState) → Refuses (Prints text) NoMemory state state
 print_lost text state = record {
-  cause = λ files' told. tt;
+  cause = shows_any state.files _ (λ files. tt);
   fault = λ e. absurd (let no : ⊥ = cc in no);
   files = refl;
   printed = tt;

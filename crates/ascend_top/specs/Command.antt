@@ -17,7 +17,7 @@ use Rattle.ascend_top.specs.Gen.{gen_steps}
 use Rattle.ascend_top.specs.Made.{Made, Encrypted, Ran, Assembled, Listed, Held}
 use Rattle.ascend_top.specs.Run.{IsRun, RunWants, run_report_steps, run_steps}
 use Rattle.ascend_top.specs.Status.{status_of_made}
-use Rattle.ascend_top.specs.Steps.{AllDone, AsksMore, IsCause, IsDone, IsRefused, PrintsMore, Step}
+use Rattle.ascend_top.specs.Steps.{AllDone, AsksMore, IsCause, IsDone, IsRefused, PrintsMore, Shows, Step}
 use Rattle.ascend_top.specs.Texts.{refusal_text}
 use Rattle.ascend_top.specs.declared.commands.flat.Outcome.{Outcome}
 use Rattle.ascend_top.specs.declared.commands.Product.{Product}
@@ -36,26 +36,27 @@ steps_of Disasm given = disasm_steps given
 steps_of Check given = check_steps given
 steps_of Gen given = gen_steps given
 
--- what a command's work is meant to come to over these files, where it is no run over encrypted memory: the report of
--- the flat run, the text's file, the program's lines, or what a check says of the trace
-abbrev pub IsMeant : Command → List Pair → Files → Made → Type 0
-IsMeant Run given files made = ⊥
-IsMeant Flat given files made = made ≡ Ran (flat_report given files)
-IsMeant Asm given files made = made ≡ Assembled (asm_file given files)
-IsMeant Disasm given files made = made ≡ Listed (disasm_listing given files)
-IsMeant Check given files (Held code bits) = AreHeld given files code bits
-IsMeant Check given files made = ⊥
-IsMeant Gen given files made = ⊥
+-- What a command's work is meant to come to, where it is no run over encrypted memory, over the files that are told or
+-- shown: the report of the flat run, the text's file, the program's lines, or what a check says of the trace.
+abbrev pub IsMeant : Command → List Pair → Option Files → Made → Type 0
+IsMeant Run given told made = ⊥
+IsMeant Flat given told made =
+    Shows told (λ files. Shows told (λ later. made ≡ Ran (flat_report given files later)))
+IsMeant Asm given told made = Shows told (λ files. made ≡ Assembled (asm_file given files))
+IsMeant Disasm given told made = Shows told (λ files. made ≡ Listed (disasm_listing given files))
+IsMeant Check given told (Held code bits) = Shows told (λ files. AreHeld given files code bits)
+IsMeant Check given told made = ⊥
+IsMeant Gen given told made = ⊥
 
 -- What a command's work comes to, over files that are told or not: `run` and `gen` to a run over the memory and the
--- tap, every other command to what is meant where files are told, and it leaves memory and tap as they were.
+-- tap, every other command to what is meant, and it leaves memory and tap as they were.
 abbrev pub IsMade : Command → List Pair → Lent → Option Files → Made → Type 0
 IsMade Run given lent told (Encrypted run) = IsRun Run given told lent run
 IsMade Run given lent told made = ⊥
 IsMade Gen given lent told (Encrypted run) = IsRun Gen given told lent run
 IsMade Gen given lent told made = ⊥
 IsMade command given lent told made =
-    IsIdle lent × ((files : Files) → told ≡ Some files → IsMeant command given files made)
+    IsIdle lent × IsMeant command given told made
 
 -- what there is where it found no memory
 abbrev pub IsLost : Command → List Pair → Lent → Option Files → Type 0
@@ -72,20 +73,17 @@ last_steps given (Listed text) = print_steps text
 last_steps given (Held code bits) = held_steps code bits
 
 -- The steps and the work between them end so. All steps were done, with what the work made. Or one before the work was
--- refused; or there was no memory for the work; or one after it was refused. Where files are told the work always made
--- what is meant.
-abbrev pub StepsEnd : {A : Type 0} → List Step → (A → List Step) → (Files → A → Type 0) → Result A Refusal
+-- refused; or there was no memory for the work; or one after it was refused. The work always made what is meant.
+abbrev pub StepsEnd : {A : Type 0} → List Step → (A → List Step) → (Option Files → A → Type 0) → Result A Refusal
     → HostState → HostState
     → Type 0
 StepsEnd before after Meant (Ok made) old new =
-    (at : HostState) × AllDone before old at × ((files : Files) → at.files ≡ Some files → Meant files made)
-    × AllDone (after made) at new
+    (at : HostState) × AllDone before old at × Meant at.files made × AllDone (after made) at new
 StepsEnd {A} before after Meant (Err refusal) old new =
     IsRefused before refusal old new
     ⊎ ((at : HostState) × AllDone before old at
     × (((refusal ≡ NoMemory) × (new ≡ at))
-    ⊎ ((made : A) × ((files : Files) → at.files ≡ Some files → Meant files made)
-    × IsRefused (after made) refusal at new)))
+    ⊎ ((made : A) × Meant at.files made × IsRefused (after made) refusal at new)))
 
 -- The same of a command's own steps and work, over the files as they were before it, with what it leaves of memory and
 -- tap. Where a step before its work was refused, these are as they were.

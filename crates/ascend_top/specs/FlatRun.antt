@@ -65,7 +65,7 @@ input_as files (Some name) = bytes_in files name
 abbrev pub input_in : Files → List Pair → List ℕ
 input_in files given = input_as files (text_in given Input)
 
--- the report of the flat run that words ask for, over these files
-unfoldable pub flat_report : List Pair → Files → Report
-flat_report given files =
-    report_of (flat_of (settings_of given) (bytes_in files (file_in given Elf)) (input_in files given))
+-- the report of the flat run that words ask for, where the ELF file is read of these files, and then the input of those
+unfoldable pub flat_report : List Pair → Files → Files → Report
+flat_report given files later =
+    report_of (flat_of (settings_of given) (bytes_in files (file_in given Elf)) (input_in later given))

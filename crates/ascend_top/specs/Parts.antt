@@ -68,11 +68,11 @@ pub record CanRun (program : Program) : Type 0 where
   pub memory : IsMemory program.config.base program.config.size
   pub image : IsImage program.config.base program.config.size program.image
 
--- a program is that of the files that words name: its image is that of the ELF file, and its input that of the input
--- file, and else empty
-pub record IsProgramOf (given : List Pair) (files : Files) (program : Program) : Type 0 where
+-- a program is that of the files that words name: its image is that of the ELF file, which is read of these files, and
+-- its input that of the input file, which is read of those, and else empty
+pub record IsProgramOf (given : List Pair) (files later : Files) (program : Program) : Type 0 where
   pub image : IsImageOf program.config.base program.config.size (bytes_in files (file_in given Elf)) program.image
-  pub input : program.input.items ≡ input_in files given
+  pub input : program.input.items ≡ input_in later given
 
 -- the report of a program's flat run
 abbrev pub program_report : Program → Report

@@ -13,12 +13,12 @@ use Rattle.ascend_words.specs.Settings.{settings_of, text_in}
 use Rattle.ascend_words.specs.declared.table.Command.{Command}
 use Rattle.ascend_words.specs.declared.table.Command.TheVariants.{Gen, Run}
 use Rattle.ascend_words.specs.declared.table.Name.TheVariants.{Key, Output, Trace}
-use Rattle.ascend_top.specs.EncryptedRun.{IsRunOf, IsWantOf, Lent}
+use Rattle.ascend_top.specs.EncryptedRun.{IsRunOf, Wants, Lent}
 use Rattle.ascend_top.specs.Flat.{program_steps}
 use Rattle.ascend_top.specs.FlatRun.{bytes_in, file_in}
 use Rattle.ascend_top.specs.Gen.{IsGenerated}
 use Rattle.ascend_top.specs.Parts.{IsProgramOf}
-use Rattle.ascend_top.specs.Steps.{AllDone, IsRefused, Step, Judges, Prints, Reads, Writes, AKey, key_length}
+use Rattle.ascend_top.specs.Steps.{AllDone, IsRefused, Step, Judges, Prints, Reads, Shows, Writes, AKey, key_length}
 use Rattle.ascend_top.specs.Steps.{where_named}
 use Rattle.ascend_top.specs.Texts.{run_text}
 use Rattle.ascend_top.specs.declared.commands.flat.Program.{Program}
@@ -38,10 +38,9 @@ run_report_steps given run =
     Writes (file_in given Output) run.report.output.items
     ∷ where_named (text_in given Trace) run.trace.items (Prints (run_text run.report run.altered) ∷ [])
 
--- what program it is that a command runs: that of the files that the words name, where files are told, or the one
--- that they make
+-- what program it is that a command runs: that of the files that the words name, or the one that they make
 abbrev pub IsProgramBy : Command → List Pair → Option Files → Program → Type 0
-IsProgramBy Run given told program = (files : Files) → told ≡ Some files → IsProgramOf given files program
+IsProgramBy Run given told program = Shows told (λ files. Shows told (λ later. IsProgramOf given files later program))
 IsProgramBy Gen given told program = IsGenerated given program
 IsProgramBy command given told program = ⊥
 
@@ -72,18 +71,18 @@ pub record IsRun (command : Command) (given : List Pair) (told : Option Files) (
   pub begins : IsBegin command given told begin
   pub outcome : IsOutcome given begin lent run
 
--- the same of one that found no memory
+-- the same of one that wanted memory
 pub record RunWants (command : Command) (given : List Pair) (told : Option Files) (lent : Lent) : Type 0 where
   pub begin : Begin
   pub begins : IsBegin command given told begin
-  pub wants : IsWantOf begin.program.config begin.program.image begin.program.input.items begin.key lent
+  pub wants : Wants begin.program.config begin.program.image begin.program.input.items begin.key lent
 
--- A run that began so, and the steps after it, end so: all of these were done; or the run found no memory; or one of
+-- A run that began so, and the steps after it, end so: all of these were done; or the run wanted memory; or one of
 -- them was refused.
 abbrev pub BegunEnds : List Pair → Begin → Lent → Result Encrypted Refusal → HostState → HostState → Type 0
 BegunEnds given begin lent (Ok run) old new =
     IsOutcome given begin lent run × AllDone (run_report_steps given run) old new
 BegunEnds given begin lent (Err refusal) old new =
     ((refusal ≡ NoMemory) × (new ≡ old)
-    × IsWantOf begin.program.config begin.program.image begin.program.input.items begin.key lent)
+    × Wants begin.program.config begin.program.image begin.program.input.items begin.key lent)
     ⊎ ((run : Encrypted) × IsOutcome given begin lent run × IsRefused (run_report_steps given run) refusal old new)

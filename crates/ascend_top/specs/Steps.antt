@@ -199,9 +199,14 @@ LeavesFiles (Loads bytes base size) old new = new ≡ old
 LeavesFiles (Writes name bytes) old new = OthersStay name old new × IfSome new (λ files. files name ≡ Some bytes)
 LeavesFiles (Prints text) old new = new ≡ old
 
+-- Over some files: those that are told. Where none are, a host may show any, and others at another step.
+abbrev pub Shows : Option Files → (Files → Type 0) → Type 0
+Shows (Some files) Says = Says files
+Shows None Says = (files : Files) × Says files
+
 -- A step was done: the files were right, and what it prints was printed. Its call was asked once, and no other.
 pub record Does (step : Step) (old new : HostState) : Type 0 where
-  pub done : (files : Files) → old.files ≡ Some files → IsDone files step
+  pub done : Shows old.files (λ files. IsDone files step)
   pub files : LeavesFiles step old.files new.files
   pub printed : PrintsMore old.printed (print_of step) new.printed
   pub later : old.faults ≤ new.faults
@@ -232,7 +237,7 @@ AsksAtEnd step refusal old new = AsksMore old (calls_of step) new
 
 -- A step was refused so. A failure of the host is one that it counts.
 pub record Refuses (step : Step) (refusal : Refusal) (old new : HostState) : Type 0 where
-  pub cause : (files : Files) → old.files ≡ Some files → IsCause files step refusal
+  pub cause : Shows old.files (λ files. IsCause files step refusal)
   pub fault : refusal ≡ Host → Rose old.faults new.faults
   pub files : SparesFiles step old.files new.files
   pub printed : SparesPrinted step old.printed new.printed

@@ -10,7 +10,7 @@ ghost use Rattle.ascend_top.specs.Asm.{file_of_text};
 ghost use Rattle.ascend_top.specs.FlatRun.{bytes_in};
 ghost use Rattle.ascend_top.specs.Parts.{IsImageOf, WasRead, IsConfigOf, unread, unwritten};
 ghost use Rattle.ascend_top.specs.Steps.{AKey, AnElf, AText, ATrace, Anything, IsChecked, Judges, JudgesNumber, Loads};
-ghost use Rattle.ascend_top.specs.Steps.{Reads, Writes, Prints, Rule, Does, Refuses};
+ghost use Rattle.ascend_top.specs.Steps.{Reads, Writes, Prints, Rule, Does, Refuses, Shows};
 ghost use Rattle.ascend_top.specs.declared.refusal.Source.TheVariants.{Key as KeyFile, Elf as ElfFile};
 ghost use Rattle.ascend_top.specs.declared.refusal.Source.TheVariants.{Text as TextFile, Trace as TraceFile};
 ghost use Rattle.trace_checker.specs.declared.verdict.Verdict.TheVariants.{Holds};
@@ -158,8 +158,8 @@ pub(crate) fn read_elf<H: Host>(
 ) -> Result<Image, Refusal>
     requires { IsMemory base size }
     ensures memory { IfOk result (IsImage base size) }
-    ensures image { IfOk result (λ image. (files : Files) → (H.state host.new).files ≡ Some files
-        → IsImageOf base size (bytes_in files name.now) image) }
+    ensures image { IfOk result (λ image. Shows (H.state host.new).files (λ files.
+        IsImageOf base size (bytes_in files name.now) image)) }
     ensures read { OnOk result (Does (Reads ElfFile name.now (AnElf base size)) (H.state host.old) (H.state host.new)) }
     ensures refused { IfErr result (λ refusal.
         Refuses (Reads ElfFile name.now (AnElf base size)) refusal (H.state host.old) (H.state host.new)) }
@@ -201,8 +201,8 @@ pub(crate) fn read_segments<H: Host>(
 ) -> Result<Vec<u8>, Refusal>
     requires { IsMemory base size }
     ensures readable { IfOk result (λ file. IsReadable file.items) }
-    ensures told { IfOk result (λ file. (files : Files) → (H.state host.new).files ≡ Some files
-        → file.items ≡ bytes_in files name.now) }
+    ensures told { IfOk result (λ file. Shows (H.state host.new).files (λ files.
+        file.items ≡ bytes_in files name.now)) }
     ensures read { OnOk result (Does (Reads ElfFile name.now (AnElf base size)) (H.state host.old) (H.state host.new)) }
     ensures refused { IfErr result (λ refusal.
         Refuses (Reads ElfFile name.now (AnElf base size)) refusal (H.state host.old) (H.state host.new)) }
@@ -226,8 +226,8 @@ pub(crate) fn read_text<H: Host>(
     host: &mut H,
 ) -> Result<Vec<u8>, Refusal>
     requires { at < 4_294_901_760 }
-    ensures file { IfOk result (λ file. (files : Files) → (H.state host.new).files ≡ Some files
-        → file.items ≡ file_of_text at (bytes_in files name.now)) }
+    ensures file { IfOk result (λ file. Shows (H.state host.new).files (λ files.
+        file.items ≡ file_of_text at (bytes_in files name.now))) }
     ensures read { OnOk result (Does (Reads TextFile name.now (AText at)) (H.state host.old) (H.state host.new)) }
     ensures refused { IfErr result (λ refusal.
         Refuses (Reads TextFile name.now (AText at)) refusal (H.state host.old) (H.state host.new)) }
@@ -245,8 +245,8 @@ pub(crate) fn read_text<H: Host>(
 
 /// Reads the file of a trace, and checks the trace.
 pub(crate) fn read_trace<H: Host>(alloc: Global, name: &str, host: &mut H) -> Result<Held, Refusal>
-    ensures held { IfOk result (λ held. (files : Files) → (H.state host.new).files ≡ Some files
-        → IsChecked (bytes_in files name.now) (Holds held.code held.bits)) }
+    ensures held { IfOk result (λ held. Shows (H.state host.new).files (λ files.
+        IsChecked (bytes_in files name.now) (Holds held.code held.bits))) }
     ensures read { OnOk result (Does (Reads TraceFile name.now ATrace) (H.state host.old) (H.state host.new)) }
     ensures refused { IfErr result (λ refusal.
         Refuses (Reads TraceFile name.now ATrace) refusal (H.state host.old) (H.state host.new)) }

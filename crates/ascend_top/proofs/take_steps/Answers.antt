@@ -1,15 +1,29 @@
-use Rattle.std.proofs.Common.{◌≡◌, ◌∙◌, ap, sym, refl, subst}
+use Rattle.std.proofs.Common.{◌≡◌, ◌∙◌, List, Option, ap, sym, refl, subst}
+use Rattle.asc_outside.specs.Host.{Files}
+use Rattle.ascend_words.specs.Grammar.{Pair}
 use Rattle.ascend_words.specs.declared.table.Command.TheVariants.{Run, Flat, Asm, Disasm, Check, Gen}
 use Rattle.ascend_top.specs.Asm.{asm_file, write_steps}
 use Rattle.ascend_top.specs.Check.{AreHeld, held_steps}
 use Rattle.ascend_top.specs.Command.{WorkEnds, bytes_end, end_of, run_end}
 use Rattle.ascend_top.specs.Disasm.{disasm_listing, print_steps}
 use Rattle.ascend_top.specs.Flat.{report_steps}
-use Rattle.ascend_top.specs.FlatRun.{flat_report}
+use Rattle.ascend_top.specs.FlatRun.{Report, flat_report}
 use Rattle.ascend_top.specs.EncryptedRun.{IsIdle, lent_as}
 use Rattle.ascend_top.specs.Made.{Ran, Assembled, Listed, Held}
+use Rattle.ascend_top.specs.Steps.{Shows}
 use Rattle.ascend_top.proofs.EndLaws.{lift_ends}
+use Rattle.ascend_top.proofs.StepLaws.{shows_more}
 use Rattle.ascend_top.proofs.take_steps.Goals as goal
+
+-- the report of a flat run, as what its work made
+ran_is : (given : List Pair) (told : Option Files) (made : Report)
+    → Shows told (λ files. Shows told (λ later. made ≡ flat_report given files later))
+    → Shows told (λ files. Shows told (λ later. Ran made ≡ Ran (flat_report given files later)))
+ran_is given told made =
+    shows_more told (λ files. Shows told (λ later. made ≡ flat_report given files later))
+    (λ files. Shows told (λ later. Ran made ≡ Ran (flat_report given files later)))
+    (λ files. shows_more told (λ later. made ≡ flat_report given files later)
+    (λ later. Ran made ≡ Ran (flat_report given files later)) (λ later e. ap Ran e))
 
 pub returns-in-Run : goal.returns-in-Run
 returns-in-Run g c =
@@ -44,9 +58,9 @@ returns-in-Flat g c =
     subst (λ command. WorkEnds command given lent (end_of c.ran.result) old new) (sym c.in-Flat.is
     ∙ c.command.ensures)
     (subst (λ end. WorkEnds Flat given lent end old new) (sym c.ran.ensures)
-    (lift_ends Ran (report_steps given) (λ files made. made ≡ flat_report given files) Flat given lent idle
+    (lift_ends Ran (report_steps given) (λ told made. Shows told (λ files. Shows told (λ later. made ≡ flat_report given files later))) Flat given lent idle
     (λ e. absurd (let no : ⊥ = cc in no))
-    (λ made. refl) (λ told made is. (idle, λ files e. ap Ran (is files e))) (λ told. idle)
+    (λ made. refl) (λ told made is. (idle, ran_is given told made is)) (λ told. idle)
     (run_end c.flat.result) old new c.flat.ensures))
 
 pub returns-in-Asm : goal.returns-in-Asm
@@ -60,9 +74,10 @@ returns-in-Asm g c =
     subst (λ command. WorkEnds command given lent (end_of c.assembled.result) old new) (sym c.in-Asm.is
     ∙ c.command.ensures)
     (subst (λ end. WorkEnds Asm given lent end old new) (sym c.assembled.ensures)
-    (lift_ends Assembled (write_steps given) (λ files made. made ≡ asm_file given files) Asm given lent idle
+    (lift_ends Assembled (write_steps given) (λ told made. Shows told (λ files. made ≡ asm_file given files)) Asm given lent idle
     (λ e. absurd (let no : ⊥ = cc in no))
-    (λ made. refl) (λ told made is. (idle, λ files e. ap Assembled (is files e))) (λ told. idle)
+    (λ made. refl) (λ told made is. (idle, shows_more told (λ files. made ≡ asm_file given files)
+    (λ files. Assembled made ≡ Assembled (asm_file given files)) (λ files e. ap Assembled e) is)) (λ told. idle)
     (bytes_end (λ file. file.items) c.asm.result) old new c.asm.ensures))
 
 pub returns-in-Disasm : goal.returns-in-Disasm
@@ -76,9 +91,10 @@ returns-in-Disasm g c =
     subst (λ command. WorkEnds command given lent (end_of c.listed.result) old new) (sym c.in-Disasm.is
     ∙ c.command.ensures)
     (subst (λ end. WorkEnds Disasm given lent end old new) (sym c.listed.ensures)
-    (lift_ends Listed print_steps (λ files made. made ≡ disasm_listing given files) Disasm given lent idle
+    (lift_ends Listed print_steps (λ told made. Shows told (λ files. made ≡ disasm_listing given files)) Disasm given lent idle
     (λ e. absurd (let no : ⊥ = cc in no))
-    (λ made. refl) (λ told made is. (idle, λ files e. ap Listed (is files e))) (λ told. idle)
+    (λ made. refl) (λ told made is. (idle, shows_more told (λ files. made ≡ disasm_listing given files)
+    (λ files. Listed made ≡ Listed (disasm_listing given files)) (λ files e. ap Listed e) is)) (λ told. idle)
     (bytes_end (λ text. text.items) c.disasm.result) old new c.disasm.ensures))
 
 pub returns-in-Check : goal.returns-in-Check
@@ -93,6 +109,6 @@ returns-in-Check g c =
     ∙ c.command.ensures)
     (subst (λ end. WorkEnds Check given lent end old new) (sym c.held.ensures)
     (lift_ends (λ held. Held held.code held.bits) (λ held. held_steps held.code held.bits)
-    (λ files held. AreHeld given files held.code held.bits) Check given lent idle
+    (λ told held. Shows told (λ files. AreHeld given files held.code held.bits)) Check given lent idle
     (λ e. absurd (let no : ⊥ = cc in no))
     (λ made. refl) (λ told made is. (idle, is)) (λ told. idle) c.check.result old new c.check.ensures))

@@ -1,9 +1,8 @@
 //! The command `asm`.
-ghost use Rattle.std.specs.Prelude.{◌≡◌, Some, IfErr, IfOk, OnOk};
-ghost use Rattle.asc_outside.specs.Host.{Files as HostFiles};
+ghost use Rattle.std.specs.Prelude.{◌≡◌, IfErr, IfOk, OnOk};
 ghost use Rattle.ascend_top.specs.Asm.{asm_file, asm_steps, place_in, write_steps};
 ghost use Rattle.ascend_top.specs.Command.{StepsEnd, bytes_end};
-ghost use Rattle.ascend_top.specs.Steps.{AllDone, IsRefused};
+ghost use Rattle.ascend_top.specs.Steps.{AllDone, IsRefused, Shows};
 
 use crate::commands::file_of;
 use crate::refusal::Refusal;
@@ -21,8 +20,8 @@ fn place(words: &Words) -> u64
 
 /// Judges the place, and reads the text: the program's file.
 fn assembled<H: Host>(alloc: Global, words: &Words, host: &mut H) -> Result<Vec<u8>, Refusal>
-    ensures file { IfOk result (λ file. (files : HostFiles) → (H.state host.new).files ≡ Some files
-        → file.items ≡ asm_file words.now.given files) }
+    ensures file { IfOk result (λ file. Shows (H.state host.new).files (λ files.
+        file.items ≡ asm_file words.now.given files)) }
     ensures done { OnOk result (AllDone (asm_steps words.now.given) (H.state host.old) (H.state host.new)) }
     ensures refused { IfErr result (λ refusal.
         IsRefused (asm_steps words.now.given) refusal (H.state host.old) (H.state host.new)) }
@@ -41,7 +40,7 @@ fn assembled<H: Host>(alloc: Global, words: &Words, host: &mut H) -> Result<Vec<
 /// The command `asm`, up to the first refusal: the file that was written.
 pub(crate) fn asm<H: Host>(alloc: Global, words: &Words, host: &mut H) -> Result<Vec<u8>, Refusal>
     ensures { StepsEnd (asm_steps words.now.given) (write_steps words.now.given)
-        (λ files file. file ≡ asm_file words.now.given files)
+        (λ told file. Shows told (λ files. file ≡ asm_file words.now.given files))
         (bytes_end (λ file. file.items) result) (H.state host.old) (H.state host.new) }
 {
     let file = match assembled(alloc, words, host) {

@@ -1,6 +1,7 @@
 //! The command `check`.
 ghost use Rattle.ascend_top.specs.Check.{AreHeld, check_steps, held_steps};
 ghost use Rattle.ascend_top.specs.Command.{StepsEnd};
+ghost use Rattle.ascend_top.specs.Steps.{Shows};
 
 use crate::commands::file_of;
 use crate::refusal::Refusal;
@@ -21,7 +22,8 @@ pub(crate) struct Held {
 /// The command `check`, up to the first refusal.
 pub(crate) fn check<H: Host>(alloc: Global, words: &Words, host: &mut H) -> Result<Held, Refusal>
     ensures { StepsEnd (check_steps words.now.given) (λ held. held_steps held.code held.bits)
-        (λ files held. AreHeld words.now.given files held.code held.bits) result (H.state host.old) (H.state host.new) }
+        (λ told held. Shows told (λ files. AreHeld words.now.given files held.code held.bits)) result
+        (H.state host.old) (H.state host.new) }
 {
     let trace = file_of(words, Name::Trace);
     let held = match steps::read_trace(alloc, trace, host) {

@@ -1,11 +1,10 @@
 //! The command `disasm`.
-ghost use Rattle.std.specs.Prelude.{◌≡◌, Some, IfErr, IfOk, OnOk};
-ghost use Rattle.asc_outside.specs.Host.{Files as HostFiles};
+ghost use Rattle.std.specs.Prelude.{◌≡◌, IfErr, IfOk, OnOk};
 ghost use Rattle.elf_loader.specs.Faults.{IsReadable};
 ghost use Rattle.ascend_top.specs.Command.{StepsEnd, bytes_end};
 ghost use Rattle.ascend_top.specs.Disasm.{disasm_listing, disasm_steps, print_steps};
 ghost use Rattle.ascend_top.specs.FlatRun.{bytes_in, file_in};
-ghost use Rattle.ascend_top.specs.Steps.{AllDone, IsRefused};
+ghost use Rattle.ascend_top.specs.Steps.{AllDone, IsRefused, Shows};
 ghost use Rattle.ascend_words.specs.declared.table.Name.TheVariants.{Elf as ElfName};
 
 use crate::commands::file_of;
@@ -18,8 +17,8 @@ use std::alloc::Global;
 /// Judges the settings, and reads the ELF file.
 fn read<H: Host>(alloc: Global, words: &Words, host: &mut H) -> Result<Vec<u8>, Refusal>
     ensures readable { IfOk result (λ file. IsReadable file.items) }
-    ensures told { IfOk result (λ file. (files : HostFiles) → (H.state host.new).files ≡ Some files
-        → file.items ≡ bytes_in files (file_in words.now.given ElfName)) }
+    ensures told { IfOk result (λ file. Shows (H.state host.new).files (λ files.
+        file.items ≡ bytes_in files (file_in words.now.given ElfName))) }
     ensures done { OnOk result (AllDone (disasm_steps words.now.given) (H.state host.old) (H.state host.new)) }
     ensures refused { IfErr result (λ refusal.
         IsRefused (disasm_steps words.now.given) refusal (H.state host.old) (H.state host.new)) }
@@ -42,7 +41,7 @@ pub(crate) fn disasm<H: Host>(
     host: &mut H,
 ) -> Result<Vec<u8>, Refusal>
     ensures { StepsEnd (disasm_steps words.now.given) print_steps
-        (λ files text. text ≡ disasm_listing words.now.given files)
+        (λ told text. Shows told (λ files. text ≡ disasm_listing words.now.given files))
         (bytes_end (λ text. text.items) result) (H.state host.old) (H.state host.new) }
 {
     let file = match read(alloc, words, host) {

@@ -1,6 +1,5 @@
 //! The command `flat`, and the run over a plain list of bytes.
-ghost use Rattle.std.specs.Prelude.{◌≡◌, List, Some, IfErr, IfOk, OnOk, length};
-ghost use Rattle.asc_outside.specs.Host.{Files as HostFiles};
+ghost use Rattle.std.specs.Prelude.{◌≡◌, List, IfErr, IfOk, OnOk, length};
 ghost use Rattle.rv32_core.specs.FlatRun.{flat_run};
 ghost use Rattle.rv32_core.specs.StepPlan.{machine_of};
 ghost use Rattle.ascend_words.specs.Settings.{text_in, settings_of};
@@ -9,7 +8,7 @@ ghost use Rattle.ascend_top.specs.Command.{StepsEnd, run_end};
 ghost use Rattle.ascend_top.specs.Flat.{flat_steps, input_steps, program_steps, report_steps};
 ghost use Rattle.ascend_top.specs.FlatRun.{flat_report, input_in, outcome_report};
 ghost use Rattle.ascend_top.specs.Parts.{CanRun, EndsAs, IsConfigOf, IsProgramOf, RunEnds, program_report};
-ghost use Rattle.ascend_top.specs.Steps.{AllDone, IsRefused};
+ghost use Rattle.ascend_top.specs.Steps.{AllDone, IsRefused, Shows};
 
 use crate::commands::file_of;
 use crate::refusal::{Refusal, Source};
@@ -41,8 +40,8 @@ pub(crate) struct Outcome {
 
 /// Reads the input, where a file is named.
 fn read_input<H: Host>(alloc: Global, words: &Words, host: &mut H) -> Result<Vec<u8>, Refusal>
-    ensures input { IfOk result (λ input. (files : HostFiles) → (H.state host.new).files ≡ Some files
-        → input.items ≡ input_in files words.now.given) }
+    ensures input { IfOk result (λ input. Shows (H.state host.new).files (λ files.
+        input.items ≡ input_in files words.now.given)) }
     ensures done { OnOk result
         (AllDone (input_steps (text_in words.now.given InputName)) (H.state host.old) (H.state host.new)) }
     ensures refused { IfErr result (λ refusal.
@@ -64,8 +63,8 @@ pub(crate) fn read_program<H: Host>(
     requires { IsConfigOf (settings_of words.now.given) config.now }
     ensures can { IfOk result CanRun }
     ensures config { IfOk result (λ program. program.config ≡ config.now) }
-    ensures told { IfOk result (λ program. (files : HostFiles) → (H.state host.new).files ≡ Some files
-        → IsProgramOf words.now.given files program) }
+    ensures told { IfOk result (λ program. Shows (H.state host.new).files (λ files. Shows (H.state host.new).files
+        (λ later. IsProgramOf words.now.given files later program))) }
     ensures done { OnOk result (AllDone (program_steps (settings_of words.now.given) words.now.given)
         (H.state host.old) (H.state host.new)) }
     ensures refused { IfErr result (λ refusal. IsRefused (program_steps (settings_of words.now.given) words.now.given)
@@ -177,8 +176,8 @@ pub(crate) fn run_and_report<H: Host>(
 /// The steps of `flat` before its run.
 fn prepare<H: Host>(alloc: Global, words: &Words, host: &mut H) -> Result<Program, Refusal>
     ensures can { IfOk result CanRun }
-    ensures report { IfOk result (λ program. (files : HostFiles) → (H.state host.new).files ≡ Some files
-        → program_report program ≡ flat_report words.now.given files) }
+    ensures report { IfOk result (λ program. Shows (H.state host.new).files (λ files. Shows (H.state host.new).files
+        (λ later. program_report program ≡ flat_report words.now.given files later))) }
     ensures done { OnOk result (AllDone (flat_steps words.now.given) (H.state host.old) (H.state host.new)) }
     ensures refused { IfErr result (λ refusal.
         IsRefused (flat_steps words.now.given) refusal (H.state host.old) (H.state host.new)) }
@@ -193,7 +192,8 @@ fn prepare<H: Host>(alloc: Global, words: &Words, host: &mut H) -> Result<Progra
 /// The command `flat`, up to the first refusal.
 pub(crate) fn flat<H: Host>(alloc: Global, words: &Words, host: &mut H) -> Result<Outcome, Refusal>
     ensures { StepsEnd (flat_steps words.now.given) (report_steps words.now.given)
-        (λ files report. report ≡ flat_report words.now.given files) (run_end result)
+        (λ told report. Shows told (λ files. Shows told (λ later. report ≡ flat_report words.now.given files later)))
+        (run_end result)
         (H.state host.old) (H.state host.new) }
 {
     match prepare(alloc, words, host) {

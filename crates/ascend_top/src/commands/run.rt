@@ -4,7 +4,7 @@ ghost use Rattle.ascend_top.specs.Command.{WorkEnds, lifted};
 ghost use Rattle.asc_base.specs.Settings.{IsConfig};
 ghost use Rattle.bus_watch.specs.Same.{IsSameBus};
 ghost use Rattle.elf_loader.specs.Memory.{IsImage};
-ghost use Rattle.ascend_top.specs.EncryptedRun.{IsRunOf, IsWantOf, lent_as};
+ghost use Rattle.ascend_top.specs.EncryptedRun.{IsRunOf, IsWantOf, Wants, lent_as};
 ghost use Rattle.ascend_top.specs.Made.{Encrypted as MadeEncrypted};
 ghost use Rattle.ascend_top.specs.Run.{BegunEnds, IsBegin, IsOutcome, run_report_steps, run_steps};
 ghost use Rattle.ascend_top.specs.Steps.{AllDone, IsRefused};
@@ -143,7 +143,7 @@ fn run_traced<M: UntrustedMemory>(
     requires no_altered { tap.old.log.altered ≡ [] }
     ensures ran { IfOk result (IsOutcome words.now.given begin.now
         (lent_as (M.state memory.old) (M.state memory.new) tap.old tap.new)) }
-    ensures wanting { OnErr result (IsWantOf begin.now.program.config begin.now.program.image
+    ensures wanting { OnErr result (Wants begin.now.program.config begin.now.program.image
         begin.now.program.input.items begin.now.key
         (lent_as (M.state memory.old) (M.state memory.new) tap.old tap.new)) }
 {

@@ -1,6 +1,6 @@
 use Rattle.std.proofs.Common.{inl, inr, refl, subst, ◌∙◌}
 use Rattle.ascend_top.specs.FlatRun.{bytes_in}
-use Rattle.ascend_top.specs.Steps.{ATrace, Does, IsChecked, Prints, Reads, Refuses}
+use Rattle.ascend_top.specs.Steps.{ATrace, Does, IsChecked, Prints, Reads, Refuses, Shows}
 use Rattle.ascend_top.specs.declared.refusal.Source.TheVariants.{Trace as TraceFile}
 use Rattle.trace_checker.specs.declared.verdict.Verdict.TheVariants.{Holds}
 use Rattle.ascend_top.proofs.commands.check.check.Goals as goal
@@ -20,9 +20,8 @@ returns g c =
       ),
       inr (
         c.in-Ok.held,
-        (λ files told.
-            subst (λ name. IsChecked (bytes_in files name) (Holds c.in-Ok.held.code c.in-Ok.held.bits))
-            c.file_of-trace.ensures (c.in-Ok.ensures.held files told)),
+        subst (λ name. Shows mid.files (λ files. IsChecked (bytes_in files name)
+            (Holds c.in-Ok.held.code c.in-Ok.held.bits))) c.file_of-trace.ensures c.in-Ok.ensures.held,
         inl (subst (λ text. Refuses (Prints text) c.in-Err-print.refusal mid new)
             (c.as_bytes.ensures.value ∙ c.in-Ok-held_text.ensures) c.in-Err-print.ensures.refused),
       ),

@@ -1,5 +1,8 @@
-use Rattle.std.proofs.Common.{◌∙◌, ap, inl, inr, subst}
-use Rattle.ascend_top.specs.Disasm.{listing_of}
+use Rattle.std.proofs.Common.{◌≡◌, ◌∙◌, ap, inl, inr, subst}
+use Rattle.ascend_words.specs.declared.table.Name.TheVariants.{Elf}
+use Rattle.ascend_top.specs.Disasm.{disasm_listing, listing_of}
+use Rattle.ascend_top.specs.FlatRun.{bytes_in, file_in}
+use Rattle.ascend_top.proofs.StepLaws.{shows_more}
 use Rattle.ascend_top.specs.Steps.{Refuses, Prints}
 use Rattle.ascend_top.proofs.commands.disasm.disasm.Goals as goal
 
@@ -7,13 +10,17 @@ pub returns : goal.returns
 returns g c =
     let at = g.H.Host.state c.read.new.host in
     let new = g.H.Host.state c.print.new.host in
+    let given = c.args.words.now.given in
+    let listed = shows_more at.files (λ files. c.in-Ok.file.items ≡ bytes_in files (file_in given Elf))
+    (λ files. c.in-Ok-listing_of.text.items ≡ disasm_listing given files)
+    (λ files is. c.in-Ok-listing_of.ensures ∙ ap listing_of c.as_slice.ensures.value ∙ ap listing_of is)
+    c.in-Ok.ensures.told in
     inr (
       at,
       c.in-Ok.ensures.done,
       inr (
         c.in-Ok-listing_of.text.items,
-        (λ files told. c.in-Ok-listing_of.ensures ∙ ap listing_of c.as_slice.ensures.value
-            ∙ ap listing_of (c.in-Ok.ensures.told files told)),
+        listed,
         inl (subst (λ text. Refuses (Prints text) c.in-Err-print.refusal at new) c.as_slice-2.ensures.value
             c.in-Err-print.ensures.refused),
       ),

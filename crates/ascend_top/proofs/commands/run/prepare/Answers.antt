@@ -2,7 +2,8 @@ use Rattle.std.proofs.Common.{◌≡◌, inl, inr, subst, ◌∙◌}
 use Rattle.ascend_words.specs.Settings.{settings_of}
 use Rattle.ascend_words.specs.declared.table.Command.TheVariants.{Run}
 use Rattle.ascend_top.specs.FlatRun.{bytes_in}
-use Rattle.ascend_top.specs.Steps.{AKey, Does, Judges, Reads, Refuses}
+use Rattle.ascend_top.specs.Steps.{AKey, Does, Judges, Reads, Refuses, Shows}
+use Rattle.ascend_top.specs.Parts.{IsProgramOf}
 use Rattle.ascend_top.specs.declared.refusal.Source.TheVariants.{Key as KeyFile}
 use Rattle.ascend_top.proofs.EndLaws.{program_files}
 use Rattle.ascend_top.proofs.RunLaws.{begins}
@@ -57,4 +58,5 @@ returns-in-Ok-read_program-clause-begin g c =
     c.in-Ok-read_key.ensures.length
     (λ files told. subst (λ name. c.in-Ok-read_key.key ≡ bytes_in files name) c.file_of-key.ensures
     (c.in-Ok-read_key.ensures.key files (c.in-Ok-read_key.ensures.read.files ∙ told)))
-    (λ files told. c.in-Ok-read_program.ensures.told files (later ∙ c.in-Ok-read_key.ensures.read.files ∙ told))
+    (subst (λ told. Shows told (λ files. Shows told (λ after. IsProgramOf given files after c.in-Ok-read_program.program)))
+    (later ∙ c.in-Ok-read_key.ensures.read.files) c.in-Ok-read_program.ensures.told)

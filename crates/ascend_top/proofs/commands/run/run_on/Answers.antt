@@ -1,14 +1,18 @@
-use Rattle.std.proofs.Common.{◌≡◌, ◌⊎◌, ℕ, List, IfOk, inl, inr, ap, subst}
+use Rattle.std.proofs.Common.{◌≡◌, ◌⊎◌, ℕ, List, None, IfOk, OnErr, inl, inr, ap, subst}
+use Rattle.asc_base.specs.declared.settings.Config.{Config}
+use Rattle.bucket_codec.specs.Pad.{pad_key}
 use Rattle.std.proofs.lemmas.Result.{IfOk-weaker}
-use Rattle.leaf_function.specs.Leaf.{Keyed, leaf}
+use Rattle.leaf_function.specs.Leaf.{Keyed, leaf, leaf_key}
 use Rattle.oram_contents.specs.Entries.{Keys}
 use Rattle.oram_contents.specs.Forgery.{Forgery}
-use Rattle.log_replay.specs.Judged.{SaysMirror}
+use Rattle.oram_lines.specs.Standing.{DrawnOnce}
+use Rattle.pmmac_tags.specs.Tag.{tag_key}
+use Rattle.log_replay.specs.Judged.{BreaksOffReading, SaysMirror, verdict_on}
 use Rattle.log_replay.specs.Order.{LogOrder}
-use Rattle.secure_machine.specs.Judged.{ShowsEnding, log_end}
+use Rattle.secure_machine.specs.Judged.{SaysWanting, ShowsEnding, log_end}
 use Rattle.secure_machine.specs.Run.{IsUnprepared, chip_keys}
 use Rattle.ascend_top.specs.EncryptedRun.{IsRunOf, keys_from, lent_as}
-use Rattle.ascend_top.proofs.RunLaws.{ran_of}
+use Rattle.ascend_top.proofs.RunLaws.{ran_of, wants_of}
 use Rattle.ascend_top.proofs.TraceLaws.{levels_few}
 use Rattle.ascend_top.proofs.commands.run.run_on.Goals as goal
 
@@ -18,26 +22,34 @@ new-leaf-requires-clause-some g c = (levels_few c.args.begin.now.program.config 
 pub new-leaf-requires-clause-most : goal.new-leaf-requires-clause-most
 new-leaf-requires-clause-most g c = (levels_few c.args.begin.now.program.config c.requires.config).1
 
+-- the keys of the chip are those that the master key gives
+keys_are : (key : List ℕ) (config : Config) (pads tags : List ℕ) (keyed : Keyed) → pads ≡ pad_key key
+    → tags ≡ tag_key key → keyed ≡ record { key = leaf_key key; levels = config.shape.levels }
+    → chip_keys config pads tags (leaf keyed.key keyed.levels) ≡ keys_from config key
+keys_are key config pads tags keyed pads_are tags_are keyed_is =
+    let leaf_is = ap (λ (k : Keyed). leaf k.key k.levels) keyed_is in
+    λ i. record {
+      shape = config.shape;
+      pads = pads_are i;
+      tags = tags_are i;
+      leaf_of = leaf_is i;
+    }
+
 pub returns-clause-ran : goal.returns-clause-ran
 returns-clause-ran g c =
     let program = c.args.begin.now.program in
     let key = c.args.begin.now.key in
     let lent = lent_as (g.M.UntrustedMemory.state c.args.bus.now.memory.now)
     (g.M.UntrustedMemory.state c.run.new.bus.memory.now) c.args.bus.now.tap.now c.run.new.bus.tap.now in
-    let same : chip_keys program.config c.new-codec.result c.new-tagger.result
-    (leaf c.new-leaf.result.key c.new-leaf.result.levels) ≡ keys_from program.config key =
-    let leaf_is = ap (λ (k : Keyed). leaf k.key k.levels) c.new-leaf.ensures in
-    λ i. record {
-      shape = program.config.shape;
-      pads = c.new-codec.ensures i;
-      tags = c.new-tagger.ensures i;
-      leaf_of = leaf_is i;
-    } in
+    let same = keys_are key program.config c.new-codec.result c.new-tagger.result c.new-leaf.result
+    c.new-codec.ensures c.new-tagger.ensures c.new-leaf.ensures in
     subst (λ (input : List ℕ). IfOk c.run.result (IsRunOf program.config program.image input key lent))
     c.as_slice.ensures.value
     (ran_of program.config program.image c.as_slice.result.now key lent c.run.ensures.bits c.run.ensures.faults
     c.run.ensures.budget c.run.ensures.asked c.run.ensures.unaltered c.run.ensures.leaves
-    (subst (λ (z : Keys). LogOrder z lent.tap'.log) same c.run.ensures.order) c.run.result c.run.ensures.pace
+    (subst (λ (z : Keys). LogOrder z lent.tap'.log) same c.run.ensures.order)
+    (subst (λ (z : Keys). Forgery z lent.tap'.log ⊎ DrawnOnce lent.tap'.log.events) same c.run.ensures.points)
+    c.run.result c.run.ensures.pace
     c.run.ensures.last c.run.ensures.real c.run.ensures.dummies c.run.ensures.tied c.run.ensures.device
     c.run.ensures.right c.run.ensures.choices c.run.ensures.code c.run.ensures.fetches c.run.ensures.spent
     c.run.ensures.flat_unaltered c.run.ensures.honest
@@ -53,4 +65,24 @@ returns-clause-ran g c =
     (IfOk-weaker c.run.result _ _ (λ report. subst (λ (z : Keys). ShowsEnding z program.config.stash report.ending
     lent.tap'.log) same) c.run.ensures.verdict)
     (IfOk-weaker c.run.result _ _ (λ report. subst (λ (z : Keys). SaysMirror z lent.tap'.log (log_end report.ending)
-    lent.tap'.mirror ⊎ IsUnprepared report lent.tap lent.tap') same) c.run.ensures.contents))
+    lent.tap'.mirror ⊎ IsUnprepared report lent.tap lent.tap') same) c.run.ensures.contents)
+    c.run.ensures.told c.run.ensures.count c.run.ensures.time_up)
+
+pub returns-clause-wanting : goal.returns-clause-wanting
+returns-clause-wanting g c =
+    let program = c.args.begin.now.program in
+    let key = c.args.begin.now.key in
+    let lent = lent_as (g.M.UntrustedMemory.state c.args.bus.now.memory.now)
+    (g.M.UntrustedMemory.state c.run.new.bus.memory.now) c.args.bus.now.tap.now c.run.new.bus.tap.now in
+    let same = keys_are key program.config c.new-codec.result c.new-tagger.result c.new-leaf.result
+    c.new-codec.ensures c.new-tagger.ensures c.new-leaf.ensures in
+    wants_of program.config program.image program.input.items key lent c.run.ensures.bits c.run.ensures.faults
+    c.run.ensures.budget c.run.ensures.asked c.run.ensures.unaltered c.run.ensures.leaves
+    (subst (λ (z : Keys). LogOrder z lent.tap'.log) same c.run.ensures.order)
+    (subst (λ (z : Keys). Forgery z lent.tap'.log ⊎ DrawnOnce lent.tap'.log.events) same c.run.ensures.points)
+    c.run.result c.run.ensures.pace_err
+    c.run.ensures.end_err c.run.ensures.tied_err
+    (subst (λ (z : Keys). OnErr c.run.result ((verdict_on z program.config.stash lent.tap'.log ≡ None)
+    ⊎ BreaksOffReading z program.config.stash lent.tap'.log)) same c.run.ensures.verdict_err)
+    (subst (λ (z : Keys). OnErr c.run.result (SaysWanting z lent.tap'.log lent.tap'.mirror ⊎ (lent.tap' ≡ lent.tap)))
+    same c.run.ensures.contents_err) c.run.ensures.count_err
