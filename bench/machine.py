@@ -78,7 +78,7 @@ def openssl_bytes(name, size):
 
 
 def limit(levels):
-    """How many slots a second the hashes and the pads of a slot alone would allow: it opens and seals a path's buckets."""
+    """How many slots a second their hashes and pads alone would allow, of a path that is opened and sealed."""
     hashing, padding = openssl_bytes("sha256", 64 * HASHED), openssl_bytes("chacha20", PADDED)
     if not hashing or not padding:
         return None

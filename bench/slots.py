@@ -1,11 +1,11 @@
 #!/usr/bin/python3
-"""Runs a program that misses the cache at each turn over trees of 5, 13 and 17 levels, and prints for each how many slots a
-second that makes, beside how many the hashes and pads of such a slot alone would allow by openssl's SHA-256 and ChaCha20 on
-this machine, and their ratio.
+"""Runs a program that misses the cache at each turn over trees of 5, 13 and 17 levels, and prints for each how many
+slots a second that makes, beside how many the hashes and pads of such a slot alone would allow by openssl's SHA-256 and
+ChaCha20 on this machine, and their ratio.
 
-The slots are 64 cycles apart, the least that the settings take. Times are user times, and each speed is that between a short
-run and a long one, so that neither the start nor the making of the tree counts. `rt` must be on the path: it proves and
-builds the program first. The one argument is how many slots the long run has, 20000 where there is none.
+The slots are 64 cycles apart, the least that the settings take. Times are user times, and each speed is that between a
+short run and a long one, so that neither the start nor the making of the tree counts. `rt` must be on the path: it
+proves and builds the program first. The one argument is how many slots the long run has, 20000 where there is none.
 """
 import os
 import sys

@@ -1,6 +1,6 @@
 #!/usr/bin/env python3
-"""Runs the longest program that `gen` makes, of 65,536 words of data, with the default settings: it fits their time, and
-the four bytes that it writes are the hash of its words, which this script computes by itself.
+"""Runs the longest program that `gen` makes, of 65,536 words of data, with the default settings: it fits their time,
+and the four bytes that it writes are the hash of its words, which this script computes by itself.
 
 The seed is 7, or the one argument. `rt` must be on the path: it proves and builds the program first. The run takes some
 minutes, so no test of the crates does it.

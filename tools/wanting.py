@@ -1,13 +1,12 @@
 #!/usr/bin/env python3
-"""Runs the program with each of its requests for memory refused in turn, and says whether each run ends with status 11 and
-prints nothing.
+"""Runs the program with each of its requests for memory refused in turn, and says whether each run ends with status 11
+and prints no report.
 
-It tries three runs, whose settings and words are in `RUNS`: a load whose line is fetched over encrypted memory, in four
-accesses; a loop whose time is up after eight dummies; and a made program of one word of data. For each, `rt try
---fail-alloc N` in crates/ascend refuses the request numbered N, for N = 1, 2 and so on, until a run ends as the one without
-a refusal does, with no request left to refuse. `rt` must be on the path; it proves nothing here. A run takes as long as `rt
-try` needs to build, so the whole takes a while, and no test of the crates does it. `--most N` stops after so many numbers of
-each run.
+It tries three runs, whose words are in `RUNS`: a load whose line is fetched over encrypted memory, in four accesses; a
+loop whose time is up after eight dummies; and a made program of one word of data. For each, `rt try --fail-alloc N` in
+crates/ascend refuses the request numbered N, for N = 1, 2 and so on, until a run ends as the one without a refusal does,
+with no request left to refuse. `rt` must be on the path; it proves nothing here. A run takes as long as `rt try` needs to
+build, so the whole takes a while, and no test of the crates does it. `--most N` stops after so many numbers of each run.
 """
 import argparse
 import os
@@ -55,12 +54,12 @@ def tried(name, words, wanted, most):
     for number in range(1, most + 1):
         status, printed = ended(words, number)
         if (status, printed) == plain:
-            print(f"{name}: {number - 1} requests, each refused in turn: status {NO_MEMORY}, and nothing printed")
+            print(f"{name}: {number - 1} requests, each refused in turn: status {NO_MEMORY}, and no report")
             return True
         if status != NO_MEMORY or "end " in printed:
             print(f"{name}: with request {number} refused: status {status}, printed {printed!r}")
             return False
-    print(f"{name}: the first {most} requests, each refused in turn: status {NO_MEMORY}, and nothing printed")
+    print(f"{name}: the first {most} requests, each refused in turn: status {NO_MEMORY}, and no report")
     return True
 
 
