@@ -19,8 +19,8 @@ LEVELS = 13  # of the default shape
 
 # Blocks of SHA-256 in a slot whose block is found and put back: a leaf of two, and two tags of three each.
 HASHED = 2 + 3 + 3
-# Bytes under a pad in a slot: the buckets of a path, each opened and sealed.
-PADDED = 2 * (LEVELS + 1) * 368
+# Bytes under a pad in a bucket.
+PADDED = 368
 
 
 def immediate(funct3, rd, rs1, imm, opcode=0x13):
@@ -77,12 +77,18 @@ def openssl_bytes(name, size):
     return float(found[-1]) * 1000 if found else 0.0
 
 
-def limit():
-    """How many slots a second the hashes and the pads of a slot alone would allow."""
-    hashing, padding = openssl_bytes("sha256", 64 * HASHED), openssl_bytes("chacha20", 368)
+def limit(levels):
+    """How many slots a second their hashes and pads alone would allow, of a path that is opened and sealed."""
+    hashing, padding = openssl_bytes("sha256", 64 * HASHED), openssl_bytes("chacha20", PADDED)
     if not hashing or not padding:
         return None
-    return 1 / (64 * HASHED / hashing + PADDED / padding)
+    return 1 / (64 * HASHED / hashing + 2 * (levels + 1) * PADDED / padding)
+
+
+def build():
+    """Builds the program, and says where it is."""
+    subprocess.run(["rt", "run"], cwd=ASCEND, check=False, stdout=subprocess.DEVNULL)
+    return os.path.join(ASCEND, "out", "ascend")
 
 
 def show(name, report, seconds, held):
@@ -101,9 +107,7 @@ def main():
             with open(files[name], "wb") as file:
                 file.write(data)
         words = [f"key={files['key']}", f"output={files['output']}"]
-        first = ["run", f"elf={files['compute']}", *words, "budget=1"]
-        subprocess.run(["rt", "run", "--", *first], cwd=ASCEND, check=False, stdout=subprocess.DEVNULL)
-        program = os.path.join(ASCEND, "out", "ascend")
+        program = build()
         for name in ("compute", "walk"):
             elf_word = f"elf={files[name]}"
             for rates in ([], ["rates=64", "first=0", "leak=0"]):
@@ -111,8 +115,9 @@ def main():
                 show(f"{name}, {' '.join(rates) or 'default rates'}", *timed(command))
             flat = [program, "flat", elf_word, f"output={files['output']}", "budget=100000000"]
             show(f"{name}, flat", *timed(flat))
-        allowed = limit()
+        allowed = limit(LEVELS)
         print("openssl: not installed" if allowed is None else f"hashes and pads alone: {allowed:.0f} slots a second")
 
 
-main()
+if __name__ == "__main__":
+    main()

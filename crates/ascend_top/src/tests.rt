@@ -237,45 +237,62 @@ fn commands_end(rt: HostRuntime) -> Result<(), Fail> {
     Ok(())
 }
 
-/// Programs, and how their runs end.
-const PROGRAMS: [(&[u32], u8, &str); 5] = [
+/// Programs with the text that is behind them, and how their runs end, and their output.
+const PROGRAMS: [(&[u32], &str, u8, &str, &str); 6] = [
     (
         &[0x0070_0513, 0x05d0_0893, 0x0000_0073],
+        "",
         0,
         "end exit 7\ninstructions 3\n",
+        "",
+    ),
+    (
+        &HELLO,
+        "hello\n",
+        0,
+        "end exit 0\ninstructions 9\n",
+        "hello\n",
     ),
     (
         &[0x0000_0013, 0xffff_ffff],
+        "",
         1,
         "end trap Illegal 65540\ninstructions 1\n",
+        "",
     ),
     // addi x5, x0, 2; jalr x0, 0(x5)
     (
         &[0x0020_0293, 0x0002_8067],
+        "",
         1,
         "end trap FetchMisaligned 65540\ninstructions 1\n",
+        "",
     ),
     // lui x5, 0x100; lw x6, 0(x5)
     (
         &[0x0010_02b7, 0x0002_a303],
+        "",
         1,
         "end trap LoadFault 65540\ninstructions 1\n",
+        "",
     ),
     (
         &[0x0010_0073],
+        "",
         1,
         "end trap Breakpoint 65536\ninstructions 0\n",
+        "",
     ),
 ];
 
 #[test]
 fn runs_end(rt: HostRuntime) -> Result<(), Fail> {
     let alloc = rt.alloc();
-    for (program, status, printed) in PROGRAMS {
-        let file = elf(alloc, program, "")?;
+    for (program, text, status, printed, output) in PROGRAMS {
+        let file = elf(alloc, program, text)?;
         let mut host = host(alloc, &[], file.as_slice())?;
         let line = "flat elf=a output=o";
-        compare(&rt, alloc, line, &mut host, status, printed, Some(""))?;
+        compare(&rt, alloc, line, &mut host, status, printed, Some(output))?;
     }
     Ok(())
 }

@@ -95,7 +95,10 @@ fn compare_mirror(
             _ => codec.seal(level as u64 + 1, &[None; 4], &mut text),
         }
         if level < count {
-            assert!(rt; tap.changed.get(level) == Some(&(path[level], text)), "level {level}");
+            assert!(rt;
+                tap.changed.get(level) == Some(&(path[level], text)),
+                "level {level}"
+            );
         }
     }
 }

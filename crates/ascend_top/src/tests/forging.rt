@@ -6,7 +6,7 @@ ghost use Rattle.bus_watch.specs.Log.{fresh_tap};
 
 use super::running::report;
 use super::*;
-use asc_base::{Address, Counter, Entry, Line, Message, Shape};
+use asc_base::{Address, Counter, Entry, Line, Message, Point, Shape};
 use asc_outside::{BUCKET_BYTES, Failed, MemStop};
 use bucket_codec::Codec;
 use bus_watch::{Event, Log};
@@ -117,13 +117,61 @@ impl UntrustedMemory for Forging {
     }
 }
 
-/// The messages that were accepted and never tagged before, in order.
-fn forgeries(alloc: Global, log: &Log) -> Result<Vec<Message>, AllocError> {
+/// The message has the point that was drawn last.
+fn is_last_drawn(events: &[Event], message: &Message) -> bool {
+    let mut last = None;
+    for event in events {
+        if let Event::Drawn { point, .. } = event {
+            last = Some(*point);
+        }
+    }
+    last == Some(Point::Real(message.address, message.counter))
+}
+
+/// The message's address and line and this tag are in a slot of a reply that was altered before so many events.
+fn stood(
+    log: &Log,
+    codec: &Codec,
+    shape: &Shape,
+    events: u64,
+    message: &Message,
+    tag: &[u8; 16],
+) -> bool {
+    for reply in &log.altered {
+        if reply.before > events {
+            continue;
+        }
+        let Ok(slots) = codec.open(&reply.bytes, shape) else {
+            continue;
+        };
+        for entry in slots.iter().flatten() {
+            if (entry.address, entry.line, entry.tag) == (message.address, message.line, *tag) {
+                return true;
+            }
+        }
+    }
+    false
+}
+
+/// The messages that a log shows as forged, in order, where the memory has this key and shape: accepted under the point
+/// drawn last and with a valid tag, never tagged before, and in a slot of an altered reply before.
+fn forgeries(
+    alloc: Global,
+    key: &[u8; 32],
+    shape: &Shape,
+    log: &Log,
+) -> Result<Vec<Message>, AllocError> {
+    let (codec, tagger) = (Codec::new(key), Tagger::new(key));
     let events = log.events.as_slice();
     let mut found = Vec::new(alloc);
     for place in 0..events.len() {
-        if let Event::Accepted { message, .. } = events[place] {
-            if !events[..place].contains(&Event::Tagged { message }) {
+        if let Event::Accepted { message, tag } = events[place] {
+            let earlier = &events[..place];
+            if !earlier.contains(&Event::Tagged { message })
+                && is_last_drawn(earlier, &message)
+                && tagger.holds(&message, &tag)
+                && stood(log, &codec, shape, place as u64, &message, &tag)
+            {
                 found.push(message)?;
             }
         }
@@ -187,10 +235,11 @@ fn store_over<R: Abort, M: UntrustedMemory>(
 #[test]
 fn stored_lines_are_loaded(rt: HostRuntime) -> Result<(), Fail> {
     let alloc = rt.alloc();
+    let shape = Shape::new(64, 16).ok_or("shape")?;
     let mut memory = HonestMemory::new(alloc);
     let mut tap = Recorder::new(alloc);
     store_over(&rt, alloc, &mut memory, &mut tap, 0, "ST")?;
-    assert!(rt; forgeries(alloc, tap.log())?.is_empty());
+    assert!(rt; forgeries(alloc, &[7; 32], &shape, tap.log())?.is_empty());
     Ok(())
 }
 
@@ -205,7 +254,7 @@ fn forged_lines_are_loaded(rt: HostRuntime) -> Result<(), Fail> {
     store_over(&rt, alloc, &mut memory, &mut tap, 2, "FG")?;
     let mut line = Line([0; 64]);
     line.0[0] = b'F';
-    let found = forgeries(alloc, tap.log())?;
+    let found = forgeries(alloc, &[7; 32], &shape, tap.log())?;
     for (place, own) in [(0, 1), (1, 2)] {
         let message = Message {
             address: Address(1),

@@ -15,12 +15,7 @@ fn file_at(rt: &impl Abort, alloc: Global, text: &str, at: u32) -> Result<Vec<u8
 }
 
 /// Each text stands for these words, where it begins at this place.
-fn assembled(
-    rt: &impl Abort,
-    alloc: Global,
-    at: u32,
-    rows: &[(&str, &[u32])],
-) -> Result<(), Fail> {
+fn assembled(rt: &impl Abort, alloc: Global, at: u32, rows: &[(&str, &[u32])]) -> Result<(), Fail> {
     for (text, words) in rows {
         let file = file_at(rt, alloc, text, at)?;
         let mut wanted = Vec::new(alloc);
@@ -142,11 +137,7 @@ fn programs(rt: HostRuntime) -> Result<(), Fail> {
             &[0x0000_0000, 0x0000_02b7, 0x7ff2_8293],
         ),
         (2_048, "a: la x5, a", &[0x0000_12b7, 0x8002_8293]),
-        (
-            4_294_899_712,
-            "a: la x5, a",
-            &[0xffff_02b7, 0x8002_8293],
-        ),
+        (4_294_899_712, "a: la x5, a", &[0xffff_02b7, 0x8002_8293]),
     ];
     for (at, text, words) in labels {
         assembled(&rt, rt.alloc(), at, &[(text, words)])?;
