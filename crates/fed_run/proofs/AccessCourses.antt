@@ -109,7 +109,8 @@ line_and_place base address = omega arith
 abbrev built : ℕ → Feed → LineUse → List ℕ × List NotedLine → Feed
 built ways feed use_of r = record { memory = r.0; sets = sets_after ways feed.sets use_of; left = r.1 }
 
-load-out : (base ways : ℕ) (feed : Feed) (address count : ℕ) (left : List Kept) (r : Result (List ℕ × List NotedLine) Unfed)
+load-out : (base ways : ℕ) (feed : Feed) (address count : ℕ) (left : List Kept)
+    (r : Result (List ℕ × List NotedLine) Unfed)
     → let line : ℕ = line_at base address in let use_of : LineUse = record { line = line; kind = Read } in
     after_course (with_kept feed.sets line)
     (λ (z : List Kept × List ℕ) (rest : List NotedLine).

@@ -124,7 +124,8 @@ cut-on ways n machine feed step (Trap kind pc) is ends rest =
     no-instruction ways machine feed (fed_on (fed_run ways n) step (Trap kind pc)) refl
     ((step-leaves ways machine feed step is).1 kind pc ends)
 
-cut-from : (ways n : ℕ) (machine : Machine) (feed : Feed) (step : Result FedStep Unfed) → fed_step ways machine feed ≡ step
+cut-from : (ways n : ℕ) (machine : Machine) (feed : Feed) (step : Result FedStep Unfed)
+    → fed_step ways machine feed ≡ step
     → ((s : FedStep) → IsCut ways s.machine s.feed (fed_run ways n s.machine s.feed))
     → IsCut ways machine feed (fed_from (fed_run ways n) machine feed step)
 cut-from ways n machine feed (Err NoneLeft) is each =
@@ -174,7 +175,8 @@ output-on ways n machine step No first rest =
 output-on ways n machine step (Exit status) first rest = first
 output-on ways n machine step (Trap kind pc) first rest = first
 
-output-from : (ways n : ℕ) (machine : Machine) (feed : Feed) (step : Result FedStep Unfed) → fed_step ways machine feed ≡ step
+output-from : (ways n : ℕ) (machine : Machine) (feed : Feed) (step : Result FedStep Unfed)
+    → fed_step ways machine feed ≡ step
     → ((s : FedStep) → Begins (fed_run ways n s.machine s.feed).machine.files.output s.machine.files.output)
     → Begins (fed_from (fed_run ways n) machine feed step).machine.files.output machine.files.output
 output-from ways n machine feed (Err NoneLeft) is each = same-output machine.files.output

@@ -1,6 +1,6 @@
 -- A use of a line that is fed: what it changes, and that it can go before or behind a write to another line.
-use Rattle.std.proofs.Common.{◌≡◌, ◌⊎◌, ℕ, ◌+◌, ◌*◌, ◌≤◌, Bool, true, false, List, [], ◌∷◌, ◌++◌, Result, Ok, Err, ◌==◌, if◌then◌else◌}
-use Rattle.std.proofs.Common.{length, refl, ap, ◌∙◌, arith, inl, inr}
+use Rattle.std.proofs.Common.{◌≡◌, ◌⊎◌, ℕ, ◌+◌, ◌*◌, ◌≤◌, Bool, true, false, List, [], ◌∷◌, ◌++◌, Result, Ok, Err}
+use Rattle.std.proofs.Common.{◌==◌, if◌then◌else◌, length, refl, ap, ◌∙◌, arith, inl, inr}
 use Rattle.rv32_core.specs.Access.{slice_of, spliced, length-spliced}
 use Rattle.rv32_core.specs.LineList.{LineUse}
 use Rattle.data_cache.specs.CacheLists.{sets_after}
@@ -44,7 +44,8 @@ abbrev after_line : ℕ → Feed → LineUse → List ℕ × List NotedLine → 
 after_line ways feed use_of r = record { memory = r.0; sets = sets_after ways feed.sets use_of; left = r.1 }
 
 module _ (size ways : ℕ) (feed : Feed) (use_of : LineUse) where
-  cases : (P : Result Feed Unfed → Type 0) → length feed.memory ≡ size → 64 * use_of.line + 64 ≤ size → ((why : Unfed) → P (Err why))
+  cases : (P : Result Feed Unfed → Type 0) → length feed.memory ≡ size → 64 * use_of.line + 64 ≤ size
+      → ((why : Unfed) → P (Err why))
       → ((now : Feed) → IsFeed size now → Patched use_of.line feed.memory now.memory → P (Ok now))
       → (left : List NotedLine) → AreLines left → (b : Bool)
       → P (fed_map (after_line ways feed use_of) (fed_line feed.memory use_of.line left b))
@@ -65,7 +66,8 @@ module _ (size ways : ℕ) (feed : Feed) (use_of : LineUse) where
           }) (inr (noted.bytes, whole, refl))
 
   -- What holds where no line is fed, and of each feed that a use may leave, holds of what it leaves.
-  pub use-cases : (P : Result Feed Unfed → Type 0) → IsFeed size feed → 64 * use_of.line + 64 ≤ size → ((why : Unfed) → P (Err why))
+  pub use-cases : (P : Result Feed Unfed → Type 0) → IsFeed size feed → 64 * use_of.line + 64 ≤ size
+      → ((why : Unfed) → P (Err why))
       → ((now : Feed) → IsFeed size now → Patched use_of.line feed.memory now.memory → P (Ok now))
       → P (fed_use ways feed use_of)
   use-cases P is room none some = cases P is.long room none some feed.left is.lines (asks feed.sets use_of)

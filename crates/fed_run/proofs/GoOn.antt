@@ -1,6 +1,6 @@
 -- Runs that are fed go on, and with more lines they go on further.
-use Rattle.std.proofs.Common.{◌≡◌, ℕ, zero, suc, ◌+◌, Bool, true, false, ◌*◌, ◌==◌, if◌then◌else◌, List, [], ◌∷◌, ◌++◌, Result}
-use Rattle.std.proofs.Common.{Ok, Err, refl, sym, ap, arith, ◌∙◌}
+use Rattle.std.proofs.Common.{◌≡◌, ℕ, zero, suc, ◌+◌, Bool, true, false, ◌*◌, ◌==◌, if◌then◌else◌, List, [], ◌∷◌, ◌++◌}
+use Rattle.std.proofs.Common.{Result, Ok, Err, refl, sym, ap, arith, ◌∙◌}
 use Rattle.std.specs.Int.{from_le_bytes, w32}
 use Rattle.rv32_core.specs.Access.{spliced}
 use Rattle.rv32_core.specs.FlatMachine.{bytes_at, effected, trap_at}

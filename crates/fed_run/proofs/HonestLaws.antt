@@ -48,7 +48,8 @@ line-honest memory line rest true room =
 
 use-honest : (ways : ℕ) (memory : List ℕ) (sets : Sets) (first : LineUse) (rest : List NotedLine)
     → 64 * first.line + 64 ≤ length memory
-    → fed_use ways (fed_by memory sets ((if asks sets first then numbered first.line (line_in memory first.line) ∷ [] else []) ++ rest)) first
+    → fed_use ways (fed_by memory sets
+    ((if asks sets first then numbered first.line (line_in memory first.line) ∷ [] else []) ++ rest)) first
     ≡ Ok (fed_by memory (sets_after ways sets first) rest)
 use-honest ways memory sets first rest room =
     ap (fed_map (λ (r : List ℕ × List NotedLine). fed_by (r.0) (sets_after ways sets first) (r.1)))

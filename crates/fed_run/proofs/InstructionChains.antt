@@ -1,6 +1,6 @@
 -- An instruction of a core over a cache, by a chain of a store's steps, is that of the machine that is fed with the
 -- lines that the store answered.
-use Rattle.std.proofs.Common.{◌≡◌, ℕ, ◌*◌, ◌%◌, ◌<◌, ◌≤◌, List, ◌++◌, Result, Ok, Err, length, refl, sym}
+use Rattle.std.proofs.Common.{◌≡◌, ℕ, ◌*◌, ◌%◌, ◌<◌, ◌≤◌, List, ◌++◌, Result, Ok, Err, length, sym}
 use Rattle.std.proofs.Common.{ap, subst, arith, ◌∙◌}
 use Rattle.std.proofs.lemmas.List.{length-map}
 use Rattle.request_plan.specs.Plan.{Plan, Ends, Stops, through, Asks, Alike}
@@ -43,8 +43,8 @@ none-of : (step : Result FedStep Unfed) → (why : Unfed) → fed_map parts step
 none-of (Err other) why e = let same : other ≡ why = Prim.cc in ap (λ (z : Unfed). Err z) same
 none-of (Ok s) why e = Prim.cc
 
-starved-none : {C A : Type 0} (c : Course NotedLine LineRequest C (Lines × A)) (fed : Result (A × Feed) Unfed) → IsStarved c
-    → IsFed c fed → fed ≡ Err NoneLeft
+starved-none : {C A : Type 0} (c : Course NotedLine LineRequest C (Lines × A)) (fed : Result (A × Feed) Unfed)
+    → IsStarved c → IsFed c fed → fed ≡ Err NoneLeft
 starved-none (Finished out items) fed h is = absurd h
 starved-none (Starved q b) fed h is = is
 starved-none Astray fed h is = absurd h

@@ -1,6 +1,6 @@
 -- A chain of a store's steps that notes the lines it answers: its plan is run on exactly these, and they are lines.
-use Rattle.std.proofs.Common.{◌≡◌, ℕ, ◌==◌, Bool, true, false, if◌then◌else◌, List, [], ◌∷◌, ◌++◌, Some, None, Result, Ok}
-use Rattle.std.proofs.Common.{length, refl, sym, ap, subst, inl, inr, ◌∙◌, eq-eqb}
+use Rattle.std.proofs.Common.{◌≡◌, ℕ, ◌==◌, Bool, true, false, if◌then◌else◌, List, [], ◌∷◌, ◌++◌, Some, None, Result}
+use Rattle.std.proofs.Common.{Ok, length, refl, sym, ap, subst, inl, inr, ◌∙◌, eq-eqb}
 use Rattle.std.proofs.Common.{append_assoc, append-nil}
 use Rattle.request_plan.specs.Plan.{Plan, Done, Ask, Ends, Stops}
 use Rattle.request_plan.specs.Course.{Course, Finished, Starved, Astray, after_read, after_source, after_course, course}

@@ -11,8 +11,8 @@ use Rattle.fed_run.specs.Fed.{writing_line, eight_bytes, numbered, fed_step, Ano
 
 -- It is fed with line 1 and then with line 0, and exits.
 pub fed-exits : let run = fed_run 1 9 (machine_at_start 0 0 128 0 [] output_limit)
-    (over_image_line (numbered 1 (replicate 64 7) ∷ numbered 0 program_line ∷ [])) in (run.ending ≡ Ends (Exited 0)) × (run.instructions ≡ 3)
-    × (run.feed.left ≡ [])
+    (over_image_line (numbered 1 (replicate 64 7) ∷ numbered 0 program_line ∷ [])) in
+    (run.ending ≡ Ends (Exited 0)) × (run.instructions ≡ 3) × (run.feed.left ≡ [])
 unfolding fed_run lines_from decoded table register_meaning load_meaning
 fed-exits = (refl, refl, refl)
 

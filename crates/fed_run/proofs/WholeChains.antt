@@ -207,8 +207,8 @@ module _ (count ways : ℕ) (image : List ℕ) (size : length image ≡ 64 * cou
         let ran = Stops-noted step line_source noted notes same (lists_image ways marked lists) s t e (other.0)
         (other.1) in
         let none : ran.0 ≡ [] =
-        subst (λ (c : Course NotedLine LineRequest Sets Lines). UsesAll c) (image-course marked lists (ran.0) below long)
-        (ran.2) in
+        subst (λ (c : Course NotedLine LineRequest Sets Lines). UsesAll c) (image-course marked lists (ran.0) below
+        long) (ran.2) in
         ran.1 ∙ ap (λ l. noted s ++ l) none ∙ append-nil (noted s)
 
 -- ---- what the instructions ask

@@ -1,7 +1,7 @@
 //! What a core over a cache computes on: the flat machine, fed with the lines that the store answered.
 //!
 //! `specs/Fed.antt` has the flat run taken use by use of its lines, where each line for which the cache's lists ask a
-//! fetch first takes its bytes from the next of a list of lines, whatever they are, where it has that line's number. The
+//! fetch first takes its bytes from the next of a list of lines, whatever they are, where that has its number. The
 //! crate has laws alone; the calls do nothing.
 #![tactic(auto)]
 
@@ -43,8 +43,8 @@ pub fn honest_lines_give_the_flat_run()
 
 /// Worked rows over one set of one way, whose image line has the program `lw x5, 64(x0); addi x17, x0, 93; ecall`: line
 /// 1 is fetched, and then line 0 again. With both it exits, and with the first alone it starves in its second
-/// instruction. Where another line's number stands in a line's place, the bytes aren't taken: the instruction is refused,
-/// and that line is left.
+/// instruction. Where another line stands in the place of the one that is asked for, its bytes aren't taken: it is
+/// refused, and left.
 pub fn worked_fed_runs()
     ensures exits { let run = fed_run 1 9 (machine_at_start 0 0 128 0 [] output_limit)
         (over_image_line (numbered 1 (replicate 64 7) ∷ numbered 0 program_line ∷ [])) in

@@ -7,8 +7,8 @@ ghost use Rattle.fed_run.specs.Fed.{Feed, NotedLine, Ends, fed_step, fed_from, f
 ghost use Rattle.fed_run.specs.Fed.{run_with_more};
 
 /// A run that is fed is its first instruction and the run from there, and n instructions and then k more are n + k:
-/// where all n finished it goes on from there, and one that ended or starved stays as it is. Never more than n finish;
-/// and the run of as many instructions as a run finished is done with them, and leaves its machine.
+/// where all n finished it goes on from there, and one that ended, starved or refused a line stays as it is. Never more
+/// than n finish; and the run of as many instructions as a run finished is done with them, and leaves its machine.
 pub fn fed_runs_go_on()
     ensures none { (ways : ℕ) (machine : Machine) (feed : Feed)
         → fed_run ways 0 machine feed
