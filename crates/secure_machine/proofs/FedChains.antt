@@ -12,10 +12,11 @@ use Rattle.data_cache.specs.CacheLists.{Sets, Lines, line_in, sets_after}
 use Rattle.data_cache.specs.Contents.{Contents, write_line_plan}
 use Rattle.data_cache.specs.Lines.{LineRequest, Fetch, Store, IsLineAnswer}
 use Rattle.fed_run.specs.Answered.{line_source, AreLines, feed_of}
-use Rattle.fed_run.specs.Fed.{fed_step, sets_along}
+use Rattle.fed_run.specs.Fed.{NotedLine, numbered, fed_step, sets_along}
 use Rattle.fed_run.proofs.Feeds.{AreLines-append}
 use Rattle.fed_run.proofs.InstructionChains.{instruction-ends, instruction-stops}
 use Rattle.fed_run.proofs.KeptChains.{kept-line, kept-line-stop}
+use Rattle.fed_run.proofs.NotedLines.{own-read}
 use Rattle.oram_frontend.specs.Oram.{Fetch as OramFetch, Store as OramStore}
 use Rattle.request_plan.specs.Laws.{NotesAnswers, StopsUnnoted}
 use Rattle.request_plan.specs.Plan.{Plan, Ends, Stops, through}
@@ -54,11 +55,11 @@ module _ {M W L : Type 0} (memory_of : M → MemoryState) (tap_of : W → TapSta
   -- An answered fetch notes its line, and a store notes none.
   notes : NotesAnswers Step line_source (noted tap_of)
   notes s t (Fetch line) bytes (same, answered) = (
-    bytes,
+    numbered line bytes,
     fetch_lines (keys_in leaf_of s) (levels s) (timed_of memory_of tap_of s).oram (timed_of memory_of tap_of t).oram
         s.clock line (record { line = Some (record { 0 = bytes }); end = t.clock }) (record { 0 = bytes }) refl
         answered.0,
-    refl,
+    own-read line bytes,
   )
   notes s t (Store line value) bytes (same, answered) = (
     store_lines (keys_in leaf_of s) (levels s) (timed_of memory_of tap_of s).oram (timed_of memory_of tap_of t).oram
@@ -144,7 +145,7 @@ module _ {M W L : Type 0} (memory_of : M → MemoryState) (tap_of : W → TapSta
 
 -- ---- what a run tells, instruction by instruction
 -- lines noted after lines noted
-pub noted_then : (before middle after first rest : List (List ℕ)) → middle ≡ before ++ first → after ≡ middle ++ rest
+pub noted_then : (before middle after first rest : List NotedLine) → middle ≡ before ++ first → after ≡ middle ++ rest
     → after ≡ before ++ (first ++ rest)
 noted_then before middle after first rest one other =
     other ∙ (ap (λ l. l ++ rest) one ∙ append_assoc before first rest)
@@ -165,12 +166,12 @@ along_more ways sets (first ∷ marked) (suc at) line below is =
     (omega (arith, below)) is
 
 -- an instruction on just its lines
-pub alone : (ways : ℕ) (machine next : Machine) (lists now : Lines) (lines : List (List ℕ)) (done : Done)
-    → ((more : List (List ℕ)) → AreLines more
+pub alone : (ways : ℕ) (machine next : Machine) (lists now : Lines) (lines : List NotedLine) (done : Done)
+    → ((more : List NotedLine) → AreLines more
     → fed_step ways machine (feed_of lists (lines ++ more))
-    ≡ Some (record { machine = next; feed = feed_of now more; done = done }))
+    ≡ Ok (record { machine = next; feed = feed_of now more; done = done }))
     → fed_step ways machine (feed_of lists lines)
-    ≡ Some (record { machine = next; feed = feed_of now []; done = done })
+    ≡ Ok (record { machine = next; feed = feed_of now []; done = done })
 alone ways machine next lists now lines done step =
     ap (λ l. fed_step ways machine (feed_of lists l)) (sym (append-nil lines)) ∙ step [] tt
 
@@ -260,7 +261,7 @@ module _ {M W L : Type 0} (tap_of : W → TapState) where
   -- so many instructions finished, on just the lines that were answered
   abbrev pub FedSoFar : ℕ → ℕ → Machine → Lines → (s t : TimedLines M W L) → Contents → Machine → Type 0
   FedSoFar ways n machine lists s t cache next =
-      (lines : List (List ℕ)) × (now : Lines) × NotesMore tap_of s lines t × StandsAs t.count ways cache now
+      (lines : List NotedLine) × (now : Lines) × NotesMore tap_of s lines t × StandsAs t.count ways cache now
       × Reaches ways n machine lists lines next now
 
   pub fed_none : (ways : ℕ) (machine : Machine) (lists : Lines) (s t : TimedLines M W L) (cache : Contents)

@@ -1,12 +1,12 @@
 -- Runs of the machine that is fed, instruction by instruction, and how they end.
 use Rattle.std.proofs.Common.{◌≡◌, ◌≤◌, ◌+◌, ◌∙◌, ◌++◌, ℕ, zero, suc, Bool, true, false, if◌then◌else◌, List, [], ◌∷◌}
-use Rattle.std.proofs.Common.{Option, None, Some, refl, sym, ap, subst, arith, append_assoc}
+use Rattle.std.proofs.Common.{Result, Ok, Err, Some, refl, sym, ap, subst, arith, append_assoc}
 use Rattle.std.specs.Int.{from_le_bytes, w32}
-use Rattle.std.specs.Option.{option_and_then}
 use Rattle.asc_base.specs.declared.stop.Stop.{Stop}
 use Rattle.asc_base.specs.declared.stop.Stop.TheVariants as why
 use Rattle.data_cache.specs.CacheLists.{Lines, sets_after}
 use Rattle.fed_run.specs.Answered.{AreLines, feed_of}
+use Rattle.fed_run.specs.Fed.{NotedLine, Unfed, NoneLeft, AnotherLine, fed_then}
 use Rattle.fed_run.specs.Fed.{Feed, FedStep, FedRun, Ends as EndsAs, asks, fed_line, fed_use, fed_uses, fed_after}
 use Rattle.fed_run.specs.Fed.{fed_word, fed_step, fed_on, fed_from, fed_run, fed_before, fed_gone_on, one_before}
 use Rattle.fed_run.proofs.Feeds.{AreLines-append}
@@ -32,18 +32,18 @@ use Rattle.secure_machine.specs.declared.report.Ending.TheVariants.{Device}
 use Rattle.secure_machine.proofs.FlatLaws.{effected_trap}
 
 -- ---- where no line is left
-abbrev after_line : ℕ → Feed → LineUse → List ℕ × List (List ℕ) → Feed
+abbrev after_line : ℕ → Feed → LineUse → List ℕ × List NotedLine → Feed
 after_line ways feed use_of r = record { memory = r.0; sets = sets_after ways feed.sets use_of; left = r.1 }
 
-line_none : (memory : List ℕ) (line : ℕ) (left : List (List ℕ)) (b : Bool) (r : List ℕ × List (List ℕ))
-    → fed_line memory line left b ≡ Some r → left ≡ [] → r.1 ≡ []
+line_none : (memory : List ℕ) (line : ℕ) (left : List NotedLine) (b : Bool) (r : List ℕ × List NotedLine)
+    → fed_line memory line left b ≡ Ok r → left ≡ [] → r.1 ≡ []
 line_none memory line left false r found none =
     let same : (memory, left) ≡ r = Prim.cc in
-    ap (λ (z : List ℕ × List (List ℕ)). z.1) (sym same) ∙ none
+    ap (λ (z : List ℕ × List NotedLine). z.1) (sym same) ∙ none
 line_none memory line [] true r found none = Prim.cc
-line_none memory line (bytes ∷ rest) true r found none = Prim.cc
+line_none memory line (noted ∷ rest) true r found none = Prim.cc
 
-use_none : (ways : ℕ) (feed now : Feed) (use_of : LineUse) → fed_use ways feed use_of ≡ Some now → feed.left ≡ []
+use_none : (ways : ℕ) (feed now : Feed) (use_of : LineUse) → fed_use ways feed use_of ≡ Ok now → feed.left ≡ []
     → now.left ≡ []
 use_none ways feed now use_of found none =
     let line = map-found (after_line ways feed use_of)
@@ -51,7 +51,7 @@ use_none ways feed now use_of found none =
     ap (λ (z : Feed). z.left) (sym line.2)
     ∙ line_none feed.memory use_of.line feed.left (asks feed.sets use_of) line.0 line.1 none
 
-uses_none : (ways : ℕ) (feed now : Feed) (uses : List LineUse) → fed_uses ways feed uses ≡ Some now → feed.left ≡ []
+uses_none : (ways : ℕ) (feed now : Feed) (uses : List LineUse) → fed_uses ways feed uses ≡ Ok now → feed.left ≡ []
     → now.left ≡ []
 uses_none ways feed now [] found none =
     let same : feed ≡ now = Prim.cc in ap (λ (z : Feed). z.left) (sym same) ∙ none
@@ -65,7 +65,7 @@ word_on machine word now =
     fed_after (effected machine now.memory (cost_of_word machine word) (effect_of_word machine word)) now.sets now.left
 
 word_none : (ways : ℕ) (machine : Machine) (word : ℕ) (feed : Feed) (step : FedStep)
-    → fed_word ways machine word feed ≡ Some step → feed.left ≡ [] → step.feed.left ≡ []
+    → fed_word ways machine word feed ≡ Ok step → feed.left ≡ [] → step.feed.left ≡ []
 word_none ways machine word feed step found none =
     let uses = map-found (word_on machine word) (fed_uses ways feed (word_lines machine word)) step found in
     ap (λ (z : FedStep). z.feed.left) (sym uses.2)
@@ -73,14 +73,14 @@ word_none ways machine word feed step found none =
 
 -- An instruction is a word that was fetched, or a trap; what holds in both cases holds.
 step_cases : (P : FedStep → Type 0) (ways : ℕ) (machine : Machine) (feed : Feed) (step : FedStep)
-    → ((now : Feed) (word : ℕ) → fed_use ways feed (fetch_line machine.core) ≡ Some now
-    → fed_word ways machine word now ≡ Some step → P step)
+    → ((now : Feed) (word : ℕ) → fed_use ways feed (fetch_line machine.core) ≡ Ok now
+    → fed_word ways machine word now ≡ Ok step → P step)
     → P (record { machine = machine; feed = feed; done = trap_at machine.core FetchFault })
     → (inside : Bool)
-    → (if inside then option_and_then
+    → (if inside then fed_then
     (λ (now : Feed). fed_word ways machine (from_le_bytes w32 (bytes_at machine now.memory machine.core.pc 4)) now)
     (fed_use ways feed (fetch_line machine.core))
-    else Some (record { machine = machine; feed = feed; done = trap_at machine.core FetchFault })) ≡ Some step
+    else Ok (record { machine = machine; feed = feed; done = trap_at machine.core FetchFault })) ≡ Ok step
     → P step
 step_cases P ways machine feed step whole outside true found =
     let now = then-found
@@ -92,7 +92,7 @@ step_cases P ways machine feed step whole outside false found =
     let same : trap ≡ step = Prim.cc in
     subst P same outside
 
-step_none : (ways : ℕ) (machine : Machine) (feed : Feed) (step : FedStep) → fed_step ways machine feed ≡ Some step
+step_none : (ways : ℕ) (machine : Machine) (feed : Feed) (step : FedStep) → fed_step ways machine feed ≡ Ok step
     → feed.left ≡ [] → step.feed.left ≡ []
 step_none ways machine feed step found none =
     step_cases (λ s. s.feed.left ≡ []) ways machine feed step
@@ -106,12 +106,13 @@ on_none rest step No here later = later
 on_none rest step (Exits-as status) here later = here
 on_none rest step (Traps-as kind pc) here later = here
 
-from_none : (ways n : ℕ) (machine : Machine) (feed : Feed) (step : Option FedStep) → fed_step ways machine feed ≡ step
-    → feed.left ≡ []
+from_none : (ways n : ℕ) (machine : Machine) (feed : Feed) (step : Result FedStep Unfed)
+    → fed_step ways machine feed ≡ step → feed.left ≡ []
     → ((m : Machine) (f : Feed) → f.left ≡ [] → (fed_run ways n m f).feed.left ≡ [])
     → (fed_from (fed_run ways n) machine feed step).feed.left ≡ []
-from_none ways n machine feed None is none each = refl
-from_none ways n machine feed (Some step) is none each =
+from_none ways n machine feed (Err NoneLeft) is none each = refl
+from_none ways n machine feed (Err AnotherLine) is none each = none
+from_none ways n machine feed (Ok step) is none each =
     let here = step_none ways machine feed step is none in
     on_none (fed_run ways n) step step.done.ended here (each step.machine step.feed here)
 
@@ -125,7 +126,7 @@ run_none ways (suc n) machine feed none =
 
 -- ---- an instruction that traps changes nothing
 word_trapped : (ways : ℕ) (machine : Machine) (word : ℕ) (feed : Feed) (step : FedStep) (kind : TrapKind) (pc : ℕ)
-    → fed_word ways machine word feed ≡ Some step → step.done.ended ≡ Traps-as kind pc → step.machine ≡ machine
+    → fed_word ways machine word feed ≡ Ok step → step.done.ended ≡ Traps-as kind pc → step.machine ≡ machine
 word_trapped ways machine word feed step kind pc found how =
     let uses = map-found (word_on machine word) (fed_uses ways feed (word_lines machine word)) step found in
     ap (λ (z : FedStep). z.machine) (sym uses.2)
@@ -133,7 +134,7 @@ word_trapped ways machine word feed step kind pc found how =
     (ap (λ (z : FedStep). z.done.ended) uses.2 ∙ how)
 
 step_trapped : (ways : ℕ) (machine : Machine) (feed : Feed) (step : FedStep) (kind : TrapKind) (pc : ℕ)
-    → fed_step ways machine feed ≡ Some step → step.done.ended ≡ Traps-as kind pc → step.machine ≡ machine
+    → fed_step ways machine feed ≡ Ok step → step.done.ended ≡ Traps-as kind pc → step.machine ≡ machine
 step_trapped ways machine feed step kind pc found =
     step_cases (λ s. s.done.ended ≡ Traps-as kind pc → s.machine ≡ machine) ways machine feed step
     (λ now word fetched rest how. word_trapped ways machine word now step kind pc rest how) (λ how. refl)
@@ -141,13 +142,13 @@ step_trapped ways machine feed step kind pc found =
 
 -- ---- what an instruction costs at most
 word_cheap : (ways : ℕ) (machine : Machine) (word : ℕ) (feed : Feed) (step : FedStep)
-    → fed_word ways machine word feed ≡ Some step → step.done.cost ≤ 34 + machine.core.size
+    → fed_word ways machine word feed ≡ Ok step → step.done.cost ≤ 34 + machine.core.size
 word_cheap ways machine word feed step found =
     let uses = map-found (word_on machine word) (fed_uses ways feed (word_lines machine word)) step found in
     subst (λ n. n ≤ 34 + machine.core.size) (ap (λ (z : FedStep). z.done.cost) uses.2)
     (word-low machine (uses.0).memory word)
 
-pub step_cheap : (ways : ℕ) (machine : Machine) (feed : Feed) (step : FedStep) → fed_step ways machine feed ≡ Some step
+pub step_cheap : (ways : ℕ) (machine : Machine) (feed : Feed) (step : FedStep) → fed_step ways machine feed ≡ Ok step
     → step.done.cost ≤ 34 + machine.core.size
 step_cheap ways machine feed step found =
     step_cases (λ s. s.done.cost ≤ 34 + machine.core.size) ways machine feed step
@@ -156,17 +157,18 @@ step_cheap ways machine feed step found =
 
 -- ---- one instruction
 -- a run begins with its first instruction
-first_step : (ways n : ℕ) (machine : Machine) (feed : Feed) (step : Option FedStep) → fed_step ways machine feed ≡ step
+first_step : (ways n : ℕ) (machine : Machine) (feed : Feed) (step : Result FedStep Unfed)
+    → fed_step ways machine feed ≡ step
     → fed_run ways (n + 1) machine feed ≡ fed_from (fed_run ways n) machine feed step
 first_step ways n machine feed step is =
     ap (λ k. fed_run ways k machine feed) (let e : n + 1 ≡ suc n = omega arith in e)
     ∙ (fed_run-suc ways n machine feed ∙ ap (fed_from (fed_run ways n) machine feed) is)
 
 first_ends : (ways n : ℕ) (machine : Machine) (feed : Feed) (step : FedStep) (ended : Ended)
-    → fed_step ways machine feed ≡ Some step → step.done.ended ≡ ended
+    → fed_step ways machine feed ≡ Ok step → step.done.ended ≡ ended
     → fed_run ways (n + 1) machine feed ≡ fed_on (fed_run ways n) step ended
 first_ends ways n machine feed step ended is how =
-    first_step ways n machine feed (Some step) is ∙ ap (fed_on (fed_run ways n) step) how
+    first_step ways n machine feed (Ok step) is ∙ ap (fed_on (fed_run ways n) step) how
 
 -- before the first instruction, where with it all lines are used
 nothing_yet : (ways : ℕ) (machine : Machine) (feed : Feed) → (fed_run ways (0 + 1) machine feed).feed.left ≡ []
@@ -197,17 +199,18 @@ pub unbegun_budget : (ways : ℕ) (machine : Machine) (feed : Feed) (until : ℕ
 unbegun_budget ways machine feed until none = (unbegun ways machine feed none, going_yet ways machine feed)
 
 -- The next instruction starves.
-pub starved_stops : (ways : ℕ) (machine : Machine) (feed : Feed) (stop : Stop) → fed_step ways machine feed ≡ None
+pub starved_stops : (ways : ℕ) (machine : Machine) (feed : Feed) (stop : Stop)
+    → fed_step ways machine feed ≡ Err NoneLeft
     → CauseFed ways 0 machine feed (Stops stop) machine
 starved_stops ways machine feed stop starves = (
   nothing_yet ways machine feed
-      (ap (λ (r : FedRun). r.feed.left) (first_step ways 0 machine feed None starves)),
+      (ap (λ (r : FedRun). r.feed.left) (first_step ways 0 machine feed (Err NoneLeft) starves)),
   going_yet ways machine feed,
 )
 
 -- It exits, and is finished.
 pub exit_ends : (ways : ℕ) (machine : Machine) (feed : Feed) (step : FedStep) (status until : ℕ)
-    → fed_step ways machine feed ≡ Some step → step.done.ended ≡ Exits-as status → step.feed.left ≡ []
+    → fed_step ways machine feed ≡ Ok step → step.done.ended ≡ Exits-as status → step.feed.left ≡ []
     → CauseFed ways 1 machine feed (Ends (Exit status) until) step.machine
 exit_ends ways machine feed step status until is how none =
     let one : fed_run ways 1 machine feed ≡ fed_on (fed_run ways 0) step (Exits-as status) =
@@ -223,7 +226,7 @@ exit_ends ways machine feed step status until is how none =
 
 -- It traps, and isn't.
 pub trap_ends : (ways : ℕ) (machine : Machine) (feed : Feed) (step : FedStep) (kind : TrapKind) (pc until : ℕ)
-    → fed_step ways machine feed ≡ Some step → step.done.ended ≡ Traps-as kind pc → step.feed.left ≡ []
+    → fed_step ways machine feed ≡ Ok step → step.done.ended ≡ Traps-as kind pc → step.feed.left ≡ []
     → CauseFed ways 0 machine feed (Ends (Trap kind pc) until) step.machine
 trap_ends ways machine feed step kind pc until is how none =
     let one = first_ends ways 0 machine feed step (Traps-as kind pc) is how in (
@@ -234,9 +237,9 @@ trap_ends ways machine feed step kind pc until is how none =
 
 -- ---- instruction by instruction
 -- So many instructions finish on these lines, and whatever lines come behind them, they go on with those.
-abbrev pub Reaches : ℕ → ℕ → Machine → Lines → List (List ℕ) → Machine → Lines → Type 0
+abbrev pub Reaches : ℕ → ℕ → Machine → Lines → List NotedLine → Machine → Lines → Type 0
 Reaches ways n machine lists lines next now =
-    (more : List (List ℕ)) → AreLines more
+    (more : List NotedLine) → AreLines more
     → fed_run ways n machine (feed_of lists (lines ++ more))
     ≡ record { instructions = n; machine = next; feed = feed_of now more; ending = EndsAs FlatBudget }
 
@@ -244,7 +247,7 @@ pub reaches_none : (ways : ℕ) (machine : Machine) (lists : Lines) → Reaches 
 reaches_none ways machine lists more whole = fed_run-zero ways machine (feed_of lists more)
 
 -- some instructions more from there
-reached_run : (ways n k : ℕ) (machine next : Machine) (lists now : Lines) (lines more : List (List ℕ))
+reached_run : (ways n k : ℕ) (machine next : Machine) (lists now : Lines) (lines more : List NotedLine)
     → Reaches ways n machine lists lines next now → AreLines more
     → fed_run ways (n + k) machine (feed_of lists (lines ++ more))
     ≡ fed_before n (fed_run ways k next (feed_of now more))
@@ -252,11 +255,11 @@ reached_run ways n k machine next lists now lines more reaches whole =
     run-parts ways n k machine (feed_of lists (lines ++ more)) ∙ ap (fed_gone_on ways k) (reaches more whole)
 
 -- an instruction finishes that doesn't end the run
-pub reaches_more : (ways n : ℕ) (machine next last : Machine) (lists now later : Lines) (lines others : List (List ℕ))
+pub reaches_more : (ways n : ℕ) (machine next last : Machine) (lists now later : Lines) (lines others : List NotedLine)
     (done : Done) → AreLines others → Reaches ways n machine lists lines next now → done.ended ≡ No
-    → ((more : List (List ℕ)) → AreLines more
+    → ((more : List NotedLine) → AreLines more
     → fed_step ways next (feed_of now (others ++ more))
-    ≡ Some (record { machine = last; feed = feed_of later more; done = done }))
+    ≡ Ok (record { machine = last; feed = feed_of later more; done = done }))
     → Reaches ways (n + 1) machine lists (lines ++ others) last later
 reaches_more ways n machine next last lists now later lines others done some reaches going step more whole =
     ap (λ l. fed_run ways (n + 1) machine (feed_of lists l)) (append_assoc lines others more)
@@ -314,7 +317,7 @@ module _ (ways n k : ℕ) (machine next : Machine) (feed after : Feed)
   cause_later (Ends ending until) last fed = (to_later last fed.0, ends_later ending fed.1)
   cause_later (Stops stop) last fed = (to_later last fed.0, going_later fed.1)
 
-pub cause_reached : (ways n k : ℕ) (machine next last : Machine) (lists now : Lines) (lines more : List (List ℕ))
+pub cause_reached : (ways n k : ℕ) (machine next last : Machine) (lists now : Lines) (lines more : List NotedLine)
     (cause : Cause) → Reaches ways n machine lists lines next now → AreLines more
     → CauseFed ways k next (feed_of now more) cause last
     → CauseFed ways (n + k) machine (feed_of lists (lines ++ more)) cause last

@@ -10,7 +10,7 @@ use Rattle.data_cache.specs.CacheLists.{no_lines}
 use Rattle.data_cache.proofs.UseLaws.{empty-mirrors}
 use Rattle.elf_loader.specs.declared.image.Image.{Image}
 use Rattle.encrypted_run.specs.Refined.{empty_cache}
-use Rattle.fed_run.specs.Fed.{FedRun}
+use Rattle.fed_run.specs.Fed.{NotedLine, FedRun}
 use Rattle.fed_run.specs.Whole.{feed_at_start}
 use Rattle.rate_enforcer.specs.Counts.{is_answered}
 use Rattle.rv32_core.specs.Machine.{Machine}
@@ -35,14 +35,14 @@ start_stands config image is long = (
 )
 
 -- where no line is counted as answered none was
-none_listed : (lines : List (List ℕ)) → length lines ≡ 0 → lines ≡ []
+none_listed : (lines : List NotedLine) → length lines ≡ 0 → lines ≡ []
 none_listed [] none = refl
 none_listed (first ∷ others) none = absurd (omega (arith, none))
 
 pub none_answered : (events : List Event) → count_by is_answered events ≡ 0 → answered_lines events ≡ []
 none_answered events none = none_listed (answered_lines events) (sym (count_lines events) ∙ none)
 
-pub report_fed : (config : Config) (image : Image) (input : List ℕ) (report : Report) (lines : List (List ℕ))
+pub report_fed : (config : Config) (image : Image) (input : List ℕ) (report : Report) (lines : List NotedLine)
     (instructions : ℕ) (ending : Ending) (last : Machine) → report.instructions ≡ instructions → report.ending ≡ ending
     → report.output.items ≡ last.files.output
     → IsFedRun config.ways instructions (start_of config image input)

@@ -19,6 +19,7 @@ use Rattle.bus_watch.specs.Log.{LogLists, TapState}
 use Rattle.bus_watch.specs.declared.log.Event.{Event}
 use Rattle.bus_watch.specs.declared.log.Event.TheVariants as kinds
 use Rattle.bus_watch.specs.declared.log.Event.TheVariants.{Answered, Chosen}
+use Rattle.fed_run.specs.Fed.{NotedLine, numbered}
 use Rattle.data_cache.specs.Lines.{LineRequest, Fetch as LineFetch, Store as LineStore}
 use Rattle.oram_contents.specs.Contents.{Contents}
 use Rattle.oram_contents.specs.Entries.{Keys}
@@ -47,7 +48,7 @@ use Rattle.play_run.specs.Timed.{TimedState, TimedStep, KeepsNoted}
 use Rattle.secure_machine.specs.Answered.{answered_of, answered_lines}
 use Rattle.secure_machine.proofs.SlotGoes.{answer_breaks}
 
-abbrev answered : LogLists → List (List ℕ)
+abbrev answered : LogLists → List NotedLine
 answered log = answered_lines log.events
 
 -- more events, none of which answers a line
@@ -139,7 +140,7 @@ Quiet (Join entry) = Unit {0}
 Quiet (Idle time) = Unit {0}
 
 one_none : (event : Event) → answered_of event ≡ [] → answered_lines (event ∷ []) ≡ []
-one_none event quiet = ap (λ (l : List (List ℕ)). l ++ []) quiet
+one_none event quiet = ap (λ (l : List NotedLine). l ++ []) quiet
 
 module _ (leaf_of : Point → ℕ) (levels : ℕ) where
   same_tap : (old new : PortState) → new.tap ≡ old.tap → answered new.tap.log ≡ answered old.tap.log
@@ -348,7 +349,7 @@ module _ (keys : Keys) (levels : ℕ) where
   -- the line of a fetch is noted
   answer_noted : (line : ℕ) (value : Line) (seen : Seen) (s t : PortState)
       → SlotStep keys levels s (Answer line value) (Ok seen) t
-      → answered t.tap.log ≡ answered s.tap.log ++ value.0 ∷ []
+      → answered t.tap.log ≡ answered s.tap.log ++ numbered line value.0 ∷ []
   answer_noted line value seen s t (said, mid, noted, is) =
       ap (λ (x : PortState). answered x.tap.log) is.1
       ∙ ap (λ (x : LogLists). answered x) noted.1.log
@@ -356,7 +357,7 @@ module _ (keys : Keys) (levels : ℕ) where
 
   pub fetch_lines : (old new : OramState) (asked line : ℕ) (told : Told) (value : Line) → told.line ≡ Some value
       → OramStep keys levels old (Fetch asked line) (Ok told) new
-      → answered_lines new.port.tap.log.events ≡ answered_lines old.port.tap.log.events ++ value.0 ∷ []
+      → answered_lines new.port.tap.log.events ≡ answered_lines old.port.tap.log.events ++ numbered line value.0 ∷ []
   fetch_lines old new asked line told value told_is (serves, seen, is, ends) =
       let (a, mid, first, (x, last, note, done)) = Ends-unbind (Steps (SlotStep keys levels)) (λ state. state)
       (request_plan old.front asked (record { 0 = line }) Keep) _ old.port new.port _ ends in
@@ -366,8 +367,9 @@ module _ (keys : Keys) (levels : ℕ) where
       let value_is : value ≡ (a.1).line = same ∙ ap (λ (s : Seen). s.line) seen_is in
       ap (λ (p : PortState). answered p.tap.log) done.1
       ∙ answer_noted line (a.1).line x mid last note
-      ∙ ap (λ (v : Line). answered mid.tap.log ++ v.0 ∷ []) (sym value_is)
-      ∙ ap (λ l. l ++ value.0 ∷ []) (walk_quiet (request_plan old.front asked (record { 0 = line }) Keep) old.port mid a
+      ∙ ap (λ (v : Line). answered mid.tap.log ++ numbered line v.0 ∷ []) (sym value_is)
+      ∙ ap (λ l. l ++ numbered line value.0 ∷ [])
+      (walk_quiet (request_plan old.front asked (record { 0 = line }) Keep) old.port mid a
       (request_asks old.front asked (record { 0 = line }) Keep) first)
 
   store_asks : (state : FrontState) (asked line : ℕ) (value : Line)
@@ -432,7 +434,7 @@ timed_noted keys levels count old new (LineFetch line) bytes h known =
     let more : length (answered_lines new_log.events) ≡ length (answered_lines old_log.events) + 1 =
     ap length (fetch_lines keys levels old.oram new.oram old.clock line
     (record { line = Some (record { 0 = bytes }); end = new.clock }) (record { 0 = bytes }) refl h.0)
-    ∙ length-append (answered_lines old_log.events) (bytes ∷ []) in
+    ∙ length-append (answered_lines old_log.events) (numbered line bytes ∷ []) in
     omega (arith, known, h.1, more, count_lines old_log.events, count_lines new_log.events)
 timed_noted keys levels count old new (LineStore line value) bytes h known =
     h.1 ∙ known ∙ sym (count_is old.oram.port.tap.log new.oram.port.tap.log

@@ -1,5 +1,5 @@
 -- The clock of a run is the costs of what it finished and what it waited, instruction by instruction and to its end.
-use Rattle.std.proofs.Common.{◌≡◌, ◌<◌, ◌≤◌, ◌+◌, ◌++◌, ◌∙◌, ℕ, List, [], Some, refl, sym, ap, subst, arith}
+use Rattle.std.proofs.Common.{◌≡◌, ◌<◌, ◌≤◌, ◌+◌, ◌++◌, ◌∙◌, ℕ, List, [], Ok, Some, refl, sym, ap, subst, arith}
 use Rattle.std.proofs.Common.{append_assoc, append-nil}
 use Rattle.asc_base.specs.declared.block.Point.{Point}
 use Rattle.asc_base.specs.declared.settings.Config.{Config}
@@ -11,7 +11,7 @@ use Rattle.data_cache.specs.CacheLists.{Lines}
 use Rattle.data_cache.specs.Cached.{StandsAs}
 use Rattle.data_cache.specs.Contents.{Contents}
 use Rattle.fed_run.specs.Answered.{AreLines, feed_of}
-use Rattle.fed_run.specs.Fed.{Feed, FedRun, FedStep, fed_step}
+use Rattle.fed_run.specs.Fed.{Feed, NotedLine, FedRun, FedStep, fed_step}
 use Rattle.fed_run.proofs.Feeds.{AreLines-append}
 use Rattle.oram_frontend.specs.declared.oram.Oram.{Oram}
 use Rattle.play_run.specs.Spent.{waits, fed_cost, IsSpent, SpentAtStop}
@@ -105,12 +105,12 @@ ended_stop_spends config levels spent instructions cycles before ending why.NoMe
 
 -- ---- the costs of instructions in parts
 -- On these lines, whatever comes behind them, so many instructions cost this.
-abbrev pub Cost : ℕ → ℕ → Machine → Lines → List (List ℕ) → ℕ → Type 0
+abbrev pub Cost : ℕ → ℕ → Machine → Lines → List NotedLine → ℕ → Type 0
 Cost ways n machine lists lines total =
-    (more : List (List ℕ)) → AreLines more → fed_cost ways n machine (feed_of lists (lines ++ more)) ≡ total
+    (more : List NotedLine) → AreLines more → fed_cost ways n machine (feed_of lists (lines ++ more)) ≡ total
 
 -- and some more from there cost those too
-cost_reached : (ways n k : ℕ) (machine next : Machine) (lists now : Lines) (lines more : List (List ℕ)) (total : ℕ)
+cost_reached : (ways n k : ℕ) (machine next : Machine) (lists now : Lines) (lines more : List NotedLine) (total : ℕ)
     → Reaches ways n machine lists lines next now → AreLines more → Cost ways n machine lists lines total
     → fed_cost ways (n + k) machine (feed_of lists (lines ++ more)) ≡ total + fed_cost ways k next (feed_of now more)
 cost_reached ways n k machine next lists now lines more total reaches whole costs =
@@ -120,18 +120,18 @@ cost_reached ways n k machine next lists now lines more total reaches whole cost
     ∙ ap (λ c. c + fed_cost ways k next (feed_of now more)) (costs more whole)
 
 -- one instruction that doesn't end the run
-cost_one : (ways : ℕ) (machine : Machine) (feed : Feed) (step : FedStep) → fed_step ways machine feed ≡ Some step
+cost_one : (ways : ℕ) (machine : Machine) (feed : Feed) (step : FedStep) → fed_step ways machine feed ≡ Ok step
     → step.done.ended ≡ No → fed_cost ways 1 machine feed ≡ step.done.cost
 cost_one ways machine feed step is going =
     let none = cost-zero ways step.machine step.feed in
     let all = cost-goes-on ways 0 machine feed step is going in
     omega (arith, none, all)
 
-cost_more : (ways n : ℕ) (machine next last : Machine) (lists now later : Lines) (lines others : List (List ℕ))
+cost_more : (ways n : ℕ) (machine next last : Machine) (lists now later : Lines) (lines others : List NotedLine)
     (done : Done) (total : ℕ) → AreLines others → Reaches ways n machine lists lines next now → done.ended ≡ No
-    → ((more : List (List ℕ)) → AreLines more
+    → ((more : List NotedLine) → AreLines more
     → fed_step ways next (feed_of now (others ++ more))
-    ≡ Some (record { machine = last; feed = feed_of later more; done = done }))
+    ≡ Ok (record { machine = last; feed = feed_of later more; done = done }))
     → Cost ways n machine lists lines total → Cost ways (n + 1) machine lists (lines ++ others) (total + done.cost)
 cost_more ways n machine next last lists now later lines others done total some reaches going step costs more whole =
     ap (λ l. fed_cost ways (n + 1) machine (feed_of lists l)) (append_assoc lines others more)
@@ -245,7 +245,7 @@ module _ {M W L : Type 0} (memory_of : M → MemoryState) (tap_of : W → TapSta
   -- so many instructions finished, on just the lines that were answered, and their costs were spent
   pub record SpentSoFar (costs ways n : ℕ) (machine : Machine) (lists : Lines) (s t : Timed) (cache : Contents)
       (next : Machine) : Type 0 where
-    pub lines : List (List ℕ)
+    pub lines : List NotedLine
     pub now : Lines
     pub total : ℕ
     pub notes : NotesMore tap_of s lines t

@@ -1,5 +1,5 @@
 -- What the core of a run computes on, whatever was answered: it is the machine that is fed with the answered lines.
-use Rattle.std.specs.Prelude.{◌≡◌, ◌+◌, ℕ, List, [], ◌++◌, None, Some}
+use Rattle.std.specs.Prelude.{◌≡◌, ◌+◌, ℕ, List, [], ◌++◌, Ok, Err}
 use Rattle.asc_base.specs.declared.settings.Config.{Config}
 use Rattle.bus_watch.specs.Log.{TapState}
 use Rattle.data_cache.specs.Cached.{StandsAs}
@@ -7,7 +7,7 @@ use Rattle.data_cache.specs.CacheLists.{Sets, Lines}
 use Rattle.data_cache.specs.Contents.{Contents}
 use Rattle.elf_loader.specs.declared.image.Image.{Image}
 use Rattle.fed_run.specs.Answered.{AreLines, feed_of}
-use Rattle.fed_run.specs.Fed.{Feed, FedRun, Ends as EndsAs, fed_step, fed_run, sets_along}
+use Rattle.fed_run.specs.Fed.{Feed, NotedLine, NoneLeft, FedRun, Ends as EndsAs, fed_step, fed_run, sets_along}
 use Rattle.fed_run.specs.Whole.{fed, feed_at_start}
 use Rattle.rv32_core.specs.FlatRun.{FlatEnding, Exited, Trapped, Budget as FlatBudget}
 use Rattle.rv32_core.specs.LineList.{WholeWrite, used}
@@ -71,44 +71,45 @@ over_loaded ways image sets = over_image image (sets_along ways sets (used Whole
 
 module _ {M W L : Type 0} (tap_of : W → TapState) where
   -- the lines that were answered, as the log notes them
-  abbrev pub noted : TimedLines M W L → List (List ℕ)
+  abbrev pub noted : TimedLines M W L → List NotedLine
   noted s = answered_lines (tap_of s.tap.now).log.events
 
   -- these were answered since
-  abbrev pub NotesMore : TimedLines M W L → List (List ℕ) → TimedLines M W L → Type 0
+  abbrev pub NotesMore : TimedLines M W L → List NotedLine → TimedLines M W L → Type 0
   NotesMore s lines t = (noted t ≡ noted s ++ lines) × AreLines lines
 
   -- An instruction is that of the machine that is fed with just the lines that were answered: it leaves this machine,
   -- and lists that stand for the cache.
   abbrev pub IsFedStep : ℕ → Machine → Lines → (s t : TimedLines M W L) → Contents → Machine → Done → Type 0
   IsFedStep ways machine lists s t cache next done =
-      (lines : List (List ℕ)) × (now : Lines) × NotesMore s lines t × StandsAs t.count ways cache now
-      × ((more : List (List ℕ)) → AreLines more
+      (lines : List NotedLine) × (now : Lines) × NotesMore s lines t × StandsAs t.count ways cache now
+      × ((more : List NotedLine) → AreLines more
       → fed_step ways machine (feed_of lists (lines ++ more))
-      ≡ Some (record { machine = next; feed = feed_of now more; done = done }))
+      ≡ Ok (record { machine = next; feed = feed_of now more; done = done }))
 
   -- It was stopped; and the machine that is fed with the lines that were answered until then starves.
   abbrev pub IsStarvedStep : ℕ → Machine → Lines → (s t : TimedLines M W L) → Type 0
   IsStarvedStep ways machine lists s t =
-      (lines : List (List ℕ)) × NotesMore s lines t × (fed_step ways machine (feed_of lists lines) ≡ None)
+      (lines : List NotedLine) × NotesMore s lines t × (fed_step ways machine (feed_of lists lines) ≡ Err NoneLeft)
 
   -- After so many instructions a run came to its end in some more; and so does the machine that is fed with just the
   -- lines that were answered for these.
   abbrev pub HaltsFed : ℕ → ℕ → Machine → Lines → (s t : TimedLines M W L) → Halted → Machine → Type 0
   HaltsFed ways before machine lists s t halted last =
-      (lines : List (List ℕ)) × (more : ℕ) × NotesMore s lines t × (halted.instructions ≡ before + more)
+      (lines : List NotedLine) × (more : ℕ) × NotesMore s lines t × (halted.instructions ≡ before + more)
       × CauseFed ways more machine (feed_of lists lines) halted.cause last
 
 -- ---- a report
 -- so many instructions of the machine that is fed with these lines, from the start with an image and an input
-abbrev pub fed_from_start : Config → Image → List ℕ → ℕ → List (List ℕ) → FedRun
+abbrev pub fed_from_start : Config → Image → List ℕ → ℕ → List NotedLine → FedRun
 fed_from_start config image input n lines =
     fed config.ways config.sets image.bytes.items image.marked.items n (start_of config image input) lines
 
 -- A report is that of the machine that is fed with these lines, whatever they are. With one instruction more than were
--- reported it uses all of them, in order, each for the line for which the cache's lists ask then. With just the
--- reported instructions it finishes these, and its output is the reported one. And it ends as was reported.
-pub record IsFed (config : Config) (image : Image) (input : List ℕ) (report : Report) (lines : List (List ℕ)) : Type 0
+-- reported it uses all of them, in order, each for the line for which the cache's lists ask then: one with another
+-- number would be left. With just the reported instructions it finishes these, and its output is the reported one. And
+-- it ends as was reported.
+pub record IsFed (config : Config) (image : Image) (input : List ℕ) (report : Report) (lines : List NotedLine) : Type 0
   where
     pub uses : (fed_from_start config image input (report.instructions + 1) lines).feed.left ≡ []
     pub finished : (fed_from_start config image input report.instructions lines).instructions ≡ report.instructions

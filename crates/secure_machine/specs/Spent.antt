@@ -11,6 +11,7 @@ use Rattle.bus_watch.specs.Log.{TapState, LogLists}
 use Rattle.data_cache.specs.CacheLists.{Lines}
 use Rattle.elf_loader.specs.declared.image.Image.{Image}
 use Rattle.fed_run.specs.Answered.{feed_of}
+use Rattle.fed_run.specs.Fed.{NotedLine}
 use Rattle.fed_run.specs.Whole.{feed_at_start}
 use Rattle.play_run.specs.Spent.{waits, fed_cost, IsSpent, SpentAtStop}
 use Rattle.rv32_core.specs.Machine.{Machine}
@@ -79,7 +80,7 @@ module _ {M W L : Type 0} (memory_of : M → MemoryState) (tap_of : W → TapSta
   -- that is fed with just the lines that were answered for these.
   abbrev pub HaltsSpent : (costs ways before : ℕ) → Machine → Lines → (s t : TimedLines M W L) → Halted → Type 0
   HaltsSpent costs ways before machine lists s t halted =
-      (lines : List (List ℕ)) × (more : ℕ) × NotesMore tap_of s lines t × (halted.instructions ≡ before + more)
+      (lines : List NotedLine) × (more : ℕ) × NotesMore tap_of s lines t × (halted.instructions ≡ before + more)
       × CauseSpent (costs + fed_cost ways more machine (feed_of lists lines)) halted.instructions halted.cycles
       halted.cause t
 

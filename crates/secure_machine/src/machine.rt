@@ -16,7 +16,7 @@ ghost use Rattle.secure_machine.specs.Plays.{CallsInPlay, InImage, InRun, Leaves
 ghost use Rattle.secure_machine.specs.Plays.{EndedInPlay, play_ending};
 ghost use Rattle.encrypted_run.specs.Refined.{Computes, loaded};
 ghost use Rattle.fed_run.specs.Answered.{feed_of};
-ghost use Rattle.fed_run.specs.Fed.{Feed};
+ghost use Rattle.fed_run.specs.Fed.{Feed, NotedLine};
 ghost use Rattle.oram_contents.specs.Entries.{AreKeys};
 ghost use Rattle.oram_contents.specs.Forgery.{Forgery};
 ghost use Rattle.oram_lines.specs.Standing.{DrawnOnce};
@@ -585,7 +585,7 @@ pub(crate) fn drive<M: UntrustedMemory, W: Watch, L: LeafFn>(
         → IfOk result (λ course. course.fetches ≡ count_by is_answered (W.state bus.new.tap.now).log.events) }
     ensures fed { (ways : ℕ) (sets : Sets) → IsCore core.old
         → StandsAs oram.old.port.clock.config.shape.lines ways cache.old (over_image image.now sets)
-        → IfOk result (λ course. (lines : List (List ℕ))
+        → IfOk result (λ course. (lines : List NotedLine)
         × (answered_lines (W.state bus.new.tap.now).log.events
         ≡ answered_lines (W.state bus.old.tap.now).log.events ++ lines)
         × IsFedRun ways course.instructions (machine_of core.old files.old)
@@ -624,7 +624,7 @@ pub(crate) fn drive<M: UntrustedMemory, W: Watch, L: LeafFn>(
           clock = 0;
           fetches = 0;
         })
-        → IfOk result (λ course. (lines : List (List ℕ))
+        → IfOk result (λ course. (lines : List NotedLine)
         × (answered_lines (W.state bus.new.tap.now).log.events
         ≡ answered_lines (W.state bus.old.tap.now).log.events ++ lines)
         × EndsSpent config levels (length image.now.marked.items

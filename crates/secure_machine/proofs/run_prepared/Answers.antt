@@ -13,6 +13,7 @@ use Rattle.asc_base.specs.declared.settings.Config.{Config}
 use Rattle.secure_machine.specs.Same.{oram_over}
 use Rattle.secure_machine.proofs.ReportLaws.{config_lines, reported_of, wanting_of, report_flat, start_image}
 use Rattle.secure_machine.proofs.ReportLaws.{some_sets, some_ways}
+use Rattle.fed_run.specs.Fed.{NotedLine}
 use Rattle.fed_run.specs.Whole.{feed_at_start}
 use Rattle.secure_machine.specs.Answered.{answered_lines}
 use Rattle.secure_machine.specs.Fed.{IsFed, IsFedRun, over_image}
@@ -153,7 +154,7 @@ returns-in-Ok-clause-fed g c =
     (over_image image (no_lines config.sets))) (sym c.requires.empty) stands)) in
     let events = (g.W.Watch.state c.drive.new.bus.tap.now).log.events in
     let none = none_answered (g.W.Watch.state c.args.bus.now.tap.now).log.events c.requires.unanswered in
-    let all : answered_lines events ≡ lines = more ∙ ap (λ (l : List (List ℕ)). l ++ lines) none in
+    let all : answered_lines events ≡ lines = more ∙ ap (λ (l : List NotedLine). l ++ lines) none in
     subst (IsFed config image c.args.files.input c.reported.result) (sym all)
     (report_fed config image c.args.files.input c.reported.result lines c.in-Ok.course.instructions
     c.in-Ok.course.ending last c.reported.ensures.instructions c.reported.ensures.ending c.reported.ensures.output
@@ -225,12 +226,12 @@ returns-in-Ok-clause-spent g c =
     (over_image image (no_lines config.sets))) (sym c.requires.empty) stands))
     (start-spent keys levels config _ c.requires.new refl) in
     let none = none_answered (g.W.Watch.state c.args.bus.now.tap.now).log.events c.requires.unanswered in
-    let all : answered_lines log.events ≡ lines = more ∙ ap (λ (l : List (List ℕ)). l ++ lines) none in
+    let all : answered_lines log.events ≡ lines = more ∙ ap (λ (l : List NotedLine). l ++ lines) none in
     report_spent config image c.args.files.input c.reported.result log levels c.in-Ok.course.instructions
     c.in-Ok.course.cycles c.in-Ok.course.ending
     (c.requires.serving.serves.rests.is_for.levels_are ∙ ap (λ (c : Config). c.shape.levels) c.requires.port)
     c.reported.ensures.instructions c.reported.ensures.cycles c.reported.ensures.ending
-    (subst (λ (l : List (List ℕ)). EndsSpent config levels (length image.marked.items
+    (subst (λ (l : List NotedLine). EndsSpent config levels (length image.marked.items
     + fed_cost config.ways c.in-Ok.course.instructions (start_of config image c.args.files.input)
     (feed_at_start config.ways config.sets image.bytes.items image.marked.items l) + waits levels log)
     c.in-Ok.course.instructions c.in-Ok.course.cycles c.in-Ok.course.ending) (sym all)
