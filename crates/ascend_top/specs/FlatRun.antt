@@ -5,6 +5,7 @@ use Rattle.asc_outside.specs.Host.{Files}
 use Rattle.elf_loader.specs.Elf.{entry_of}
 use Rattle.elf_loader.specs.Layout.{image_bytes, first_break}
 use Rattle.rv32_core.specs.FlatRun.{FlatRun, FlatEnding, Exited, Trapped, Budget, flat_run, machine_at_start}
+use Rattle.rv32_core.specs.FlatRun.{output_limit}
 use Rattle.ascend_words.specs.Grammar.{Pair}
 use Rattle.ascend_words.specs.Settings.{text_in, settings_of}
 use Rattle.ascend_words.specs.declared.table.Name.{Name}
@@ -33,10 +34,6 @@ ending_of OutOfBudget = Budget
 abbrev pub outcome_report : Outcome → Report
 outcome_report outcome =
     record { instructions = outcome.instructions; ending = ending_of outcome.ending; output = outcome.output.items }
-
--- the greatest length of the output, in bytes
-abbrev pub output_limit : ℕ
-output_limit = 1048576
 
 -- a flat run of at most so many instructions, from a start over bytes and an input
 abbrev pub run_over : (budget entry base size heap : ℕ) → (bytes input : List ℕ) → FlatRun

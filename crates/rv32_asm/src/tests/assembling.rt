@@ -145,8 +145,7 @@ fn programs(rt: HostRuntime) -> Result<(), Fail> {
     Ok(())
 }
 
-/// Jumps and branches as far as they go, and the longest row of zero bytes up to a multiple: the word at an offset of
-/// the file.
+/// Jumps and branches as far as they go, and a multiple of 4,096: the word at an offset of the file.
 #[test]
 fn far_targets(rt: HostRuntime) -> Result<(), Fail> {
     let rows: [(&str, usize, u32); 5] = [
