@@ -4,9 +4,10 @@ and prints no report.
 
 It tries three runs, whose words are in `RUNS`: a load whose line is fetched over encrypted memory, in four accesses; a
 loop whose time is up after eight dummies; and a made program of one word of data. For each, `rt try --fail-alloc N` in
-crates/ascend refuses the request numbered N, for N = 1, 2 and so on, until a run ends as the one without a refusal does,
-with no request left to refuse. `rt` must be on the path; it proves nothing here. A run takes as long as `rt try` needs to
-build, so the whole takes a while, and no test of the crates does it. `--most N` stops after so many numbers of each run.
+crates/ascend refuses the request numbered N, for N = 1, 2 and so on, until a run ends as the one without a refusal
+does, with no request left to refuse. `rt` must be on the path; it proves nothing here. A run takes as long as `rt try`
+needs to build, so the whole takes a while, and no test of the crates does it. `--most N` stops after so many numbers of
+each run.
 """
 import argparse
 import os

@@ -694,7 +694,8 @@ module _ (files : Files) (refusal : Refusal) (of : IsOfFiles refusal) where
       → old.files ≡ Some now → AllDone steps old at → IsFirstRefusal files steps refusal → ⊥
   never_done now [] old at over told done first = first
   never_done now (step ∷ steps) old at over told (mid, does, rest) (inl cause) =
-      of_files_not_free refusal of (cause_free now step refusal (shown old.files (λ f. IsDone f step) does.done now told)
+      of_files_not_free refusal of (cause_free now step refusal
+      (shown old.files (λ f. IsDone f step) does.done now told)
       (over_cause files now step steps refusal over cause))
   never_done now (step ∷ steps) old at over told (mid, does, rest) (inr (right, first)) =
       let still = still_over files now step steps old mid over told does in
@@ -717,7 +718,8 @@ module _ (files : Files) (refusal : Refusal) (of : IsOfFiles refusal) where
   refused_first now (step ∷ steps) other old new over told (inl refuses) (inr (right, first)) = inl
       (step_free now step other old new (over_done files now step steps over right) told refuses)
   refused_first now (step ∷ steps) other old new over told (inr (mid, does, rest)) (inl cause) =
-      of_files_not_free refusal of (cause_free now step refusal (shown old.files (λ f. IsDone f step) does.done now told)
+      of_files_not_free refusal of (cause_free now step refusal
+      (shown old.files (λ f. IsDone f step) does.done now told)
       (over_cause files now step steps refusal over cause))
   refused_first now (step ∷ steps) other old new over told (inr (mid, does, rest)) (inr (right, first)) =
       let still = still_over files now step steps old mid over told does in
@@ -760,7 +762,8 @@ refuses_first read lent files refusal status (Err end) old new is (other, mid, s
 module _ {A : Type 0} (make : A → Made) (after : A → List Step) (Meant : Option Files → A → Type 0) (command : Command)
     (given : List Pair) (lent : Lent) (idle : IsIdle lent) (not_gen : command ≡ Gen → ⊥)
     (same : (made : A) → after made ≡ last_steps given (make made))
-    (are : (told : Option Files) (made : A) → Meant told made → IsMade command given lent told (make made)) (lost : (told : Option Files) → IsLost command given lent told)
+    (are : (told : Option Files) (made : A) → Meant told made → IsMade command given lent told (make made))
+    (lost : (told : Option Files) → IsLost command given lent told)
   where
     meant : (old at : HostState) (made : A) → AllDone (steps_of command given) old at
         → Meant at.files made → Meant old.files made

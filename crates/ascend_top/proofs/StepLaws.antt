@@ -18,8 +18,8 @@ use Rattle.elf_loader.specs.declared.fault.ElfFault.{ElfFault}
 use Rattle.ascend_top.specs.FlatRun.{bytes_in}
 use Rattle.ascend_top.specs.Parts.{WasRead, unread, unwritten}
 use Rattle.ascend_top.specs.Steps.{AsksMore, PrintsMore, Breaks, Keeps, Does, Refuses, Rule, Judges, JudgesNumber}
-use Rattle.ascend_top.specs.Steps.{IsInRange, IsRefused, IsRight, IsWrong, Loads, Reads, Shows, Writes, Prints, limit_of}
-use Rattle.ascend_top.specs.Steps.{where_named}
+use Rattle.ascend_top.specs.Steps.{IsInRange, IsRefused, IsRight, IsWrong, Loads, Reads, Shows, Writes, Prints}
+use Rattle.ascend_top.specs.Steps.{limit_of, where_named}
 use Rattle.ascend_words.specs.declared.table.Name.{Name}
 use Rattle.rv32_asm.specs.declared.fault.AsmKind.{AsmKind}
 use Rattle.ascend_top.specs.declared.refusal.Refusal.{Refusal}

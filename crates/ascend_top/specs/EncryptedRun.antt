@@ -104,8 +104,8 @@ pub record IsRunOf (config : Config) (image : Image) (input key : List ℕ) (len
   pub count : lent.memory'.count ≡ config.shape.buckets
 
 -- The same of a run that found no memory: up to some time the log keeps the pace, and it is on time up to the cycle
--- after its last move. It notes slots in order; no point was drawn twice, or it shows a forgery; nothing is wrong in it,
--- or its reading broke off; and where the bus was prepared the buckets are those that it says. No bucket counts as
+-- after its last move. It notes slots in order; no point was drawn twice, or it shows a forgery; nothing is wrong in
+-- it, or its reading broke off; and where the bus was prepared the buckets are those that it says. No bucket counts as
 -- prepared, or as many as the shape has.
 pub record IsWantOf (config : Config) (image : Image) (input key : List ℕ) (lent : Lent) : Type 0 where
   pub end : ℕ

@@ -58,7 +58,8 @@ returns-in-Flat g c =
     subst (λ command. WorkEnds command given lent (end_of c.ran.result) old new) (sym c.in-Flat.is
     ∙ c.command.ensures)
     (subst (λ end. WorkEnds Flat given lent end old new) (sym c.ran.ensures)
-    (lift_ends Ran (report_steps given) (λ told made. Shows told (λ files. Shows told (λ later. made ≡ flat_report given files later))) Flat given lent idle
+    (lift_ends Ran (report_steps given)
+    (λ told made. Shows told (λ files. Shows told (λ later. made ≡ flat_report given files later))) Flat given lent idle
     (λ e. absurd (let no : ⊥ = cc in no))
     (λ made. refl) (λ told made is. (idle, ran_is given told made is)) (λ told. idle)
     (run_end c.flat.result) old new c.flat.ensures))
@@ -74,7 +75,8 @@ returns-in-Asm g c =
     subst (λ command. WorkEnds command given lent (end_of c.assembled.result) old new) (sym c.in-Asm.is
     ∙ c.command.ensures)
     (subst (λ end. WorkEnds Asm given lent end old new) (sym c.assembled.ensures)
-    (lift_ends Assembled (write_steps given) (λ told made. Shows told (λ files. made ≡ asm_file given files)) Asm given lent idle
+    (lift_ends Assembled (write_steps given) (λ told made. Shows told (λ files. made ≡ asm_file given files)) Asm given
+    lent idle
     (λ e. absurd (let no : ⊥ = cc in no))
     (λ made. refl) (λ told made is. (idle, shows_more told (λ files. made ≡ asm_file given files)
     (λ files. Assembled made ≡ Assembled (asm_file given files)) (λ files e. ap Assembled e) is)) (λ told. idle)
@@ -91,7 +93,8 @@ returns-in-Disasm g c =
     subst (λ command. WorkEnds command given lent (end_of c.listed.result) old new) (sym c.in-Disasm.is
     ∙ c.command.ensures)
     (subst (λ end. WorkEnds Disasm given lent end old new) (sym c.listed.ensures)
-    (lift_ends Listed print_steps (λ told made. Shows told (λ files. made ≡ disasm_listing given files)) Disasm given lent idle
+    (lift_ends Listed print_steps (λ told made. Shows told (λ files. made ≡ disasm_listing given files)) Disasm given
+    lent idle
     (λ e. absurd (let no : ⊥ = cc in no))
     (λ made. refl) (λ told made is. (idle, shows_more told (λ files. made ≡ disasm_listing given files)
     (λ files. Listed made ≡ Listed (disasm_listing given files)) (λ files e. ap Listed e) is)) (λ told. idle)

@@ -58,5 +58,6 @@ returns-in-Ok-read_program-clause-begin g c =
     c.in-Ok-read_key.ensures.length
     (λ files told. subst (λ name. c.in-Ok-read_key.key ≡ bytes_in files name) c.file_of-key.ensures
     (c.in-Ok-read_key.ensures.key files (c.in-Ok-read_key.ensures.read.files ∙ told)))
-    (subst (λ told. Shows told (λ files. Shows told (λ after. IsProgramOf given files after c.in-Ok-read_program.program)))
+    (subst (λ told. Shows told (λ files. Shows told (λ after.
+    IsProgramOf given files after c.in-Ok-read_program.program)))
     (later ∙ c.in-Ok-read_key.ensures.read.files) c.in-Ok-read_program.ensures.told)
