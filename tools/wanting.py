@@ -1,6 +1,6 @@
 #!/usr/bin/env python3
 """Runs the program with each of its requests for memory refused in turn, and says whether each run ends with status 11
-and prints no report.
+and prints nothing.
 
 It tries three runs, whose words are in `RUNS`: a load whose line is fetched over encrypted memory, in four accesses; a
 loop whose time is up after eight dummies; and a made program of one word of data. For each, `rt try --fail-alloc N` in
@@ -55,12 +55,12 @@ def tried(name, words, wanted, most):
     for number in range(1, most + 1):
         status, printed = ended(words, number)
         if (status, printed) == plain:
-            print(f"{name}: {number - 1} requests, each refused in turn: status {NO_MEMORY}, and no report")
+            print(f"{name}: {number - 1} requests, each refused in turn: status {NO_MEMORY}, and nothing printed")
             return True
-        if status != NO_MEMORY or "end " in printed:
+        if status != NO_MEMORY or printed:
             print(f"{name}: with request {number} refused: status {status}, printed {printed!r}")
             return False
-    print(f"{name}: the first {most} requests, each refused in turn: status {NO_MEMORY}, and no report")
+    print(f"{name}: the first {most} requests, each refused in turn: status {NO_MEMORY}, and nothing printed")
     return True
 
 
