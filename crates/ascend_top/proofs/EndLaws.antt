@@ -41,7 +41,7 @@ use Rattle.ascend_top.specs.declared.refusal.Refusal.{Refusal}
 use Rattle.ascend_top.specs.declared.refusal.Refusal.TheVariants.{Usage, OutOfRange, Elf, KeyLength, TooLong, Host}
 use Rattle.ascend_top.specs.declared.refusal.Refusal.TheVariants.{NoMemory, NumberOutOfRange, Assembler, Trace, Fails}
 use Rattle.ascend_top.specs.declared.refusal.Source.{Source}
-use Rattle.ascend_top.proofs.StepLaws.{asks_none, shown}
+use Rattle.ascend_top.proofs.StepLaws.{asks_none, shown, shows_any}
 
 -- a text that is there
 pub some_text : (o : Option (List ℕ)) (x : List ℕ) → Some x ≡ o → IsSome o
@@ -51,7 +51,7 @@ some_text (Some y) x e = search rules
 -- there was no memory, and nothing was asked
 pub judge_lost : (settings : Settings) (state : HostState) → Refuses (Judges settings) NoMemory state state
 judge_lost settings state = record {
-  cause = λ files told. tt;
+  cause = shows_any state.files _ (λ files. tt);
   fault = λ e. absurd (let no : ⊥ = cc in no);
   files = refl;
   printed = refl;
@@ -61,7 +61,7 @@ judge_lost settings state = record {
 
 number_lost : (name : Name) (number : ℕ) (state : HostState) → Refuses (JudgesNumber name number) NoMemory state state
 number_lost name number state = record {
-  cause = λ files told. tt;
+  cause = shows_any state.files _ (λ files. tt);
   fault = λ e. absurd (let no : ⊥ = cc in no);
   files = refl;
   printed = refl;
@@ -72,7 +72,7 @@ number_lost name number state = record {
 read_lost_at_start : (source : Source) (name : List ℕ) (rule : Rule) (state : HostState)
     → Refuses (Reads source name rule) NoMemory state state
 read_lost_at_start source name rule state = record {
-  cause = λ files told. tt;
+  cause = shows_any state.files _ (λ files. tt);
   fault = λ e. absurd (let no : ⊥ = cc in no);
   files = refl;
   printed = refl;

@@ -72,7 +72,7 @@ shows_longer None name limit Says is says =
     let long : List ℕ = replicate (limit + 1) 0 in
     (
       λ other. Some long,
-      says (λ other. Some long) (long, refl, omega (arith, length-replicate (limit + 1) 0)),
+      says (λ other. Some long) (long, refl, omega (arith, length-replicate {A = ℕ} (limit + 1) 0)),
     )
 
 -- the settings were judged

@@ -17,7 +17,7 @@ returns-clause-told g c =
     let same = sym (input_files (text_in given Input) (g.H.Host.state c.read_elf.new.host)
     (g.H.Host.state c.read_input.new.host) c.in-Ok-read_input.ensures.done) in
     let image = subst (λ told. Shows told (λ files. IsImageOf config.base config.size
-    (bytes_in files c.file_of-elf.result.now) c.in-Ok.image)) (sym same) c.in-Ok.ensures.image in
+    (bytes_in files c.file_of-elf.result.now) c.in-Ok.image)) same c.in-Ok.ensures.image in
     shows_more now (λ files. IsImageOf config.base config.size (bytes_in files c.file_of-elf.result.now) c.in-Ok.image)
     (λ files. Shows now (λ later. IsProgramOf given files later c.result))
     (λ files is. shows_more now (λ later. c.in-Ok-read_input.input.items ≡ input_in later given)
