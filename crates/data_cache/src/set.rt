@@ -94,6 +94,7 @@ fn push_first(set: &mut Vec<Held>, ways: usize, held: Held)
 }
 
 /// Brings a line to the front of its set, and fetches it where it isn't held.
+#[inline(always)]
 pub(crate) fn bring<S: LineStore>(
     set: &mut Vec<Held>,
     ways: usize,

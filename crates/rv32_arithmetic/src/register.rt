@@ -12,6 +12,7 @@ use rv32_table::RegOp;
 /// What an operation on two registers answers, for the values `x` of rs1 and `y` of rs2. Sums, differences and products
 /// wrap. A shift takes the low five bits of `y`. A quotient by zero has all bits set, and the remainder is then `x`;
 /// that of -2^31 by -1 is -2^31, and the remainder is then 0. (RV32I, Integer Register-Register Operations; M)
+#[inline(always)]
 pub fn operate(op: RegOp, x: u32, y: u32) -> u32
     ensures { result ≡ register_meaning op x y }
 {

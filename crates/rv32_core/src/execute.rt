@@ -63,6 +63,7 @@ fn jump(register: u8, target: u32) -> Effect
 
 impl Core {
     /// What a word does, by the instruction that it is.
+    #[inline(always)]
     pub(crate) fn execute(&self, files: &Files, instr: Option<Instr>) -> Effect
         requires { IfSome instr Fits }
         ensures is { result ≡ effect_of_decoded (machine_of self.now files.now) instr }
@@ -77,6 +78,7 @@ impl Core {
     }
 
     /// What an instruction does.
+    #[inline(always)]
     fn effect(&self, files: &Files, instr: Instr) -> Effect
         requires { Fits instr }
         ensures { result ≡ effect_of (machine_of self.now files.now) instr }

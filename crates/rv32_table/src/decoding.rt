@@ -285,6 +285,7 @@ fn decode_system(word: u32) -> Option<Instr>
 
 /// The instruction that a word is, and None exactly where the word is illegal: it matches no row of the instruction
 /// table. It fits, and its word is this one.
+#[inline(always)]
 pub fn decode(word: u32) -> Option<Instr>
     ensures row { result ≡ decoded word }
     ensures illegal { (result ≡ None) ↔ All (λ row. ¬ Matches word row) table }
@@ -295,6 +296,7 @@ pub fn decode(word: u32) -> Option<Instr>
 }
 
 /// The instruction that a word is by its fields.
+#[inline(always)]
 fn decode_fields(word: u32) -> Option<Instr>
     ensures { result ≡ by_opcode (opcode_of word) word }
 {
