@@ -41,7 +41,8 @@ use Rattle.ascend_top.specs.declared.refusal.Refusal.{Refusal}
 use Rattle.ascend_top.specs.declared.refusal.Refusal.TheVariants.{Usage, OutOfRange, Elf, KeyLength, TooLong, Host}
 use Rattle.ascend_top.specs.declared.refusal.Refusal.TheVariants.{NoMemory, NumberOutOfRange, Assembler, Trace, Fails}
 use Rattle.ascend_top.specs.declared.refusal.Source.{Source}
-use Rattle.ascend_top.proofs.StepLaws.{asks_none, shown, shows_any}
+use Rattle.ascend_top.proofs.StepLaws.{asks_none}
+use Rattle.ascend_top.proofs.Shown.{shown, shows_any}
 
 -- a text that is there
 pub some_text : (o : Option (List ℕ)) (x : List ℕ) → Some x ≡ o → IsSome o

@@ -93,7 +93,7 @@ want_carries : (command : Command) (given : List Pair) (lent : Lent) (told : Opt
 want_carries command given lent told refusal is = elim is.wants [
   | inl wants ↦ inr (is.begin, is.begins, inr (cut_short is.begin.program is.begin.key lent wants))
   | inr (report, ran) ↦
-    inr (is.begin, is.begins, inl (report, headline_of is.begin.program is.begin.key lent report ran))
+      inr (is.begin, is.begins, inl (report, headline_of is.begin.program is.begin.key lent report ran))
 ]
 
 lost_carries : (command : Command) (given : List Pair) (lent : Lent) (told : Option Files) (refusal : Refusal)

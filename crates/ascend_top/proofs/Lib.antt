@@ -1,3 +1,4 @@
+mod Shown
 pub mod AssembledLaws
 pub mod EndLaws
 pub mod FilesLaws

@@ -39,16 +39,17 @@ use Rattle.ascend_words.specs.Grammar.{Pair}
 use Rattle.ascend_words.specs.Settings.{settings_of, text_in}
 use Rattle.ascend_words.specs.declared.table.Command.{Command}
 use Rattle.ascend_words.specs.declared.table.Name.TheVariants.{Elf, Key, Output, Trace}
-use Rattle.ascend_top.specs.Command.{IsLost, IsMade, WorkEnds, lifted, steps_of}
+use Rattle.ascend_top.specs.Command.{IsLost, IsMade, StepsEnd, WorkEnds, lifted, steps_of}
+use Rattle.ascend_top.specs.Flat.{flat_steps, report_steps}
 use Rattle.ascend_top.specs.FlatRun.{Report, bytes_in, ending_of, file_in, flat_of, flat_report, input_in}
 use Rattle.ascend_top.specs.FlatRun.{outcome_report, report_of, run_over}
 use Rattle.ascend_top.specs.EncryptedRun.{IsRunOf, IsWantOf, Lent, keys_from}
 use Rattle.ascend_top.specs.Made.{Encrypted as MadeEncrypted}
-use Rattle.ascend_top.specs.Parts.{CanRun, EndsAs, IsConfigOf, IsImageOf, IsProgramOf, program_report}
+use Rattle.ascend_top.specs.Parts.{CanRun, EndsAs, IsConfigOf, IsImageOf, IsProgramOf, RunEnds, program_report}
 use Rattle.ascend_top.specs.Run.{BegunEnds, IsBegin, IsOutcome, IsProgramBy, IsRun, RunWants, run_report_steps}
 use Rattle.ascend_top.specs.Steps.{AllDone, Does, IsRefused, Prints, Refuses, Shows, Step, Writes, key_length}
 use Rattle.ascend_top.specs.Steps.{where_named}
-use Rattle.ascend_top.proofs.StepLaws.{shows_more}
+use Rattle.ascend_top.proofs.Shown.{shows_more}
 use Rattle.ascend_top.specs.Texts.{run_text}
 use Rattle.ascend_top.specs.declared.commands.run.Begin.{Begin}
 use Rattle.ascend_top.specs.declared.commands.run.Encrypted.{Encrypted}
@@ -108,6 +109,30 @@ program_reports given told config (Ok program) is same of =
     (ap (λ (c : Config). c.size) same ∙ is.size) (ap (λ (c : Config). c.budget) same ∙ is.budget) now.image now.input))
     of
 program_reports given told config (Err refusal) is same of = tt
+
+-- the steps of `flat` and its work end so, by what its run and the steps after it do
+pub flat_ends : (given : List Pair) (expected : Report) (end : Result Report Refusal) (old at new : HostState)
+    → AllDone (flat_steps given) old at
+    → Shows at.files (λ files. Shows at.files (λ later. expected ≡ flat_report given files later))
+    → RunEnds given expected end at new
+    → StepsEnd (flat_steps given) (report_steps given)
+    (λ told report. Shows told (λ files. Shows told (λ later. report ≡ flat_report given files later))) end old new
+flat_ends given expected (Ok report) old at new done meant (is, after) = (
+  at,
+  done,
+  subst (λ r. Shows at.files (λ files. Shows at.files (λ later. r ≡ flat_report given files later))) (sym is) meant,
+  after,
+)
+flat_ends given expected (Err refusal) old at new done meant (inl (none, same)) = inr (at, done, inl (none, same))
+flat_ends given expected (Err refusal) old at new done meant (inr (report, is, refused)) = inr (
+  at,
+  done,
+  inr (
+    report,
+    subst (λ r. Shows at.files (λ files. Shows at.files (λ later. r ≡ flat_report given files later))) (sym is) meant,
+    refused,
+  ),
+)
 
 -- a run begins so
 pub begins : (command : Command) (given : List Pair) (told : Option Files) (settings : Settings) (config : Config)

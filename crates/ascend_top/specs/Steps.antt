@@ -200,7 +200,7 @@ LeavesFiles (Writes name bytes) old new = OthersStay name old new × IfSome new 
 LeavesFiles (Prints text) old new = new ≡ old
 
 -- Over some files: those that are told. Where none are, a host may show any, and others at another step.
-abbrev pub Shows : Option Files → (Files → Type 0) → Type 0
+unfoldable pub Shows : Option Files → (Files → Type 0) → Type 0
 Shows (Some files) Says = Says files
 Shows None Says = (files : Files) × Says files
 

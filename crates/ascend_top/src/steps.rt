@@ -124,6 +124,7 @@ pub(crate) fn read_file<H: Host>(
 }
 
 /// Reads the key file, which has a key's length.
+#[tactic(auto, using(crate::proofs::Shown::shows_any, crate::proofs::Shown::shows_file))]
 pub(crate) fn read_key<H: Host>(
     alloc: Global,
     name: &str,
@@ -149,6 +150,7 @@ pub(crate) fn read_key<H: Host>(
 }
 
 /// Reads the ELF file, and lays out its memory.
+#[tactic(auto, using(crate::proofs::Shown::shows_any, crate::proofs::Shown::shows_file))]
 pub(crate) fn read_elf<H: Host>(
     alloc: Global,
     name: &str,
@@ -176,6 +178,7 @@ pub(crate) fn read_elf<H: Host>(
 }
 
 /// Loads a file that wasn't read, and lays out its memory.
+#[tactic(auto, using(crate::proofs::Shown::shows_any, crate::proofs::Shown::shows_file))]
 pub(crate) fn load(alloc: Global, file: &[u8], base: u32, size: u32) -> Result<Image, Refusal>
     requires { IsMemory base size }
     ensures memory { IfOk result (IsImage base size) }
@@ -192,6 +195,7 @@ pub(crate) fn load(alloc: Global, file: &[u8], base: u32, size: u32) -> Result<I
 }
 
 /// Reads the ELF file, which has no fault in the memory of `size` bytes from `base` on.
+#[tactic(auto, using(crate::proofs::Shown::shows_any, crate::proofs::Shown::shows_file))]
 pub(crate) fn read_segments<H: Host>(
     alloc: Global,
     name: &str,
@@ -219,6 +223,7 @@ pub(crate) fn read_segments<H: Host>(
 }
 
 /// Reads the text of a program that begins at a place, and assembles it.
+#[tactic(auto, using(crate::proofs::Shown::shows_any, crate::proofs::Shown::shows_file))]
 pub(crate) fn read_text<H: Host>(
     alloc: Global,
     name: &str,
@@ -244,6 +249,7 @@ pub(crate) fn read_text<H: Host>(
 }
 
 /// Reads the file of a trace, and checks the trace.
+#[tactic(auto, using(crate::proofs::Shown::shows_any, crate::proofs::Shown::shows_file))]
 pub(crate) fn read_trace<H: Host>(alloc: Global, name: &str, host: &mut H) -> Result<Held, Refusal>
     ensures held { IfOk result (λ held. Shows (H.state host.new).files (λ files.
         IsChecked (bytes_in files name.now) (Holds held.code held.bits))) }
@@ -275,6 +281,7 @@ pub(crate) fn read_trace<H: Host>(alloc: Global, name: &str, host: &mut H) -> Re
 }
 
 /// Makes these bytes the whole file of a name.
+#[tactic(auto, using(crate::proofs::Shown::shows_any, crate::proofs::Shown::shows_file))]
 pub(crate) fn write_file<H: Host>(name: &str, bytes: &[u8], host: &mut H) -> Result<(), Refusal>
     ensures written { OnOk result (Does (Writes name.now bytes.now) (H.state host.old) (H.state host.new)) }
     ensures refused { IfErr result (λ refusal.
@@ -287,6 +294,7 @@ pub(crate) fn write_file<H: Host>(name: &str, bytes: &[u8], host: &mut H) -> Res
 }
 
 /// Prints a text.
+#[tactic(auto, using(crate::proofs::Shown::shows_any, crate::proofs::Shown::shows_file))]
 pub(crate) fn print<H: Host>(text: &[u8], host: &mut H) -> Result<(), Refusal>
     ensures printed { OnOk result (Does (Prints text.now) (H.state host.old) (H.state host.new)) }
     ensures refused { IfErr result (λ refusal.

@@ -12,7 +12,7 @@ use Rattle.ascend_top.specs.EncryptedRun.{IsIdle, lent_as}
 use Rattle.ascend_top.specs.Made.{Ran, Assembled, Listed, Held}
 use Rattle.ascend_top.specs.Steps.{Shows}
 use Rattle.ascend_top.proofs.EndLaws.{lift_ends}
-use Rattle.ascend_top.proofs.StepLaws.{shows_more}
+use Rattle.ascend_top.proofs.Shown.{shows_more}
 use Rattle.ascend_top.proofs.take_steps.Goals as goal
 
 -- the report of a flat run, as what its work made
@@ -78,8 +78,11 @@ returns-in-Asm g c =
     (lift_ends Assembled (write_steps given) (λ told made. Shows told (λ files. made ≡ asm_file given files)) Asm given
     lent idle
     (λ e. absurd (let no : ⊥ = cc in no))
-    (λ made. refl) (λ told made is. (idle, shows_more told (λ files. made ≡ asm_file given files)
-    (λ files. Assembled made ≡ Assembled (asm_file given files)) (λ files e. ap Assembled e) is)) (λ told. idle)
+    (λ made. refl) (λ told made is. (
+      idle,
+      shows_more told (λ files. made ≡ asm_file given files)
+          (λ files. Assembled made ≡ Assembled (asm_file given files)) (λ files e. ap Assembled e) is,
+    )) (λ told. idle)
     (bytes_end (λ file. file.items) c.asm.result) old new c.asm.ensures))
 
 pub returns-in-Disasm : goal.returns-in-Disasm
@@ -96,8 +99,11 @@ returns-in-Disasm g c =
     (lift_ends Listed print_steps (λ told made. Shows told (λ files. made ≡ disasm_listing given files)) Disasm given
     lent idle
     (λ e. absurd (let no : ⊥ = cc in no))
-    (λ made. refl) (λ told made is. (idle, shows_more told (λ files. made ≡ disasm_listing given files)
-    (λ files. Listed made ≡ Listed (disasm_listing given files)) (λ files e. ap Listed e) is)) (λ told. idle)
+    (λ made. refl) (λ told made is. (
+      idle,
+      shows_more told (λ files. made ≡ disasm_listing given files)
+          (λ files. Listed made ≡ Listed (disasm_listing given files)) (λ files e. ap Listed e) is,
+    )) (λ told. idle)
     (bytes_end (λ text. text.items) c.disasm.result) old new c.disasm.ensures))
 
 pub returns-in-Check : goal.returns-in-Check

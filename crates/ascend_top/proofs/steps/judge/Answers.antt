@@ -1,6 +1,6 @@
 use Rattle.std.proofs.Common.{ap, refl, ◌∙◌}
 use Rattle.asc_base.specs.declared.settings.Config.{Config}
-use Rattle.ascend_top.proofs.StepLaws.{config_numbers, misjudged}
+use Rattle.ascend_top.proofs.StepLaws.{config_numbers, judged, misjudged}
 use Rattle.ascend_top.proofs.steps.judge.Goals as goal
 
 pub returns-in-Ok-clause-config : goal.returns-in-Ok-clause-config
@@ -19,3 +19,6 @@ returns-in-Ok-clause-config c =
 pub returns-in-Err-clause-refused : goal.returns-in-Err-clause-refused
 returns-in-Err-clause-refused c = λ state. misjudged c.args.settings.now c.in-Err.setting state
     ((c.in-Err.ensures.fault c.in-Err.setting).0 refl)
+
+pub returns-in-Ok-clause-judged : goal.returns-in-Ok-clause-judged
+returns-in-Ok-clause-judged c = λ state. judged c.args.settings.now state (c.in-Ok.ensures.allowed.0 refl)

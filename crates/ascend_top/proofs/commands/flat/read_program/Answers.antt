@@ -7,7 +7,7 @@ use Rattle.ascend_top.specs.Parts.{IsImageOf, IsProgramOf}
 use Rattle.ascend_top.specs.Steps.{Shows}
 use Rattle.ascend_top.specs.declared.commands.flat.Program.{Program}
 use Rattle.ascend_top.proofs.EndLaws.{input_files}
-use Rattle.ascend_top.proofs.StepLaws.{shows_more}
+use Rattle.ascend_top.proofs.Shown.{shows_more}
 use Rattle.ascend_top.proofs.commands.flat.read_program.Goals as goal
 
 pub returns-clause-told : goal.returns-clause-told
