@@ -22,3 +22,4 @@ pub mod PlayedLaws
 pub mod SpentChains
 pub mod SpentRuns
 pub mod SpentReports
+pub mod Full

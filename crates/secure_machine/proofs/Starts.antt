@@ -11,6 +11,7 @@ use Rattle.asc_base.specs.TreeShape.{olat_of}
 use Rattle.asc_base.specs.declared.block.Point.{Point}
 use Rattle.asc_base.specs.declared.settings.Config.{Config}
 use Rattle.asc_base.specs.declared.shape.Shape.{Shape}
+use Rattle.asc_outside.specs.Rose.{Rose}
 use Rattle.asc_outside.specs.Memory.{MemoryState, zero_buckets}
 use Rattle.bus_schedule.proofs.PublicParts.{count-power}
 use Rattle.bus_schedule.proofs.ScheduledLaws.{scheduled-config, scheduled-below, scheduled-codes}
@@ -58,6 +59,12 @@ pub on_both : {A E : Type 0} (P : A → Type 0) (Q X : Type 0) (result : Result 
     → ((a : A) → P a → X) → (Q → X) → X
 on_both P Q X (Ok a) p q one other = one a p
 on_both P Q X (Err e) p q one other = other q
+
+-- two facts on an Ok, together
+pub ok_both : {A E : Type 0} (P Q : A → Type 0) (result : Result A E) → IfOk result P → IfOk result Q
+    → IfOk result (λ (a : A). P a × Q a)
+ok_both P Q (Ok a) p q = (p, q)
+ok_both P Q (Err e) p q = tt
 
 -- a fact on an Err, from another
 pub on_err_so : {A E : Type 0} (Q X : Type 0) (result : Result A E) → OnErr result Q → (Q → X) → OnErr result X
@@ -159,6 +166,12 @@ pub refused_tap : (stop : BusStop) (buckets levels accesses : ℕ) (m m' : Memor
     → IsPrepared (Err stop) buckets levels accesses m m' t t' → t' ≡ t
 refused_tap Device buckets levels accesses m m' t t' prepared = prepared.by_answer.kept
 refused_tap NoMemory buckets levels accesses m m' t t' prepared = prepared.by_answer.kept
+
+-- its memory failed, and counted it
+pub refused_rose : (stop : BusStop) (buckets levels accesses : ℕ) (m m' : MemoryState) (t t' : TapState)
+    → IsPrepared (Err stop) buckets levels accesses m m' t t' → stop ≡ Device → Rose m.faults m'.faults
+refused_rose Device buckets levels accesses m m' t t' prepared is = prepared.by_answer.cause
+refused_rose NoMemory buckets levels accesses m m' t t' prepared is = absurd cc
 
 module _ {L E : Type 0} (leaf_of : L → Point → ℕ) (levels_of : L → ℕ) (config : Config) (codec tags : List ℕ)
     (leaves : L) (port : Port L) (result : Result (Oram L) E)

@@ -12,3 +12,4 @@ pub mod Fed
 pub mod Plays
 pub mod Judged
 pub mod Spent
+pub mod Full

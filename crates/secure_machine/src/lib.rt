@@ -54,9 +54,10 @@ ghost use Rattle.log_replay.specs.Given.{CallsReplay};
 ghost use Rattle.log_replay.specs.Judged.{verdict_on, BreaksOffReading, SaysMirror};
 ghost use Rattle.log_replay.specs.Order.{LogOrder};
 ghost use Rattle.play_run.specs.Given.{CallsPlay};
-ghost use Rattle.play_run.specs.Shows.{IsPlayed};
+ghost use Rattle.play_run.specs.Shows.{IsPlayed, IsWholePlay};
 ghost use Rattle.secure_machine.specs.Plays.{play_report, play_with};
 ghost use Rattle.secure_machine.specs.Finish.{IsRightEnding, IsTimeUp};
+ghost use Rattle.secure_machine.specs.Full.{NoSlotIsFull};
 ghost use Rattle.secure_machine.specs.Judged.{ShowsEnding, EndsReplayed, WantsReplayed, SaysWanting, log_end};
 ghost use Rattle.secure_machine.specs.Run.{Reported, Wanting, IsFlatReport, IsUnprepared, IsTiedOr, IsTiedButLast};
 ghost use Rattle.secure_machine.specs.Run.{chip_keys, start_of, IsInBudget, DrawsLeaves};
@@ -254,7 +255,8 @@ fn run_prepared<M: UntrustedMemory, W: Watch, L: LeafFn>(
 /// ending, and the buckets are those that it says. For each point a leaf is drawn at most once, however the run ends,
 /// or the log shows a forgery. Where the bus was prepared and the memory tells its buckets afterwards, they are the
 /// mirror's. After a report as many buckets count as prepared as the shape has, and after want of memory so many, or
-/// none.
+/// none. Over a memory that tells its buckets and doesn't fail, where no slot of the program's Play is too full, what is
+/// reported is the whole Play.
 pub fn run<M: UntrustedMemory, W: Watch, L: LeafFn>(
     alloc: Global,
     config: &Config,
@@ -329,6 +331,12 @@ pub fn run<M: UntrustedMemory, W: Watch, L: LeafFn>(
         (W.state bus.new.tap.now).log) }
     ensures honest { (W.state bus.new.tap.now).log.altered ≡ []
         → IfOk result (λ report. (evidence : Evidence) → report.ending ≡ Ending.Integrity evidence → ⊥) }
+    ensures complete { IsSome (M.state bus.old.memory.now).told
+        → ¬ Rose (M.state bus.old.memory.now).faults (M.state bus.new.memory.now).faults
+        → NoSlotIsFull (chip_keys config.now codec tagger (L.leaf_of leaf)) config.now.stash
+        (play_with config.now image.now input.now)
+        → IfOk result (λ report. IsWholePlay config.now (play_with config.now image.now input.now)
+        (play_report report) (W.state bus.new.tap.now).log) }
     ensures fed { IfOk result (λ report.
         IsFed config.now image.now input.now report (answered_lines (W.state bus.new.tap.now).log.events)) }
     ensures spent { IfOk result (λ report.
