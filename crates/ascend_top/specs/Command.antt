@@ -16,7 +16,7 @@ use Rattle.ascend_top.specs.EncryptedRun.{IsIdle, Lent}
 use Rattle.ascend_top.specs.Gen.{gen_steps}
 use Rattle.ascend_top.specs.Made.{Made, Encrypted, Ran, Assembled, Listed, Held}
 use Rattle.ascend_top.specs.Run.{IsRun, RunWants, run_report_steps, run_steps}
-use Rattle.ascend_top.specs.Status.{status_of_made}
+use Rattle.ascend_top.specs.Status.{status_of_made, status_of_refusal}
 use Rattle.ascend_top.specs.Steps.{AllDone, AsksMore, IsCause, IsDone, IsRefused, PrintsMore, Shows, Step}
 use Rattle.ascend_top.specs.Texts.{refusal_text}
 use Rattle.ascend_top.specs.declared.commands.flat.Outcome.{Outcome}
@@ -152,7 +152,7 @@ IsFirstRefusal files (step ∷ steps) refusal =
 -- is meant to make, or there is no memory.
 abbrev pub Completes : Read → Files → Lent → ℕ → HostState → HostState → Type 0
 Completes read files lent status old new =
-    (status ≡ 11)
+    (status ≡ status_of_refusal NoMemory)
     ⊎ ((made : Made) × IsMade read.command read.given lent (Some files) made × (status ≡ status_of_made made)
     × CommandEnds read lent (Ok made) old new)
 

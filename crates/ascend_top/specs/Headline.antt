@@ -14,6 +14,7 @@ use Rattle.bus_schedule.specs.Timetable.{public_of, timetable}
 use Rattle.bus_watch.specs.Log.{LogLists}
 use Rattle.oram_contents.specs.Forgery.{Forgery}
 use Rattle.play_run.specs.Shows.{IsPlayed}
+use Rattle.run_play.specs.Play.{Play}
 use Rattle.secure_machine.specs.LastMove.{IsAfter}
 use Rattle.secure_machine.specs.Plays.{play_report, play_with}
 use Rattle.secure_machine.specs.Run.{IsFlatReport}
@@ -37,10 +38,14 @@ IsForged program key log = Forgery (keys_from program.config key) log
 abbrev pub IsFlatOrPrefix : Program → Report → Type 0
 IsFlatOrPrefix program report = IsFlatReport program.config program.image program.input.items report
 
+-- the Play of a program with its input
+abbrev pub program_play : Program → Play
+program_play program = play_with program.config program.image program.input.items
+
 -- Beside the sentence: report and log are those of the program's Play, or of the Play cut by a stop.
 abbrev pub IsPlayOrCut : Program → Report → LogLists → Type 0
 IsPlayOrCut program report log =
-    IsPlayed program.config (play_with program.config program.image program.input.items) (play_report report) log
+    IsPlayed program.config (program_play program) (play_report report) log
 
 -- Always: the slots start when the timetable says, one leaf is drawn for each, and the bus's moves are the schedule of
 -- the drawn leaves, the rate code and the end time; and the rate code is below two to the leakage budget. No other move

@@ -2,6 +2,7 @@ pub mod Asm
 pub mod Assembled
 pub mod Check
 pub mod Command
+pub mod Complete
 pub mod Disasm
 pub mod EncryptedRun
 pub mod Flat

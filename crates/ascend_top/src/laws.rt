@@ -8,15 +8,16 @@ ghost use Rattle.elf_loader.specs.Faults.{IsFaultless};
 ghost use Rattle.elf_loader.specs.Layout.{image_bytes};
 ghost use Rattle.play_run.specs.Shows.{IsWholePlay};
 ghost use Rattle.rv32_asm.specs.File.{file_of};
-ghost use Rattle.secure_machine.specs.Plays.{play_report, play_with};
-ghost use Rattle.secure_machine.specs.declared.report.Ending.TheVariants.{StashFull};
+ghost use Rattle.secure_machine.specs.Full.{NoSlotIsFull};
+ghost use Rattle.secure_machine.specs.Plays.{play_report};
 ghost use Rattle.ascend_words.specs.Grammar.{Pair};
 ghost use Rattle.ascend_words.specs.Settings.{text_in};
 ghost use Rattle.ascend_words.specs.declared.table.Command.{Command};
 ghost use Rattle.ascend_words.specs.declared.table.Name.TheVariants.{Output, Trace};
 ghost use Rattle.ascend_top.specs.Assembled.{IsInside, memory_of};
 ghost use Rattle.ascend_top.specs.FlatRun.{file_in};
-ghost use Rattle.ascend_top.specs.EncryptedRun.{Lent};
+ghost use Rattle.ascend_top.specs.EncryptedRun.{Lent, keys_from};
+ghost use Rattle.ascend_top.specs.Headline.{program_play};
 ghost use Rattle.ascend_top.specs.Run.{IsRun, run_report_steps};
 ghost use Rattle.ascend_top.specs.Steps.{AllDone, PrintsMore};
 ghost use Rattle.ascend_top.specs.Texts.{run_text};
@@ -35,16 +36,17 @@ pub fn assembled_files_are_accepted()
     ensures one { IsInside 0 1_048_576 4_096 (115 ∷ 0 ∷ 0 ∷ 0 ∷ []) }
 {}
 
-/// A run over a memory that told its buckets and didn't fail, and that didn't end by a full stash, is the whole Play of
-/// its program: its report is the Play's, and the log's events are those of the Play's slots, one by one. So its status
-/// is 0, 1, 8 or 9, as the Play ends.
+/// A run over a memory that told its buckets and didn't fail, and no slot of whose Play finds too many blocks to keep, is
+/// the whole Play of its program: its report is the Play's, and the log's events are those of the Play's slots, one by
+/// one. So its status is 0, 1, 8 or 9, as the Play ends.
 pub fn runs_over_honest_memory_are_plays()
     ensures { (command : Command) (given : List Pair) (told : Option Files) (lent : Lent) (run : EncryptedRun)
         → (ran : IsRun command given told lent run) → IsSome lent.memory.told
-        → ¬ Rose lent.memory.faults lent.memory'.faults → ((held : ℕ) → run.report.ending ≡ StashFull held → ⊥)
-        → let program = ran.begin.program in
-        IsWholePlay program.config (play_with program.config program.image program.input.items)
-        (play_report run.report) lent.tap'.log }
+        → ¬ Rose lent.memory.faults lent.memory'.faults
+        → NoSlotIsFull (keys_from ran.begin.program.config ran.begin.key) ran.begin.program.config.stash
+        (program_play ran.begin.program)
+        → IsWholePlay ran.begin.program.config (program_play ran.begin.program) (play_report run.report)
+        lent.tap'.log }
 {}
 
 /// Where a run over encrypted memory was reported, the output file is the report's output, unless the file of the trace

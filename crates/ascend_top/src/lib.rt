@@ -14,13 +14,14 @@ mod steps;
 mod text;
 mod traces;
 
-ghost use Rattle.std.specs.Prelude.{◌≡◌, ◌⊎◌, ◌<◌, ◌^◌, ℕ, List, [], Some, Err, Result};
+ghost use Rattle.std.specs.Prelude.{◌≡◌, ◌⊎◌, ◌<◌, ◌^◌, ℕ, List, [], Some, Err, IsSome, Result};
 ghost use Rattle.asc_outside.specs.Host.{Files};
 ghost use Rattle.asc_outside.specs.Rose.{Rose};
 ghost use Rattle.ascend_words.specs.Grammar.{Read, IsFault, IsWords, texts};
 ghost use Rattle.ascend_words.specs.declared.table.Command.TheVariants.{Gen, Run};
 ghost use Rattle.ascend_top.specs.Command.{AreRight, CommandEnds, Completes, IsFirstRefusal, IsOfFiles, WorkEnds};
 ghost use Rattle.ascend_top.specs.Command.{Tells, end_of, steps_of};
+ghost use Rattle.ascend_top.specs.Complete.{CompletesPlay, HasRoom};
 ghost use Rattle.ascend_top.specs.EncryptedRun.{IsIdle, lent_as};
 ghost use Rattle.ascend_top.specs.Headline.{CarriesHeadline, RunsEncrypted};
 ghost use Rattle.ascend_top.specs.Made.{Made};
@@ -97,6 +98,12 @@ pub fn ascend<H: Host, M: UntrustedMemory>(
         → (H.state host.old).files ≡ Some files → AreRight read files
         → ¬ Rose (H.state host.old).faults (H.state host.new).faults
         → Completes read files (lent_as (M.state memory.old) (M.state memory.new) tap.old tap.new) result
+        (H.state host.old) (H.state host.new) }
+    ensures complete_play { (read : Read) (files : Files) → IsWords (texts words.now) read
+        → RunsEncrypted read.command → (H.state host.old).files ≡ Some files → AreRight read files
+        → ¬ Rose (H.state host.old).faults (H.state host.new).faults → IsSome (M.state memory.old).told
+        → ¬ Rose (M.state memory.old).faults (M.state memory.new).faults → HasRoom read.command read.given files
+        → CompletesPlay read files (lent_as (M.state memory.old) (M.state memory.new) tap.old tap.new) result
         (H.state host.old) (H.state host.new) }
     ensures refused { (read : Read) (files : Files) (refusal : WhyRefused) → IsWords (texts words.now) read
         → (H.state host.old).files ≡ Some files → IsOfFiles refusal

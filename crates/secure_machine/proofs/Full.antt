@@ -248,22 +248,26 @@ never_full keys stash config whole report log shape played order none room held 
     room at.k at.stop held at.ends
     (ap (λ (r : Play). verdict_on keys stash (log_of keys r)) (sym cut_is) ∙ sym same ∙ full)
 
--- A run without altered replies, which no failure ended, and of whose play no slot is full, is the whole play.
-pub completes : (keys : Keys) (config : Config) (whole : Play) (report : Report) (log : LogLists)
-    → keys.shape ≡ config.shape → IsPlayed config whole (play_report report) log → LogOrder keys log
-    → log.altered ≡ [] → ShowsEnding keys config.stash report.ending log
-    → ((evidence : Evidence) → report.ending ≡ Integrity evidence → ⊥) → (report.ending ≡ Device → ⊥)
-    → NoSlotIsFull keys config.stash whole → IsWholePlay config whole (play_report report) log
-completes keys config whole report log shape played order none shows blamed failed room =
-    played-whole config whole (play_report report) log played (own report.ending refl)
-  where
-    own : (ending : Ending) → report.ending ≡ ending → IsOwn (play_ending report.ending)
-    own (Exit status) is = subst (λ e. IsOwn (play_ending e)) (sym is) tt
-    own (Trap kind pc) is = subst (λ e. IsOwn (play_ending e)) (sym is) tt
-    own Budget is = subst (λ e. IsOwn (play_ending e)) (sym is) tt
-    own (TimeUp at) is = subst (λ e. IsOwn (play_ending e)) (sym is) tt
-    own (StashFull held) is = absurd (never_full keys config.stash config whole (play_report report) log shape played
-        order none room held (ap play_ending is)
-        (subst (λ e. ShowsEnding keys config.stash e log) is shows).wrong)
-    own (Integrity evidence) is = absurd (blamed evidence is)
-    own Device is = absurd (failed is)
+module _ (keys : Keys) (config : Config) (whole : Play) (report : Report) (log : LogLists)
+    (shape : keys.shape ≡ config.shape) (played : IsPlayed config whole (play_report report) log)
+    (order : LogOrder keys log) (none : log.altered ≡ [])
+    (shows : ShowsEnding keys config.stash report.ending log)
+    (blamed : (evidence : Evidence) → report.ending ≡ Integrity evidence → ⊥) (failed : report.ending ≡ Device → ⊥)
+    (room : NoSlotIsFull keys config.stash whole) where
+  own_if : (ending : Ending) → report.ending ≡ ending → IsOwn (play_ending report.ending)
+  own_if (Exit status) is = subst (λ e. IsOwn (play_ending e)) (sym is) tt
+  own_if (Trap kind pc) is = subst (λ e. IsOwn (play_ending e)) (sym is) tt
+  own_if Budget is = subst (λ e. IsOwn (play_ending e)) (sym is) tt
+  own_if (TimeUp at) is = subst (λ e. IsOwn (play_ending e)) (sym is) tt
+  own_if (StashFull held) is = absurd (never_full keys config.stash config whole (play_report report) log shape played
+      order none room held (ap play_ending is) (subst (λ e. ShowsEnding keys config.stash e log) is shows).wrong)
+  own_if (Integrity evidence) is = absurd (blamed evidence is)
+  own_if Device is = absurd (failed is)
+
+  -- A run without altered replies, which no failure ended, and of whose play no slot is full, ends by itself or by the
+  -- time, and is the whole play.
+  pub ends_itself : IsOwn (play_ending report.ending)
+  ends_itself = own_if report.ending refl
+
+  pub completes : IsWholePlay config whole (play_report report) log
+  completes = played-whole config whole (play_report report) log played ends_itself

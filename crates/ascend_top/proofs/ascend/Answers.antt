@@ -11,6 +11,7 @@ use Rattle.ascend_top.specs.EncryptedRun.{lent_as}
 use Rattle.ascend_top.proofs.EndLaws.{completes, lost_at_start, others_idle, refuses_first, tells_nothing}
 use Rattle.ascend_top.proofs.EndLaws.{tells_no_text}
 use Rattle.ascend_top.proofs.HeadlineLaws.{ends_carry}
+use Rattle.ascend_top.proofs.PlayLaws.{completes_play}
 use Rattle.ascend_top.proofs.ascend.Goals as goal
 
 -- one answer isn't another
@@ -53,6 +54,11 @@ returns-in-Ok-clause-complete g c read files is told right safe =
     let ends = returns-in-Ok-clause-command g c read is in
     completes read _ files c.finish.result (ends.0) _ _ (ends.1) (ends.2) told right safe
 
+pub returns-in-Ok-clause-complete_play : goal.returns-in-Ok-clause-complete_play
+returns-in-Ok-clause-complete_play g c read files is runs told right safe some sound room =
+    completes_play read files _ c.finish.result _ _ runs (returns-in-Ok-clause-complete g c read files is told right safe)
+    some sound room
+
 pub returns-in-Err-Usage-clause-usage : goal.returns-in-Err-Usage-clause-usage
 returns-in-Err-Usage-clause-usage g c word fault =
     let refused = rw c.in-Err-Usage.field-0-is at c.in-Err-Usage.ensures.refused in
@@ -69,6 +75,14 @@ pub returns-in-Err-Usage-clause-complete : goal.returns-in-Err-Usage-clause-comp
 returns-in-Err-Usage-clause-complete g c read files is told right safe =
     let accepted = rw c.in-Err-Usage.field-0-is at c.in-Err-Usage.ensures.accepted in
     wrong_right c.in-Err-Usage.word read (accepted read is)
+
+pub returns-in-Err-Usage-clause-complete_play : goal.returns-in-Err-Usage-clause-complete_play
+returns-in-Err-Usage-clause-complete_play g c read files is runs told right safe some sound room =
+    let accepted = rw c.in-Err-Usage.field-0-is at c.in-Err-Usage.ensures.accepted in
+    wrong_right c.in-Err-Usage.word read (accepted read is)
+
+pub returns-in-Err-NoMemory-clause-complete_play : goal.returns-in-Err-NoMemory-clause-complete_play
+returns-in-Err-NoMemory-clause-complete_play g c read files is runs told right safe some sound room = inl refl
 
 pub returns-in-Err-NoMemory-clause-usage : goal.returns-in-Err-NoMemory-clause-usage
 returns-in-Err-NoMemory-clause-usage g c word fault = (
