@@ -25,7 +25,7 @@ use Rattle.rv32_asm.specs.declared.fault.AsmFault.TheVariants.{Bad}
 use Rattle.rv32_asm.specs.File.{assembled}
 use Rattle.ascend_top.specs.Command.{AreRight, CommandEnds, Completes, IsFirstRefusal, IsLost, IsMade, IsOfFiles}
 use Rattle.ascend_top.specs.Command.{StepsEnd}
-use Rattle.ascend_top.specs.EncryptedRun.{IsIdle, Lent}
+use Rattle.ascend_top.specs.Lent.{IsIdle, Lent}
 use Rattle.ascend_top.specs.Gen.{gen_file}
 use Rattle.ascend_top.specs.Command.{Tells, WorkEnds, last_steps, lifted, steps_of}
 use Rattle.ascend_top.specs.Flat.{input_steps, program_steps}

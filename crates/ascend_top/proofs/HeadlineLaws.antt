@@ -6,7 +6,8 @@ use Rattle.ascend_words.specs.Grammar.{Pair, Read}
 use Rattle.ascend_words.specs.declared.table.Command.{Command}
 use Rattle.ascend_words.specs.declared.table.Command.TheVariants.{Run, Flat, Asm, Disasm, Check, Gen}
 use Rattle.ascend_top.specs.Command.{CommandEnds, IsLost, IsMade, WorkEnds}
-use Rattle.ascend_top.specs.EncryptedRun.{IsRunOf, IsWantOf, Lent}
+use Rattle.ascend_top.specs.EncryptedRun.{IsRunOf, IsWantOf}
+use Rattle.ascend_top.specs.Lent.{Lent}
 use Rattle.ascend_top.specs.Headline.{CarriesHeadline, Headline, IsCutShort, IsForged, MadeByHeadline}
 use Rattle.ascend_top.specs.Headline.{RunsEncrypted}
 use Rattle.ascend_top.specs.Made.{Made, Encrypted, Ran, Assembled, Listed, Held}
@@ -19,15 +20,15 @@ use Rattle.ascend_top.specs.declared.refusal.Refusal.{Refusal}
 headline_of : (program : Program) (key : List ℕ) (lent : Lent) (report : Report)
     → IsRunOf program.config program.image program.input.items key lent report → Headline program key lent report
 headline_of program key lent report is = record {
-  flat = turned is.refines;
-  honest = λ told. is.flat (is.unaltered told);
-  play = turned is.plays;
+  flat = turned is.dishonest.refinement.flat;
+  honest = λ told. is.end_to_end.flat (is.end_to_end.unaltered told);
+  play = turned is.dishonest.refinement.plays;
   always = record {
-    starts = is.pace.scheduled.starts;
-    leaves = is.pace.scheduled.leaves;
-    moves = is.pace.scheduled.moves;
-    code = is.bits;
-    asked = is.asked;
+    starts = is.dishonest.schedule.pace.scheduled.starts;
+    leaves = is.dishonest.schedule.pace.scheduled.leaves;
+    moves = is.dishonest.schedule.pace.scheduled.moves;
+    code = is.dishonest.schedule.bits;
+    asked = is.dishonest.schedule.asked;
   };
 }
   where

@@ -15,7 +15,8 @@ use Rattle.ascend_words.specs.declared.table.Command.{Command}
 use Rattle.ascend_words.specs.declared.table.Command.TheVariants.{Run, Flat, Asm, Disasm, Check, Gen}
 use Rattle.ascend_top.specs.Command.{CommandEnds, Completes, IsMade}
 use Rattle.ascend_top.specs.Complete.{CompletesPlay, HasRoom, IsPlayStatus}
-use Rattle.ascend_top.specs.EncryptedRun.{Lent, keys_from}
+use Rattle.ascend_top.specs.EncryptedRun.{keys_from}
+use Rattle.ascend_top.specs.Lent.{Lent}
 use Rattle.ascend_top.specs.Headline.{program_play, RunsEncrypted}
 use Rattle.ascend_top.specs.Made.{Made, Encrypted, Ran, Assembled, Listed, Held}
 use Rattle.ascend_top.specs.Run.{IsRun}
@@ -30,19 +31,21 @@ module _ (command : Command) (given : List Pair) (told : Option Files) (lent : L
   pub run_is_own : IsOwn (play_ending run.report.ending)
   run_is_own =
       let runs = ran.outcome.runs in
-      let none = runs.unaltered some in
+      let none = runs.end_to_end.unaltered some in
       ends_itself (keys_from ran.begin.program.config ran.begin.key) ran.begin.program.config
-      (program_play ran.begin.program) run.report lent.tap'.log refl (runs.played none) runs.order none runs.verdict
-      (runs.honest none) (λ is. sound (runs.device is)) room
+      (program_play ran.begin.program) run.report lent.tap'.log refl (runs.end_to_end.played none)
+      runs.dishonest.contents.order none runs.dishonest.verdicts.verdict (runs.end_to_end.honest none)
+      (λ is. sound (runs.causes.device is)) room
 
   pub run_is_play : IsWholePlay ran.begin.program.config (program_play ran.begin.program) (play_report run.report)
       lent.tap'.log
   run_is_play =
       let runs = ran.outcome.runs in
-      let none = runs.unaltered some in
+      let none = runs.end_to_end.unaltered some in
       run_completes (keys_from ran.begin.program.config ran.begin.key) ran.begin.program.config
-      (program_play ran.begin.program) run.report lent.tap'.log refl (runs.played none) runs.order none runs.verdict
-      (runs.honest none) (λ is. sound (runs.device is)) room
+      (program_play ran.begin.program) run.report lent.tap'.log refl (runs.end_to_end.played none)
+      runs.dishonest.contents.order none runs.dishonest.verdicts.verdict (runs.end_to_end.honest none)
+      (λ is. sound (runs.causes.device is)) room
 
 own_status : (ending : Ending) → IsOwn (play_ending ending) → IsPlayStatus (play_ending ending) (status_of_run ending)
 own_status (Exit status) own = refl

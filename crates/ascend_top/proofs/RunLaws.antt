@@ -19,6 +19,7 @@ use Rattle.log_replay.specs.Judged.{BreaksOffReading, SaysMirror, verdict_on}
 use Rattle.log_replay.specs.Order.{LogOrder}
 use Rattle.oram_contents.specs.Forgery.{Forgery}
 use Rattle.oram_lines.specs.Standing.{DrawnOnce}
+use Rattle.oram_lines.proofs.HonestTriples.{unforged}
 use Rattle.rate_enforcer.specs.Counts.{is_answered, is_dummy, is_real}
 use Rattle.play_run.specs.Shows.{IsPlayed}
 use Rattle.secure_machine.specs.Answered.{answered_lines}
@@ -43,7 +44,8 @@ use Rattle.ascend_top.specs.Command.{IsLost, IsMade, StepsEnd, WorkEnds, lifted,
 use Rattle.ascend_top.specs.Flat.{flat_steps, report_steps}
 use Rattle.ascend_top.specs.FlatRun.{Report, bytes_in, ending_of, file_in, flat_of, flat_report, input_in}
 use Rattle.ascend_top.specs.FlatRun.{outcome_report, report_of, run_over}
-use Rattle.ascend_top.specs.EncryptedRun.{IsRunOf, IsWantOf, Lent, keys_from}
+use Rattle.ascend_top.specs.EncryptedRun.{IsRunOf, IsWantOf, keys_from}
+use Rattle.ascend_top.specs.Lent.{Lent}
 use Rattle.ascend_top.specs.Made.{Encrypted as MadeEncrypted}
 use Rattle.ascend_top.specs.Parts.{CanRun, EndsAs, IsConfigOf, IsImageOf, IsProgramOf, RunEnds, program_report}
 use Rattle.ascend_top.specs.Run.{BegunEnds, IsBegin, IsOutcome, IsProgramBy, IsRun, RunWants, run_report_steps}
@@ -224,36 +226,37 @@ module _ (config : Config) (image : Image) (input key : List ℕ) (lent : Lent) 
         played fed verdict contents told count time_up = tt
     ran_of (Ok report) pace in_time real dummies tied device right choices code fetches spent flat honest refines plays
         played fed verdict contents told count time_up = record {
-          pace = pace;
-          in_time = in_time;
-          leaves = leaves;
-          bits = bits;
-          real = real;
-          dummies = dummies;
-          tied = tied;
-          faults = faults;
-          device = device;
-          right = right;
-          time_up = time_up;
-          choices = choices;
-          code = code;
-          fetches = fetches;
-          spent = spent;
-          budget = budget;
-          asked = asked;
-          unaltered = unaltered;
-          flat = flat;
-          honest = honest;
-          refines = refines;
-          plays = plays;
-          played = played;
-          points = points;
-          fed = fed;
-          order = order;
-          verdict = verdict;
-          contents = contents;
-          told = told;
-          count = count;
+          dishonest = record {
+            refinement = record { flat = refines; plays = plays };
+            schedule = record {
+              pace = pace;
+              in_time = in_time;
+              bits = bits;
+              asked = asked;
+              tied = tied;
+              told = told;
+              count = count;
+            };
+            contents = record { order = order; leaves = leaves; contents = contents; points = points };
+            rates = record { choices = choices; code = code; budget = budget };
+            verdicts = record { verdict = verdict };
+            core = record { fetches = fetches; fed = fed; spent = spent };
+          };
+          end_to_end = record {
+            flat = flat;
+            played = played;
+            honest = honest;
+            unforged = λ none forged. unforged (keys_from config key) lent.tap'.log forged none;
+            unaltered = unaltered;
+          };
+          causes = record {
+            faults = faults;
+            device = device;
+            right = right;
+            time_up = time_up;
+            real = real;
+            dummies = dummies;
+          };
         }
 
     -- the same of one that found no memory

@@ -12,7 +12,7 @@ use Rattle.ascend_top.specs.Check.{check_steps, held_steps, AreHeld}
 use Rattle.ascend_top.specs.Disasm.{disasm_steps, disasm_listing, print_steps}
 use Rattle.ascend_top.specs.Flat.{flat_steps, report_steps}
 use Rattle.ascend_top.specs.FlatRun.{Report, flat_report, outcome_report}
-use Rattle.ascend_top.specs.EncryptedRun.{IsIdle, Lent}
+use Rattle.ascend_top.specs.Lent.{IsIdle, Lent}
 use Rattle.ascend_top.specs.Gen.{gen_steps}
 use Rattle.ascend_top.specs.Made.{Made, Encrypted, Ran, Assembled, Listed, Held}
 use Rattle.ascend_top.specs.Run.{IsRun, RunWants, run_report_steps, run_steps}

@@ -9,7 +9,8 @@ use Rattle.secure_machine.specs.Plays.{play_report}
 use Rattle.ascend_words.specs.Grammar.{Pair, Read}
 use Rattle.ascend_words.specs.declared.table.Command.{Command}
 use Rattle.ascend_top.specs.Command.{CommandEnds}
-use Rattle.ascend_top.specs.EncryptedRun.{Lent, keys_from}
+use Rattle.ascend_top.specs.EncryptedRun.{keys_from}
+use Rattle.ascend_top.specs.Lent.{Lent}
 use Rattle.ascend_top.specs.Headline.{program_play}
 use Rattle.ascend_top.specs.Made.{Encrypted}
 use Rattle.ascend_top.specs.Run.{IsBegin, IsRun}

@@ -22,7 +22,8 @@ use Rattle.secure_machine.specs.declared.report.Report.{Report}
 use Rattle.ascend_words.specs.Grammar.{Pair}
 use Rattle.ascend_words.specs.declared.table.Command.{Command}
 use Rattle.ascend_words.specs.declared.table.Command.TheVariants.{Run, Flat, Asm, Disasm, Check, Gen}
-use Rattle.ascend_top.specs.EncryptedRun.{IsIdle, Lent, keys_from}
+use Rattle.ascend_top.specs.EncryptedRun.{keys_from}
+use Rattle.ascend_top.specs.Lent.{IsIdle, Lent}
 use Rattle.ascend_top.specs.Made.{Made, Encrypted}
 use Rattle.ascend_top.specs.Run.{IsBegin}
 use Rattle.ascend_top.specs.declared.commands.flat.Program.{Program}

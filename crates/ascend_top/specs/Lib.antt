@@ -4,11 +4,13 @@ pub mod Check
 pub mod Command
 pub mod Complete
 pub mod Disasm
+pub mod Dishonest
 pub mod EncryptedRun
 pub mod Flat
 pub mod FlatRun
 pub mod Gen
 pub mod Headline
+pub mod Lent
 pub mod Made
 pub mod Parts
 pub mod Run

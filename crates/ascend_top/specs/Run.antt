@@ -13,7 +13,8 @@ use Rattle.ascend_words.specs.Settings.{settings_of, text_in}
 use Rattle.ascend_words.specs.declared.table.Command.{Command}
 use Rattle.ascend_words.specs.declared.table.Command.TheVariants.{Gen, Run}
 use Rattle.ascend_words.specs.declared.table.Name.TheVariants.{Key, Output, Trace}
-use Rattle.ascend_top.specs.EncryptedRun.{IsRunOf, Wants, Lent}
+use Rattle.ascend_top.specs.EncryptedRun.{IsRunOf, Wants}
+use Rattle.ascend_top.specs.Lent.{Lent}
 use Rattle.ascend_top.specs.Flat.{program_steps}
 use Rattle.ascend_top.specs.FlatRun.{bytes_in, file_in}
 use Rattle.ascend_top.specs.Gen.{IsGenerated}

@@ -22,7 +22,7 @@ ghost use Rattle.ascend_words.specs.declared.table.Command.TheVariants.{Gen, Run
 ghost use Rattle.ascend_top.specs.Command.{AreRight, CommandEnds, Completes, IsFirstRefusal, IsOfFiles, WorkEnds};
 ghost use Rattle.ascend_top.specs.Command.{Tells, end_of, steps_of};
 ghost use Rattle.ascend_top.specs.Complete.{CompletesPlay, HasRoom};
-ghost use Rattle.ascend_top.specs.EncryptedRun.{IsIdle, lent_as};
+ghost use Rattle.ascend_top.specs.Lent.{IsIdle, lent_as};
 ghost use Rattle.ascend_top.specs.Headline.{CarriesHeadline, RunsEncrypted};
 ghost use Rattle.ascend_top.specs.Made.{Made};
 ghost use Rattle.ascend_top.specs.Status.{status_of, status_of_refusal};

@@ -7,7 +7,7 @@ use Rattle.ascend_top.specs.Made.{Made}
 use Rattle.ascend_top.specs.Status.{status_of, status_of_refusal}
 use Rattle.ascend_top.specs.declared.refusal.Refusal.{Refusal}
 use Rattle.ascend_top.specs.declared.refusal.Refusal.TheVariants.{Usage, NoMemory}
-use Rattle.ascend_top.specs.EncryptedRun.{lent_as}
+use Rattle.ascend_top.specs.Lent.{lent_as}
 use Rattle.ascend_top.proofs.EndLaws.{completes, lost_at_start, others_idle, refuses_first, tells_nothing}
 use Rattle.ascend_top.proofs.EndLaws.{tells_no_text}
 use Rattle.ascend_top.proofs.HeadlineLaws.{ends_carry}

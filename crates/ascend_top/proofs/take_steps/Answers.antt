@@ -8,7 +8,7 @@ use Rattle.ascend_top.specs.Command.{WorkEnds, bytes_end, end_of, run_end}
 use Rattle.ascend_top.specs.Disasm.{disasm_listing, print_steps}
 use Rattle.ascend_top.specs.Flat.{report_steps}
 use Rattle.ascend_top.specs.FlatRun.{Report, flat_report}
-use Rattle.ascend_top.specs.EncryptedRun.{IsIdle, lent_as}
+use Rattle.ascend_top.specs.Lent.{IsIdle, lent_as}
 use Rattle.ascend_top.specs.Made.{Ran, Assembled, Listed, Held}
 use Rattle.ascend_top.specs.Steps.{Shows}
 use Rattle.ascend_top.proofs.EndLaws.{lift_ends}

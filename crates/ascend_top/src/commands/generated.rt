@@ -1,7 +1,7 @@
 //! The command `gen`: the run over encrypted memory of a program that is made from two numbers.
 ghost use Rattle.std.specs.Prelude.{◌≡◌, ◌≤◌, ◌<◌, ◌^◌, [], IfErr, IfOk, OnOk};
 ghost use Rattle.ascend_top.specs.Command.{WorkEnds, lifted};
-ghost use Rattle.ascend_top.specs.EncryptedRun.{lent_as};
+ghost use Rattle.ascend_top.specs.Lent.{lent_as};
 ghost use Rattle.ascend_top.specs.Gen.{IsGenerated, count_in, gen_file, gen_steps, made_steps, seed_in};
 ghost use Rattle.ascend_top.specs.Made.{Encrypted as MadeEncrypted};
 ghost use Rattle.ascend_top.specs.Parts.{CanRun, IsConfigOf};

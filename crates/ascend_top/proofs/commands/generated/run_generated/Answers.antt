@@ -1,5 +1,5 @@
 use Rattle.ascend_words.specs.declared.table.Command.TheVariants.{Gen}
-use Rattle.ascend_top.specs.EncryptedRun.{lent_as}
+use Rattle.ascend_top.specs.Lent.{lent_as}
 use Rattle.ascend_top.proofs.RunLaws.{begun_ends}
 use Rattle.ascend_top.proofs.commands.generated.run_generated.Goals as goal
 

@@ -11,7 +11,8 @@ use Rattle.log_replay.specs.Judged.{BreaksOffReading, SaysMirror, verdict_on}
 use Rattle.log_replay.specs.Order.{LogOrder}
 use Rattle.secure_machine.specs.Judged.{SaysWanting, ShowsEnding, log_end}
 use Rattle.secure_machine.specs.Run.{IsUnprepared, chip_keys}
-use Rattle.ascend_top.specs.EncryptedRun.{IsRunOf, keys_from, lent_as}
+use Rattle.ascend_top.specs.EncryptedRun.{IsRunOf, keys_from}
+use Rattle.ascend_top.specs.Lent.{lent_as}
 use Rattle.ascend_top.proofs.RunLaws.{ran_of, wants_of}
 use Rattle.ascend_top.proofs.TraceLaws.{levels_few}
 use Rattle.ascend_top.proofs.commands.run.run_on.Goals as goal
