@@ -1,7 +1,6 @@
 ghost use Rattle.std.specs.Prelude.{◌≡◌, ◌<◌, ◌≤◌, ◌+◌, ◌^◌, Some, None, IfSome, OnOk, OnErr, IsErrOf};
 ghost use Rattle.std.specs.Prelude.{slice_get, slice_set, option_map};
 ghost use Rattle.asc_outside.specs.Memory.{MemoryState, Adds, Keeps, zero_buckets, read_ask, write_ask, zero_bucket};
-ghost use Rattle.asc_outside.specs.Rose.{Rose};
 
 /// The bytes of a bucket.
 pub const BUCKET_BYTES: usize = 376;
@@ -32,8 +31,7 @@ pub enum MemStop {
 /// It means a count of faults, which never falls, the number of moves that it was asked, the number of prepared
 /// buckets, and three lists that it tells or keeps to itself: its buckets, the moves, and the answers of its reads. No
 /// call tells a list that wasn't told. It also means a number that no call changes, which ties a memory to the one that
-/// it wraps. A call is answered `Failed` only where the count of faults rose in it, or stands after it at the greatest
-/// number of its type.
+/// it wraps. A call is answered `Failed` only where the count of faults rose in it.
 pub trait UntrustedMemory {
     /// The counts, and what is told of buckets, moves and answers.
     ghost state: { Self → MemoryState };
@@ -52,7 +50,7 @@ pub trait UntrustedMemory {
         ensures said { (state self.new).said ≡ (state self.old).said }
         ensures link { (state self.new).link ≡ (state self.old).link }
         ensures later { (state self.old).faults ≤ (state self.new).faults }
-        ensures cause { IsErrOf result MemStop.Failed → Rose (state self.old).faults (state self.new).faults };
+        ensures cause { IsErrOf result MemStop.Failed → (state self.old).faults < (state self.new).faults };
 
     /// Reads a bucket, at this time in cycles. Where buckets are told, an Ok gives the told bytes. The move counts on
     /// every answer.
@@ -69,7 +67,7 @@ pub trait UntrustedMemory {
         ensures said_err { OnErr result (Adds (state self.old).said None (state self.new).said) }
         ensures link { (state self.new).link ≡ (state self.old).link }
         ensures later { (state self.old).faults ≤ (state self.new).faults }
-        ensures cause { OnErr result (Rose (state self.old).faults (state self.new).faults) };
+        ensures cause { OnErr result ((state self.old).faults < (state self.new).faults) };
 
     /// Writes a bucket, at this time in cycles. Where buckets are told, an Ok changes this one alone. The move counts
     /// on every answer.
@@ -88,5 +86,5 @@ pub trait UntrustedMemory {
         ensures said { Keeps (state self.old).said (state self.new).said }
         ensures link { (state self.new).link ≡ (state self.old).link }
         ensures later { (state self.old).faults ≤ (state self.new).faults }
-        ensures cause { IsErrOf result MemStop.Failed → Rose (state self.old).faults (state self.new).faults };
+        ensures cause { IsErrOf result MemStop.Failed → (state self.old).faults < (state self.new).faults };
 }

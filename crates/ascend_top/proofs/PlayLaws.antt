@@ -1,7 +1,6 @@
 -- A run over an honest memory, no slot of whose Play is full, is the whole Play of its program.
-use Rattle.std.proofs.Common.{◌≡◌, ◌∙◌, inl, inr, ℕ, List, Option, Some, Ok, IsSome, refl, sym, ap, subst}
+use Rattle.std.proofs.Common.{◌≡◌, ◌<◌, ◌∙◌, inl, inr, ℕ, List, Option, Some, Ok, IsSome, refl, sym, ap, subst}
 use Rattle.asc_outside.specs.Host.{Files, HostState}
-use Rattle.asc_outside.specs.Rose.{Rose}
 use Rattle.play_run.specs.Shows.{IsOwn, IsWholePlay}
 use Rattle.run_play.specs.PlayEvents.{PlayReport}
 use Rattle.secure_machine.specs.Full.{NoSlotIsFull}
@@ -25,7 +24,7 @@ use Rattle.ascend_top.specs.declared.commands.run.Encrypted.{Encrypted as Encryp
 
 module _ (command : Command) (given : List Pair) (told : Option Files) (lent : Lent) (run : EncryptedRun)
     (ran : IsRun command given told lent run) (some : IsSome lent.memory.told)
-    (sound : ¬ Rose lent.memory.faults lent.memory'.faults)
+    (sound : ¬ (lent.memory.faults < lent.memory'.faults))
     (room : NoSlotIsFull (keys_from ran.begin.program.config ran.begin.key) ran.begin.program.config.stash
     (program_play ran.begin.program)) where
   pub run_is_own : IsOwn (play_ending run.report.ending)
@@ -82,7 +81,7 @@ made_run Check given lent told made runs is = absurd runs
 -- A command that comes to what its work makes, or wants memory, comes to the whole Play.
 pub completes_play : (read : Read) (files : Files) (lent : Lent) (status : ℕ) (old new : HostState)
     → RunsEncrypted read.command → Completes read files lent status old new → IsSome lent.memory.told
-    → ¬ Rose lent.memory.faults lent.memory'.faults → HasRoom read.command read.given files
+    → ¬ (lent.memory.faults < lent.memory'.faults) → HasRoom read.command read.given files
     → CompletesPlay read files lent status old new
 completes_play read files lent status old new runs (inl none) some sound room = inl none
 completes_play read files lent status old new runs (inr (made, meant, is, ends)) some sound room =

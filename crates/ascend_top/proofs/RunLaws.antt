@@ -9,7 +9,6 @@ use Rattle.asc_base.specs.declared.settings.Config.{Config}
 use Rattle.asc_base.specs.declared.settings.Settings.{Settings}
 use Rattle.asc_base.specs.declared.stop.Evidence.{Evidence}
 use Rattle.asc_outside.specs.Host.{Files, HostState}
-use Rattle.asc_outside.specs.Rose.{Rose}
 use Rattle.bus_schedule.specs.Scheduled.{log_code}
 use Rattle.bus_schedule.specs.Shown.{indices_of}
 use Rattle.bus_schedule.specs.Timetable.{public_of}
@@ -201,7 +200,7 @@ module _ (config : Config) (image : Image) (input key : List ℕ) (lent : Lent) 
         → IfOk result (λ r. r.real ≡ count_by is_real lent.tap'.log.events)
         → IfOk result (λ r. r.dummies ≡ count_by is_dummy lent.tap'.log.events)
         → IfOk result (λ r. IsTiedOr config (IsUnprepared r lent.tap lent.tap') lent.memory lent.memory' lent.tap')
-        → IfOk result (λ r. r.ending ≡ Device → Rose lent.memory.faults lent.memory'.faults)
+        → IfOk result (λ r. r.ending ≡ Device → lent.memory.faults < lent.memory'.faults)
         → IfOk result (λ r. IsRightEnding config.budget config.time r.instructions r.cycles r.last r.ending)
         → IfOk result (λ r. r.choices ≡ length (indices_of lent.tap'.log.events))
         → IfOk result (λ r. r.code ≡ log_code (public_of config) lent.tap'.log)

@@ -2,7 +2,6 @@
 use Rattle.std.specs.Prelude.{◌≡◌, ◌<◌, ◌≤◌, ◌+◌, ◌^◌, ◌⊎◌, ℕ, List, [], None, IsSome, length}
 use Rattle.std.specs.List.{count_by}
 use Rattle.asc_base.specs.declared.settings.Config.{Config}
-use Rattle.asc_outside.specs.Rose.{Rose}
 use Rattle.bucket_codec.specs.Pad.{pad_key}
 use Rattle.bus_schedule.specs.Scheduled.{log_code}
 use Rattle.bus_schedule.specs.Timetable.{public_of}
@@ -35,7 +34,7 @@ keys_from config master =
 -- isn't before the time of the settings; and slots are counted.
 pub record HasCauses (config : Config) (lent : Lent) (report : Report) : Type 0 where
   pub faults : lent.memory.faults ≤ lent.memory'.faults
-  pub device : report.ending ≡ Device → Rose lent.memory.faults lent.memory'.faults
+  pub device : report.ending ≡ Device → lent.memory.faults < lent.memory'.faults
   pub right : IsRightEnding config.budget config.time report.instructions report.cycles report.last report.ending
   pub time_up : (at : ℕ) → report.ending ≡ TimeUp at → IsTimeUp config report.cycles lent.tap'.log at
   pub real : report.real ≡ count_by is_real lent.tap'.log.events

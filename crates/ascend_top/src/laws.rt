@@ -1,8 +1,7 @@
 //! Laws of the crates below, taken together, and of what a run leaves. The calls do nothing.
 
-ghost use Rattle.std.specs.Prelude.{◌≡◌, ℕ, List, [], ◌∷◌, Option, Some, IsSome};
+ghost use Rattle.std.specs.Prelude.{◌≡◌, ◌<◌, ℕ, List, [], ◌∷◌, Option, Some, IsSome};
 ghost use Rattle.asc_outside.specs.Host.{Files, HostState};
-ghost use Rattle.asc_outside.specs.Rose.{Rose};
 ghost use Rattle.elf_loader.specs.Elf.{entry_of};
 ghost use Rattle.elf_loader.specs.Faults.{IsFaultless};
 ghost use Rattle.elf_loader.specs.Layout.{image_bytes};
@@ -43,7 +42,7 @@ pub fn assembled_files_are_accepted()
 pub fn runs_over_honest_memory_are_plays()
     ensures { (command : Command) (given : List Pair) (told : Option Files) (lent : Lent) (run : EncryptedRun)
         → (ran : IsRun command given told lent run) → IsSome lent.memory.told
-        → ¬ Rose lent.memory.faults lent.memory'.faults
+        → ¬ (lent.memory.faults < lent.memory'.faults)
         → NoSlotIsFull (keys_from ran.begin.program.config ran.begin.key) ran.begin.program.config.stash
         (program_play ran.begin.program)
         → IsWholePlay ran.begin.program.config (program_play ran.begin.program) (play_report run.report)

@@ -102,7 +102,7 @@ pub fn ascend<H: Host, M: UntrustedMemory>(
     ensures complete_play { (read : Read) (files : Files) → IsWords (texts words.now) read
         → RunsEncrypted read.command → (H.state host.old).files ≡ Some files → AreRight read files
         → ¬ Rose (H.state host.old).faults (H.state host.new).faults → IsSome (M.state memory.old).told
-        → ¬ Rose (M.state memory.old).faults (M.state memory.new).faults → HasRoom read.command read.given files
+        → ¬ ((M.state memory.old).faults < (M.state memory.new).faults) → HasRoom read.command read.given files
         → CompletesPlay read files (lent_as (M.state memory.old) (M.state memory.new) tap.old tap.new) result
         (H.state host.old) (H.state host.new) }
     ensures refused { (read : Read) (files : Files) (refusal : WhyRefused) → IsWords (texts words.now) read

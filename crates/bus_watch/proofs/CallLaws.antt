@@ -1,9 +1,8 @@
 -- What each answer of a read and a write makes of memory and tap.
-use Rattle.std.proofs.Common.{◌≡◌, ◌+◌, ◌≤◌, inr, ℕ, false, true, List, [], ◌∷◌, ◌++◌, length, map, Option, Some}
+use Rattle.std.proofs.Common.{◌≡◌, ◌<◌, ◌+◌, ◌≤◌, inr, ℕ, false, true, List, [], ◌∷◌, ◌++◌, length, map, Option, Some}
 use Rattle.std.proofs.Common.{IfSome, sym, ◌∙◌, ap, arith, subst, option_map, slice_get, slice_set}
 use Rattle.std.proofs.lemmas.List.{append-nil}
 use Rattle.asc_outside.specs.Memory.{MemoryState, Keeps}
-use Rattle.asc_outside.specs.Rose.{Rose}
 use Rattle.bus_watch.specs.declared.log.Move.{Move}
 use Rattle.bus_watch.specs.Honest.{StaysHonest}
 use Rattle.bus_watch.specs.Log.{TapState, LogLists, read_move, write_move, with_move, with_reply}
@@ -34,7 +33,7 @@ pub record NotesMove (move : Move) (t t' : TapState) : Type 0 where
 
 module _ {m m' : MemoryState} {t t' : TapState} (x : Exchange) (asked : IsAsked x m m') (takes : TakesOne t t')
     (moves : t'.log.moves ≡ t.log.moves ++ move_of x ∷ []) (events : t'.log.events ≡ t.log.events) where
-  made_at : (end : RunEnd) → (end ≡ MoveFailed → Rose m.faults m'.faults) → GainsAltered t.log t'.log
+  made_at : (end : RunEnd) → (end ≡ MoveFailed → m.faults < m'.faults) → GainsAltered t.log t'.log
       → ((start : MemoryState) (buckets : List (List ℕ)) → Tied start buckets m t → TiedAt end start buckets m' t')
       → StaysHonest end m m' t t' → Made end (move_of x ∷ []) [] m m' t t'
   made_at end cause replies tied honest = record {
@@ -61,7 +60,7 @@ module _ {m m' : MemoryState} {t t' : TapState} (x : Exchange) (asked : IsAsked 
   altered : t'.log.altered ≡ t.log.altered
   altered = ap (λ (l : LogLists). l.altered) noted.log
 
-  made_by : (end : RunEnd) → (end ≡ MoveFailed → Rose m.faults m'.faults)
+  made_by : (end : RunEnd) → (end ≡ MoveFailed → m.faults < m'.faults)
       → ((start : MemoryState) (buckets : List (List ℕ)) → Tied start buckets m t → TiedAt end start buckets m' t')
       → StaysHonest end m m' t t' → Made end (move_of x ∷ []) [] m m' t t'
   made_by end cause tied honest =
@@ -70,7 +69,7 @@ module _ {m m' : MemoryState} {t t' : TapState} (x : Exchange) (asked : IsAsked 
 
   -- The memory failed.
   pub move_failed : t'.mirror ≡ t.mirror → written_by t.mirror x ≡ t.mirror → unlike_of t.mirror x ≡ []
-      → Keeps m.told m'.told → Rose m.faults m'.faults → Made MoveFailed (move_of x ∷ []) [] m m' t t'
+      → Keeps m.told m'.told → m.faults < m'.faults → Made MoveFailed (move_of x ∷ []) [] m m' t t'
   move_failed mirror unwritten unnoted told rose =
       made_by MoveFailed (λ e. rose)
       (λ start buckets tied. tied_next start buckets t t' x asked moves tied (mirror ∙ sym unwritten)

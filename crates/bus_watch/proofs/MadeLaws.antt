@@ -5,7 +5,6 @@ use Rattle.std.specs.List.{All}
 use Rattle.std.proofs.lemmas.List.{append-nil}
 use Rattle.std.proofs.lemmas.List.Elements.{All-append, All-weaker}
 use Rattle.asc_outside.specs.Memory.{MemoryState}
-use Rattle.asc_outside.proofs.RoseLaws.{rose_since}
 use Rattle.bus_watch.specs.declared.bus.Bus.{Bus}
 use Rattle.bus_watch.specs.declared.log.Altered.{Altered}
 use Rattle.bus_watch.specs.declared.log.Event.{Event}
@@ -69,7 +68,7 @@ made_then {end} {xs} {ys} {events} {more} {m} {m'} {m''} {t} {t'} {t''} first se
   prepared = second.prepared ∙ first.prepared;
   linked = second.linked ∙ first.linked;
   later = omega (arith, first.later, second.later);
-  cause = λ failed. rose_since m.faults m'.faults m''.faults first.later (second.cause failed);
+  cause = λ failed. omega (arith, first.later, second.cause failed);
   mirrored = second.mirrored ∙ first.mirrored;
   room = omega (arith, first.room, second.room, length-append xs ys);
   event_room = omega (arith, first.event_room, second.event_room, length-append events more);

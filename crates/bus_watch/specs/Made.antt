@@ -1,7 +1,6 @@
 -- What a run of bus calls leaves of a memory and a tap.
-use Rattle.std.specs.Prelude.{◌≡◌, ◌+◌, ◌≤◌, ℕ, List, ◌++◌, length, All}
+use Rattle.std.specs.Prelude.{◌≡◌, ◌<◌, ◌+◌, ◌≤◌, ℕ, List, ◌++◌, length, All}
 use Rattle.asc_outside.specs.Memory.{MemoryState}
-use Rattle.asc_outside.specs.Rose.{Rose}
 use Rattle.bus_watch.specs.declared.bus.Bus.{Bus}
 use Rattle.bus_watch.specs.declared.log.Altered.{Altered}
 use Rattle.bus_watch.specs.declared.log.Event.{Event}
@@ -30,7 +29,7 @@ pub record Made (end : RunEnd) (moves : List Move) (events : List Event)
   pub prepared : memory'.count ≡ memory.count
   pub linked : memory'.link ≡ memory.link
   pub later : memory.faults ≤ memory'.faults
-  pub cause : end ≡ MoveFailed → Rose memory.faults memory'.faults
+  pub cause : end ≡ MoveFailed → memory.faults < memory'.faults
   pub mirrored : length tap'.mirror ≡ length tap.mirror
   pub room : tap.spare_moves ≤ tap'.spare_moves + length moves
   pub event_room : tap.spare_events ≤ tap'.spare_events + length events

@@ -1,7 +1,6 @@
 -- What the preparation of a bus leaves of its memory and its tap.
-use Rattle.std.specs.Prelude.{◌≡◌, ◌+◌, ◌*◌, ◌≤◌, ◌⊎◌, ℕ, option_map, Result, Ok, Err}
+use Rattle.std.specs.Prelude.{◌≡◌, ◌<◌, ◌+◌, ◌*◌, ◌≤◌, ◌⊎◌, ℕ, option_map, Result, Ok, Err}
 use Rattle.asc_outside.specs.Memory.{MemoryState, Keeps, zero_buckets}
-use Rattle.asc_outside.specs.Rose.{Rose}
 use Rattle.bus_watch.specs.declared.bus.BusStop.{BusStop}
 use Rattle.bus_watch.specs.declared.bus.BusStop.TheVariants.{Device, NoMemory}
 use Rattle.bus_watch.specs.Log.{TapState}
@@ -20,7 +19,7 @@ pub record HasRoomFor (buckets levels accesses : ℕ) (memory memory' : MemorySt
 -- after a failure of the memory: what it told stays, or isn't told any more, and its count of faults rose
 pub record IsRefused (memory memory' : MemoryState) (tap tap' : TapState) : Type 0 where
   pub told : Keeps memory.told memory'.told
-  pub cause : Rose memory.faults memory'.faults
+  pub cause : memory.faults < memory'.faults
   pub kept : tap' ≡ tap
 
 -- after want of memory: of the memory's, which leaves what it told or tells it no more, or of the tap's

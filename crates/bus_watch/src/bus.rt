@@ -13,7 +13,7 @@ use asc_outside::{BUCKET_BYTES, Failed, MemStop, UntrustedMemory};
 /// Why a call of the bus stops.
 #[derive(Clone, Copy, Debug, PartialEq, Eq)]
 pub enum BusStop {
-    /// The memory failed, and its count of faults rose, or stands at its type's end.
+    /// The memory failed, and its count of faults rose.
     Device,
     /// There is no memory, for the memory's buckets or for the tap.
     NoMemory,
@@ -45,9 +45,8 @@ impl<'b, M: UntrustedMemory, W: Watch> Bus<'b, M, W> {
     /// Prepares memory and tap, once: buckets of zero bytes, and room for the moves and events of so many accesses,
     /// which are `2 * (levels + 1)` and 6 of each.
     ///
-    /// `Device` only where the memory's count of faults rose, or stands at its type's end. After a refusal of the
-    /// memory's own, the buckets that it told are as before, or are told no more. Where it was the tap that had no
-    /// memory, they are of zero bytes.
+    /// `Device` only where the memory's count of faults rose. After a refusal of the memory's own, the buckets that it
+    /// told are as before, or are told no more. Where it was the tap that had no memory, they are of zero bytes.
     pub fn prepare(&mut self, buckets: u32, levels: u32, accesses: u64) -> Result<(), BusStop>
         requires fresh { (M.state self.old.memory.now).count ≡ 0 }
         requires some { 0 < buckets }
@@ -76,7 +75,7 @@ impl<'b, M: UntrustedMemory, W: Watch> Bus<'b, M, W> {
     /// Reads a bucket, at this time in cycles. On every answer the move is noted, and the memory was asked once.
     ///
     /// An Ok gives the reply, which the tap notes where it isn't the bucket of the mirror. `Device` only where the
-    /// memory's count of faults rose, or stands at its type's end.
+    /// memory's count of faults rose.
     pub fn read(
         &mut self,
         time: u64,
@@ -114,8 +113,7 @@ impl<'b, M: UntrustedMemory, W: Watch> Bus<'b, M, W> {
 
     /// Writes a bucket, at this time in cycles. On every answer the move is noted, and the memory was asked once.
     ///
-    /// An Ok changes this one bucket of the mirror. `Device` only where the memory's count of faults rose, or stands at
-    /// its type's end.
+    /// An Ok changes this one bucket of the mirror. `Device` only where the memory's count of faults rose.
     pub fn write(
         &mut self,
         time: u64,

@@ -2,7 +2,6 @@
 
 ghost use Rattle.std.specs.Prelude.{◌≡◌, ◌<◌, ◌≤◌, ◌+◌, ◌*◌, ◌^◌, ℕ, false, [], OnOk, OnErr, IsErrOf};
 ghost use Rattle.asc_base.specs.Shape.{IsShape};
-ghost use Rattle.asc_outside.specs.Rose.{Rose};
 ghost use Rattle.bus_watch.specs.Made.{Ran};
 ghost use Rattle.bus_watch.specs.Path.{along, reads};
 ghost use Rattle.bus_watch.specs.Ready.{IsReady};
@@ -141,7 +140,7 @@ fn read_along<M: UntrustedMemory, W: Watch>(
         × Ran M.state W.state (end_of result) (along shape.now.levels false start leaf.0 (level + 1))
         [] bus.old bus.new) }
     ensures cause { IsErrOf result BusStop.Device
-        → Rose (M.state bus.old.memory.now).faults (M.state bus.new.memory.now).faults }
+        → (M.state bus.old.memory.now).faults < (M.state bus.new.memory.now).faults }
 {
     let mut bytes = empty_bucket();
     for level in 0..shape.levels + 1 {

@@ -8,9 +8,7 @@ use Rattle.asc_base.specs.declared.block.Point.{Point}
 use Rattle.asc_base.specs.declared.settings.Config.{Config}
 use Rattle.asc_base.specs.declared.stop.Stop.{Stop}
 use Rattle.asc_base.specs.declared.stop.Stop.TheVariants.{Integrity, StashFull, TimeUp, Device, NoMemory}
-use Rattle.asc_outside.proofs.RoseLaws.{rose_since}
 use Rattle.asc_outside.specs.Memory.{MemoryState}
-use Rattle.asc_outside.specs.Rose.{Rose}
 use Rattle.bus_schedule.proofs.TimetableParts.{timetable-before, first-is}
 use Rattle.bus_schedule.specs.Scheduled.{log_code}
 use Rattle.bus_schedule.specs.Timetable.{Public, public_of, timetable, first_from}
@@ -90,7 +88,7 @@ breaks_then {stop} {a} {b} {c} one two = record {
   counts = λ counted. two.counts (one.counts counted);
   tied = λ start buckets tied. two.tied start buckets (one.tied start buckets tied);
   later = omega (arith, one.later, two.later);
-  cause = λ is. rose_since a.memory.faults b.memory.faults c.memory.faults one.later (two.cause is);
+  cause = λ is. omega (arith, one.later, two.cause is);
   pace = subst (λ (config : Config). PaceAt config stop c) one.config two.pace;
   in_time = subst (λ (config : Config). c.clock.last < config.time + olat_of config.shape.levels) one.config
       two.in_time;
@@ -203,7 +201,7 @@ stop_tied stop end is used start buckets tied = (end, is, used.made.tied start b
 
 -- a failed move has its cause
 stop_cause : (stop : Stop) {old new : PortState} (end : RunEnd) → IsEndOf stop end → Used end old new
-    → stop ≡ Device → Rose old.memory.faults new.memory.faults
+    → stop ≡ Device → old.memory.faults < new.memory.faults
 stop_cause stop end is used same = used.made.cause (subst (λ (s : Stop). IsEndOf s end) same is)
 
 -- only want of memory can leave the memory's buckets apart from the mirror's

@@ -11,7 +11,6 @@ use Rattle.asc_base.specs.TreeShape.{olat_of}
 use Rattle.asc_base.specs.declared.block.Point.{Point}
 use Rattle.asc_base.specs.declared.settings.Config.{Config}
 use Rattle.asc_base.specs.declared.shape.Shape.{Shape}
-use Rattle.asc_outside.specs.Rose.{Rose}
 use Rattle.asc_outside.specs.Memory.{MemoryState, zero_buckets}
 use Rattle.bus_schedule.proofs.PublicParts.{count-power}
 use Rattle.bus_schedule.proofs.ScheduledLaws.{scheduled-config, scheduled-below, scheduled-codes}
@@ -169,7 +168,7 @@ refused_tap NoMemory buckets levels accesses m m' t t' prepared = prepared.by_an
 
 -- its memory failed, and counted it
 pub refused_rose : (stop : BusStop) (buckets levels accesses : ℕ) (m m' : MemoryState) (t t' : TapState)
-    → IsPrepared (Err stop) buckets levels accesses m m' t t' → stop ≡ Device → Rose m.faults m'.faults
+    → IsPrepared (Err stop) buckets levels accesses m m' t t' → stop ≡ Device → m.faults < m'.faults
 refused_rose Device buckets levels accesses m m' t t' prepared is = prepared.by_answer.cause
 refused_rose NoMemory buckets levels accesses m m' t t' prepared is = absurd cc
 

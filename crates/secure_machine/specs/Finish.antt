@@ -3,7 +3,6 @@ use Rattle.std.specs.Prelude.{◌≡◌, ◌+◌, ◌<◌, ◌≤◌, ◌⊎◌,
 use Rattle.asc_base.specs.TreeShape.{olat_of}
 use Rattle.asc_base.specs.declared.settings.Config.{Config}
 use Rattle.asc_outside.specs.Memory.{MemoryState}
-use Rattle.asc_outside.specs.Rose.{Rose}
 use Rattle.bus_watch.specs.Log.{LogLists}
 use Rattle.bus_watch.specs.RunEnd.{RanOut}
 use Rattle.bus_watch.specs.Tied.{Tied, TiedAt}
@@ -67,7 +66,7 @@ pub record Settled (budget instructions cycles : ℕ) (ending : Ending) (last : 
   pub tied : (start : MemoryState) (buckets : List (List ℕ)) → Tied start buckets old.memory old.tap
       → Tied start buckets new.memory new.tap
   pub later : old.memory.faults ≤ new.memory.faults
-  pub cause : ending ≡ Device → Rose old.memory.faults new.memory.faults
+  pub cause : ending ≡ Device → old.memory.faults < new.memory.faults
   pub pace : KeepsPace old.clock.config last new.tap.log
   pub in_time : last < old.clock.config.time + olat_of old.clock.config.shape.levels
   pub right : IsRightEnding budget old.clock.config.time instructions cycles last ending

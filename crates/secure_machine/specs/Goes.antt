@@ -5,7 +5,6 @@ use Rattle.asc_base.specs.declared.settings.Config.{Config}
 use Rattle.asc_base.specs.declared.stop.Stop.{Stop}
 use Rattle.asc_base.specs.declared.stop.Stop.TheVariants.{Integrity, StashFull, TimeUp, Device, NoMemory}
 use Rattle.asc_outside.specs.Memory.{MemoryState}
-use Rattle.asc_outside.specs.Rose.{Rose}
 use Rattle.bus_schedule.specs.Scheduled.{log_code}
 use Rattle.bus_schedule.specs.Shown.{starts_of}
 use Rattle.bus_schedule.specs.Timetable.{public_of, timetable, first_from}
@@ -86,7 +85,7 @@ pub record Breaks (stop : Stop) (old new : PortState) : Type 0 where
   pub tied : (start : MemoryState) (buckets : List (List ℕ)) → Tied start buckets old.memory old.tap
       → TiedAfter stop start buckets new
   pub later : old.memory.faults ≤ new.memory.faults
-  pub cause : stop ≡ Device → Rose old.memory.faults new.memory.faults
+  pub cause : stop ≡ Device → old.memory.faults < new.memory.faults
   pub pace : PaceAt old.clock.config stop new
   pub in_time : new.clock.last < old.clock.config.time + olat_of old.clock.config.shape.levels
   pub unaltered : Unaltered old new

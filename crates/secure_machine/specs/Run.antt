@@ -4,7 +4,6 @@ use Rattle.std.specs.List.{count_by}
 use Rattle.asc_base.specs.TreeShape.{olat_of}
 use Rattle.asc_base.specs.declared.settings.Config.{Config}
 use Rattle.asc_outside.specs.Memory.{MemoryState, zero_buckets}
-use Rattle.asc_outside.specs.Rose.{Rose}
 use Rattle.bus_schedule.specs.Scheduled.{log_code}
 use Rattle.bus_schedule.specs.Shown.{indices_of, leaves_of}
 use Rattle.bus_schedule.specs.Timetable.{public_of, count_of}
@@ -52,7 +51,7 @@ pub record Reported (config : Config) (report : Report) (memory memory' : Memory
   pub tied : (start : MemoryState) (buckets : List (List ℕ)) → Tied start buckets memory tap
       → Tied start buckets memory' tap'
   pub later : memory.faults ≤ memory'.faults
-  pub cause : report.ending ≡ Device → Rose memory.faults memory'.faults
+  pub cause : report.ending ≡ Device → memory.faults < memory'.faults
   pub right : IsRightEnding config.budget config.time report.instructions report.cycles report.last
       report.ending
   pub time_up : (at : ℕ) → report.ending ≡ TimeUp at → IsTimeUp config report.cycles tap'.log at

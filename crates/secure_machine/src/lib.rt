@@ -27,7 +27,6 @@ ghost use Rattle.asc_base.specs.Settings.{IsConfig};
 ghost use Rattle.asc_base.specs.TreeShape.{olat_of};
 ghost use Rattle.asc_base.specs.declared.stop.Evidence.{Evidence};
 ghost use Rattle.asc_outside.specs.Memory.{MemoryState, zero_buckets};
-ghost use Rattle.asc_outside.specs.Rose.{Rose};
 ghost use Rattle.bus_schedule.specs.Scheduled.{log_code};
 ghost use Rattle.bus_schedule.specs.Shown.{indices_of};
 ghost use Rattle.bus_schedule.specs.Timetable.{public_of};
@@ -297,7 +296,7 @@ pub fn run<M: UntrustedMemory, W: Watch, L: LeafFn>(
         (W.state bus.old.tap.now) (W.state bus.new.tap.now)) }
     ensures faults { (M.state bus.old.memory.now).faults ≤ (M.state bus.new.memory.now).faults }
     ensures device { IfOk result (λ report. report.ending ≡ Ending.Device
-        → Rose (M.state bus.old.memory.now).faults (M.state bus.new.memory.now).faults) }
+        → (M.state bus.old.memory.now).faults < (M.state bus.new.memory.now).faults) }
     ensures right { IfOk result (λ report.
         IsRightEnding config.now.budget config.now.time report.instructions report.cycles report.last report.ending) }
     ensures time_up { IfOk result (λ report. (at : ℕ) → report.ending ≡ Ending.TimeUp at
@@ -332,7 +331,7 @@ pub fn run<M: UntrustedMemory, W: Watch, L: LeafFn>(
     ensures honest { (W.state bus.new.tap.now).log.altered ≡ []
         → IfOk result (λ report. (evidence : Evidence) → report.ending ≡ Ending.Integrity evidence → ⊥) }
     ensures complete { IsSome (M.state bus.old.memory.now).told
-        → ¬ Rose (M.state bus.old.memory.now).faults (M.state bus.new.memory.now).faults
+        → ¬ ((M.state bus.old.memory.now).faults < (M.state bus.new.memory.now).faults)
         → NoSlotIsFull (chip_keys config.now codec tagger (L.leaf_of leaf)) config.now.stash
         (play_with config.now image.now input.now)
         → IfOk result (λ report. IsWholePlay config.now (play_with config.now image.now input.now)

@@ -1,7 +1,6 @@
 ghost use Rattle.std.specs.Prelude.{◌≡◌, ◌<◌, ◌≤◌, ◌+◌, ◌*◌, ◌^◌, ◌++◌, ◌∷◌, ◌↔◌, [], ℕ, ⊤, Some, None, length};
 ghost use Rattle.std.specs.Prelude.{IfOk, OnOk, OnErr, OnSome, IfNone, IsErr, IsOk, IsSome, IsErrOf};
 ghost use Rattle.asc_base.specs.Shape.{IsShape};
-ghost use Rattle.asc_outside.specs.Rose.{Rose};
 ghost use Rattle.bus_watch.specs.Made.{Ran};
 ghost use Rattle.bus_watch.specs.Path.{reads, reads_end, writes};
 ghost use Rattle.bus_watch.specs.Ready.{IsReady};
@@ -176,7 +175,7 @@ impl Tree {
         ensures more { length self.new.hand ≤ length self.old.hand + 4 * (self.old.shape.levels + 1) }
         ensures of_shape { AreOfShape self.new.shape self.new.hand }
         ensures cause { IsErrOf result TreeStop.Device
-            → Rose (M.state bus.old.memory.now).faults (M.state bus.new.memory.now).faults }
+            → (M.state bus.old.memory.now).faults < (M.state bus.new.memory.now).faults }
     {
         match read_buckets(bus, &self.shape, start, leaf, &mut self.texts) {
             Ok(()) => {}
@@ -238,7 +237,7 @@ impl Tree {
             (λ _. (self.new.ended ≡ reads_end self.old.shape.levels start) × (self.new.seed ≡ self.old.seed))
             (λ _. ⊤) }
         ensures cause { IsErrOf result TreeStop.Device
-            → Rose (M.state bus.old.memory.now).faults (M.state bus.new.memory.now).faults }
+            → (M.state bus.old.memory.now).faults < (M.state bus.new.memory.now).faults }
     {
         let reads_end = start + MOVE_CYCLES * (u64::from(self.shape.levels) + 1);
         depths_on(&self.hand, self.shape.levels, leaf, &mut self.depths);

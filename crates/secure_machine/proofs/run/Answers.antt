@@ -45,7 +45,6 @@ use Rattle.secure_machine.specs.Judged.{ShowsEnding, EndsReplayed, WantsReplayed
 use Rattle.secure_machine.specs.declared.report.Ending.{Ending}
 use Rattle.secure_machine.proofs.Replaying.{start_order, start_right}
 use Rattle.secure_machine.proofs.Full.{completes}
-use Rattle.asc_outside.proofs.RoseLaws.{rose_since}
 use Rattle.secure_machine.proofs.run.Given as given
 use Rattle.secure_machine.specs.Spent.{IsSpentOn}
 use Rattle.secure_machine.proofs.SpentReports.{unprepared_spent}
@@ -824,7 +823,7 @@ returns-in-Ok-clause-complete g c some sound room =
     let now = (g.M.UntrustedMemory.state c.run_prepared.new.bus.memory.now).faults in
     IfOk-weaker c.run_prepared.result _ _ (λ report all. completes keys config whole report log refl all.0
     all.1.1.0.order none all.1.1.0.shows all.1.1.1
-    (λ failed. sound (rose_since before mid now c.in-Ok.ensures.prepared.later (all.1.0.cause failed))) room)
+    (λ failed. sound (omega (arith, c.in-Ok.ensures.prepared.later, all.1.0.cause failed))) room)
     (ok_both _ _ c.run_prepared.result (returns-in-Ok-clause-plays_unaltered g c none)
     (ok_both _ _ c.run_prepared.result c.run_prepared.ensures.reported
     (ok_both _ _ c.run_prepared.result (replayed g c).0 (returns-in-Ok-clause-honest g c none))))
