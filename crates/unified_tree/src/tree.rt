@@ -57,7 +57,8 @@ impl Model for Tree {
 }
 
 impl Tree {
-    /// A tree without entries at hand, whose next seed is 1, for so many entries that may stay.
+    /// A tree without entries at hand, whose next seed is 1, for so many entries that may stay: at most 4,096, as the
+    /// settings allow.
     pub fn new(alloc: Global, shape: &Shape, stash: u32, codec: Codec) -> Result<Tree, NoMemory>
         requires shape { IsShape shape.now }
         requires stash { stash ≤ 4096 }
