@@ -13,6 +13,7 @@ pub mod Notes
 pub mod Inside
 pub mod Found
 pub mod Stands
+pub mod Homes
 pub mod Cuts
 pub mod CutSlots
 pub mod CutSteps
