@@ -14,6 +14,7 @@ pub mod Inside
 pub mod Found
 pub mod Stands
 pub mod Homes
+pub mod HomeSpots
 pub mod Cuts
 pub mod CutSlots
 pub mod CutSteps

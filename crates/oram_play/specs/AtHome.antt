@@ -44,3 +44,17 @@ pub record IsAtHome (keys : Keys) (config : Config) (now : Standing) (held : Lis
   pub in_tree : (bucket : ℕ) (e : Entry) → Has e (entries_at keys contents.mirror bucket)
       → (e.address.0 < keys.shape.total) × (e ≡ entry_in keys config now e.address.0)
       × OnPath keys.shape.levels e.leaf.0 bucket
+
+-- a place of a block: among the held ones, at hand, or in a bucket
+pub data Place : Type 0 where
+  AmongHeld : Place
+  AtHand : Place
+  InBucket : ℕ → Place
+
+-- A block stands there: as a held one, or by its entry; a bucket is one of the tree's, on the path of the entry's leaf.
+abbrev pub StandsAt : Keys → Config → Standing → Contents → ℕ → Place → Type 0
+StandsAt keys config now contents a AmongHeld = Has a now.chip.held
+StandsAt keys config now contents a AtHand = Has (entry_in keys config now a) contents.hand
+StandsAt keys config now contents a (InBucket bucket) =
+    (bucket < keys.shape.buckets) × Has (entry_in keys config now a) (entries_at keys contents.mirror bucket)
+    × OnPath keys.shape.levels (entry_in keys config now a).leaf.0 bucket

@@ -1,6 +1,6 @@
 //! Laws of the slots that an encrypted memory takes. The functions do nothing: each states laws in its contract.
 
-ghost use Rattle.std.specs.Prelude.{◌≡◌, ◌<◌, ◌≤◌, ◌+◌, ◌⊎◌, ℕ, List, [], ◌∷◌, ◌++◌, Option, None, Some, Ok, max};
+ghost use Rattle.std.specs.Prelude.{◌≡◌, ◌<◌, ◌≤◌, ◌+◌, ◌⊎◌, ℕ, true, false, List, [], ◌∷◌, ◌++◌, Option, None, Some, Ok, max};
 ghost use Rattle.std.specs.Option.{option_map};
 ghost use Rattle.asc_base.specs.Settings.{IsConfig};
 ghost use Rattle.asc_base.specs.TreeShape.{olat_of};
@@ -9,10 +9,12 @@ ghost use Rattle.asc_base.specs.declared.block.Message.{Message};
 ghost use Rattle.asc_base.specs.declared.settings.Config.{Config};
 ghost use Rattle.bus_schedule.specs.Timetable.{public_of};
 ghost use Rattle.data_cache.specs.Lines.{LineRequest};
+ghost use Rattle.oram_contents.specs.Contents.{Contents};
 ghost use Rattle.oram_contents.specs.Counts.{line_at as ghost_line};
 ghost use Rattle.oram_contents.specs.Entries.{Keys, AreKeys};
 ghost use Rattle.oram_contents.specs.Forgery.{Forgery};
 ghost use Rattle.oram_contents.specs.Starts.{empty_log};
+ghost use Rattle.oram_contents.specs.Verdict.{is_first};
 ghost use Rattle.oram_frontend.specs.Access.{SlotStep};
 ghost use Rattle.oram_frontend.specs.Oram.{OramState, OramStep, Told, Fetch, Store, Wait};
 ghost use Rattle.oram_frontend.specs.Slots.{FitKeys};
@@ -20,7 +22,7 @@ ghost use Rattle.oram_play.specs.Taken.{HasTaken, IsPaceOf, put_in, with_appende
 ghost use Rattle.oram_play.specs.Taken.{slots_taken};
 ghost use Rattle.oram_play.specs.InTurn.{AnsweredAccess, AreInTurn};
 ghost use Rattle.oram_play.specs.Answered.{IsAnswered};
-ghost use Rattle.oram_play.specs.AtHome.{IsAtHome};
+ghost use Rattle.oram_play.specs.AtHome.{IsAtHome, Place, StandsAt};
 ghost use Rattle.oram_play.specs.Playing.{PlaysAs, called, IsTold};
 ghost use Rattle.oram_play.specs.Shown.{AreShownAs};
 ghost use Rattle.oram_play.specs.Walked.{AreWalked, put_for, taken_in_turn};
@@ -34,6 +36,7 @@ ghost use Rattle.oram_walk.specs.declared.slots.Purpose.TheVariants.{Keep, Repla
 ghost use Rattle.oram_walk.specs.declared.slots.Seen.{Seen};
 ghost use Rattle.posmap_counters.specs.Counters.{counter_at};
 ghost use Rattle.posmap_lookaside.specs.Walk.{OnChip, IsHeldList, WalkAccess, walk};
+ghost use Rattle.posmap_lookaside.specs.declared.held.Held.{Held};
 ghost use Rattle.rate_enforcer.specs.PortStep.{PortState, Resting, contents};
 ghost use Rattle.run_play.specs.Requests.{StoredLines, data_line, standing_at_start};
 ghost use Rattle.run_play.specs.Requests.{Standing, Taken, line_at, access_slot, one_by_one, put_back, message_of};
@@ -203,4 +206,20 @@ pub fn blocks_of_plays_are_at_home()
         (time : ℕ) (told : Told) (old new : OramState) → PlaysAs keys levels config slots now old
         → OramStep keys levels old (Wait time) (Ok told) new → new.port.tap.log.altered ≡ []
         → IsAtHome keys config now new.front.held (contents new.port) }
+{}
+
+/// What it is that blocks are at home: each that was accessed stands at exactly one place, among the held ones, at hand
+/// or in a bucket on the path of its leaf, outside of the chip by its entry; and each other stands nowhere.
+pub fn blocks_at_home_have_one_place()
+    ensures somewhere { (keys : Keys) (config : Config) (now : Standing) (held : List Held) (contents : Contents)
+        → IsAtHome keys config now held contents → (a : ℕ) → a < keys.shape.total
+        → is_first (counter_at now.chip.counters a) ≡ false
+        → (place : Place) × StandsAt keys config now contents a place }
+    ensures once { (keys : Keys) (config : Config) (now : Standing) (held : List Held) (contents : Contents)
+        → IsAtHome keys config now held contents → (a : ℕ) → a < keys.shape.total → (p q : Place)
+        → StandsAt keys config now contents a p → StandsAt keys config now contents a q → p ≡ q }
+    ensures nowhere { (keys : Keys) (config : Config) (now : Standing) (held : List Held) (contents : Contents)
+        → IsAtHome keys config now held contents → (a : ℕ) → a < keys.shape.total
+        → is_first (counter_at now.chip.counters a) ≡ true → (place : Place)
+        → StandsAt keys config now contents a place → ⊥ }
 {}

@@ -15,7 +15,7 @@ mod stops;
 
 pub use laws::{
     accesses_take_asked_slots, answered_requests_take_slots, answered_requests_take_slots_in_turn,
-    blocks_of_plays_are_at_home, ports_keep_the_pace, requests_stand_as_plays, shown_accesses_are_walked,
+    blocks_at_home_have_one_place, blocks_of_plays_are_at_home, ports_keep_the_pace, requests_stand_as_plays, shown_accesses_are_walked,
     walked_accesses_take_play_slots,
 };
 pub use stops::{
