@@ -15,6 +15,7 @@ pub mod Found
 pub mod Stands
 pub mod Homes
 pub mod HomeSpots
+pub mod HomeCalls
 pub mod Cuts
 pub mod CutSlots
 pub mod CutSteps

@@ -5,6 +5,7 @@ pub mod Shown
 pub mod Answered
 pub mod Playing
 pub mod AtHome
+pub mod InCalls
 pub mod Stopped
 pub mod StopsInTurn
 pub mod OnPlay

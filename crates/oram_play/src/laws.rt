@@ -20,6 +20,7 @@ ghost use Rattle.oram_frontend.specs.Oram.{OramState, OramStep, Told, Fetch, Sto
 ghost use Rattle.oram_frontend.specs.Slots.{FitKeys};
 ghost use Rattle.oram_play.specs.Taken.{HasTaken, IsPaceOf, put_in, with_appended, asked_start, asked_slots};
 ghost use Rattle.oram_play.specs.Taken.{slots_taken};
+ghost use Rattle.oram_play.specs.InCalls.{PlayCall, AnsweredInPlay};
 ghost use Rattle.oram_play.specs.InTurn.{AnsweredAccess, AreInTurn};
 ghost use Rattle.oram_play.specs.Answered.{IsAnswered};
 ghost use Rattle.oram_play.specs.AtHome.{IsAtHome, Place, StandsAt};
@@ -179,7 +180,7 @@ pub fn requests_stand_as_plays()
 /// Where an encrypted memory stands where a play stands, its blocks have the play's counters and lines, and the blocks
 /// that it holds are the walk's. While no reply was altered each block is at home: it stands at one place, under the
 /// play's counter and with its layer's line, or, where it was never accessed, nowhere. So it is from the start on,
-/// after each request that is answered.
+/// after each request that is answered, and behind any number of them, with waits between them.
 pub fn blocks_of_plays_are_at_home()
     ensures counters { (keys : Keys) → AreKeys keys → (levels : ℕ) (config : Config) (slots : List Slot)
         (now : Standing) (o : OramState) → (x : PlaysAs keys levels config slots now o)
@@ -206,6 +207,10 @@ pub fn blocks_of_plays_are_at_home()
         (time : ℕ) (told : Told) (old new : OramState) → PlaysAs keys levels config slots now old
         → OramStep keys levels old (Wait time) (Ok told) new → new.port.tap.log.altered ≡ []
         → IsAtHome keys config now new.front.held (contents new.port) }
+    ensures calls { (keys : Keys) → AreKeys keys → (levels : ℕ) (config : Config) (o : OramState) → IsConfig config
+        → IsNew keys config levels o → o.port.clock.config ≡ config → (calls : List PlayCall) (end : Standing)
+        (new : OramState) → AnsweredInPlay keys levels config (standing_at_start config) o calls end new
+        → new.port.tap.log.altered ≡ [] → IsAtHome keys config end new.front.held (contents new.port) }
 {}
 
 /// What it is that blocks are at home: each that was accessed stands at exactly one place, among the held ones, at hand

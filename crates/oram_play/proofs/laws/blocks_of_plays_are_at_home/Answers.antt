@@ -1,3 +1,4 @@
+use Rattle.oram_play.proofs.HomeCalls.{calls_home}
 use Rattle.oram_play.proofs.Homes.{counts_are, line_is, held_are, play_home, start_home, request_home, wait_home}
 use Rattle.oram_play.proofs.laws.blocks_of_plays_are_at_home.Goals as goal
 
@@ -10,4 +11,5 @@ returns c = record {
   start = start_home;
   request = request_home;
   wait = wait_home;
+  calls = calls_home;
 }
