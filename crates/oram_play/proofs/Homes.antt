@@ -1,8 +1,7 @@
 -- Where an encrypted memory stands where a play stands, its blocks have the play's counters and lines; and while no
 -- reply was altered, each is at home.
-use Rattle.std.proofs.Common.{◌≡◌, ◌<◌, ◌≤◌, ◌+◌, ◌++◌, ◌==◌, inl, inr, ℕ, Bool, true, false, List, [], ◌∷◌, map, count_by, Option}
-use Rattle.std.proofs.Common.{None, Some, Ok, max, nat_eq, if◌then◌else◌, refl, sym, ap, ◌∙◌, subst, arith}
-use Rattle.std.specs.Prelude.{slice_index}
+use Rattle.std.proofs.Common.{◌≡◌, ◌<◌, ◌≤◌, ◌+◌, ◌++◌, ◌==◌, inl, inr, ℕ, Bool, true, false, List, [], ◌∷◌, map}
+use Rattle.std.proofs.Common.{count_by, Option, None, Some, Ok, if◌then◌else◌, refl, sym, ap, ◌∙◌, subst, arith}
 use Rattle.std.specs.Option.{option_map_or}
 use Rattle.std.proofs.lemmas.Bool.{cases_eq}
 use Rattle.std.proofs.lemmas.Bool.Decides.{eqb_tells}
@@ -22,12 +21,11 @@ use Rattle.bus_schedule.specs.Timetable.{public_of}
 use Rattle.bus_watch.specs.Log.{LogLists}
 use Rattle.bus_watch.specs.declared.log.Altered.{Altered}
 use Rattle.data_cache.specs.Lines.{LineRequest}
-use Rattle.oram_contents.specs.Contents.{Contents}
 use Rattle.oram_contents.specs.Counts.{Ghost, line_at, line_by}
-use Rattle.oram_contents.specs.Entries.{Keys, AreKeys, real, message_of, entry_of, entries_at, OnPath}
+use Rattle.oram_contents.specs.Entries.{Keys, AreKeys, real, message_of, entry_of}
 use Rattle.oram_contents.specs.Groups.{child_counter, moved_of}
 use Rattle.oram_contents.specs.Home.{copies, tree_copies, flying}
-use Rattle.oram_contents.specs.Provenance.{Known, Genuine, OffOpen, message_in}
+use Rattle.oram_contents.specs.Provenance.{Known, OffOpen, message_in}
 use Rattle.oram_contents.specs.Verdict.{is_first}
 use Rattle.oram_contents.proofs.Lines.{children_few, children_inside, some_child}
 use Rattle.oram_lines.specs.Standing.{held_block}
@@ -35,14 +33,13 @@ use Rattle.oram_lines.proofs.MoveTriples.{not_held, block_has}
 use Rattle.oram_lines.proofs.ShownHeld.{group_line}
 use Rattle.oram_lines.proofs.ShownLaws.{still_none, not_under}
 use Rattle.oram_lines.proofs.ShownParts.{chip_addresses}
-use Rattle.oram_walk.specs.Front.{FrontState}
 use Rattle.oram_walk.specs.Shows.{IsShown as IsFamilyShown}
 use Rattle.pmmac_tags.specs.Tag.{tag}
 use Rattle.posmap_counters.specs.Counters.{counter_at, next_group}
-use Rattle.posmap_counters.specs.Families.{HasCounters, HasRoots, HasOneGroup, family_group, family_line}
+use Rattle.posmap_counters.specs.Families.{HasRoots, HasOneGroup, family_group, family_line}
 use Rattle.posmap_counters.specs.Group.{GroupState, IsGroup, line_in, group_in}
 use Rattle.posmap_counters.proofs.FamilyLines.{family_has, family_only, family_is, length-own_counts, read_line}
-use Rattle.posmap_lookaside.specs.Held.{held_at, addresses_of, is_of}
+use Rattle.posmap_lookaside.specs.Held.{held_at, is_of}
 use Rattle.posmap_lookaside.specs.Walk.{WalkSizes}
 use Rattle.posmap_lookaside.specs.declared.held.Held.{Held}
 use Rattle.rate_enforcer.specs.PortStep.{contents}
@@ -129,7 +126,8 @@ module _ (keys : Keys) (lawful : AreKeys keys) (levels : ℕ) (config : Config) 
       → children_of keys.shape.lines keys.shape.layers p ≡ Some (first, number) → k < number
       → g.count (first + k) ≡ count (first + k)
   child_is p first number k inside children less =
-      by_held (held_at o.front.held (record { 0 = p })) refl (groups_are (record { 0 = p }) first number inside children)
+      by_held (held_at o.front.held (record { 0 = p })) refl
+      (groups_are (record { 0 = p }) first number inside children)
     where
       few : number ≤ 32
       few = children_few keys.shape p first number lawful.shape inside children
@@ -165,7 +163,8 @@ module _ (keys : Keys) (lawful : AreKeys keys) (levels : ℕ) (config : Config) 
           (subst (Has p) x.stands.shown.groups.listed at) in
           let kept : (x.lines p).0 ≡ line_at keys.shape g p = x.outside.each p inside away
           (λ at. none_is_not (sym x.calm.flight ∙ at)) in
-          let same : line_in group ≡ line_in family = sym line ∙ kept ∙ ap (line_by g.count (g.data_lines p)) children in
+          let same : line_in group ≡ line_in family =
+          sym line ∙ kept ∙ ap (line_by g.count (g.data_lines p)) children in
           let is_family : IsGroup family = family_is g.count first number few
           (x.stands.shown.counters.group first first_in)
           (λ j below. x.stands.shown.counters.own (first + j) (inside_of j below)) in

@@ -14,7 +14,7 @@ pub mod Inside
 pub mod Found
 pub mod Stands
 pub mod Homes
-pub mod HomeSpots
+pub mod HomePlaces
 pub mod HomeCalls
 pub mod Cuts
 pub mod CutSlots

@@ -1,4 +1,4 @@
-use Rattle.oram_play.proofs.HomeSpots.{stands_somewhere, stands_once, stands_nowhere}
+use Rattle.oram_play.proofs.HomePlaces.{stands_somewhere, stands_once, stands_nowhere}
 use Rattle.oram_play.proofs.laws.blocks_at_home_have_one_place.Goals as goal
 
 pub returns : goal.returns
