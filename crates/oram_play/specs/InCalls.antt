@@ -20,8 +20,8 @@ abbrev pub at_clock : ℕ → Numbers → Standing → Standing
 at_clock clock numbers now = record now { clock = clock; numbers = numbers }
 
 -- behind the dummies that start before a time
-abbrev pub waited : Config → ℕ → Numbers → Standing → Standing
-waited config time numbers now =
+abbrev pub after_wait : Config → ℕ → Numbers → Standing → Standing
+after_wait config time numbers now =
     let more = passed (public_of config) numbers time now.pace in
     record now { pace = more.pace; numbers = numbers }
 
@@ -35,4 +35,4 @@ AnsweredInPlay keys levels config now old (Requests clock numbers request ∷ ca
     end new
 AnsweredInPlay keys levels config now old (Waits time numbers ∷ calls) end new =
     (told : Told) × (mid : OramState) × OramStep keys levels old (Wait time) (Ok told) mid
-    × AnsweredInPlay keys levels config (waited config time numbers now) mid calls end new
+    × AnsweredInPlay keys levels config (after_wait config time numbers now) mid calls end new
