@@ -13,6 +13,9 @@ pub mod Notes
 pub mod Inside
 pub mod Found
 pub mod Stands
+pub mod Homes
+pub mod HomePlaces
+pub mod HomeCalls
 pub mod Cuts
 pub mod CutSlots
 pub mod CutSteps

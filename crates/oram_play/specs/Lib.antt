@@ -4,6 +4,8 @@ pub mod Walked
 pub mod Shown
 pub mod Answered
 pub mod Playing
+pub mod AtHome
+pub mod InCalls
 pub mod Stopped
 pub mod StopsInTurn
 pub mod OnPlay
