@@ -52,6 +52,7 @@ late-ends : (config : Config) (at : ℕ) (all : List Slot) (after : Standing) �
       ending = how.TimeUp at;
       numbers = after.numbers;
       last = max config.time after.pace.heard.ended;
+      behind = Some after;
     }
 late-ends config at all after far =
     ap
@@ -60,6 +61,7 @@ late-ends config at all after far =
       ending = how.TimeUp at;
       numbers = after.numbers;
       last = max config.time idle.pace.heard.ended;
+      behind = Some after;
     } in run)
     (passed-none (public_of config) after.numbers config.time after.pace far)
     ∙ ap
@@ -68,6 +70,7 @@ late-ends config at all after far =
       ending = how.TimeUp at;
       numbers = after.numbers;
       last = max config.time after.pace.heard.ended;
+      behind = Some after;
     } in run)
     (append-nil all)
 
@@ -88,6 +91,7 @@ stop-shows levels config whole all more after numbers (TimeUp at) new parts late
       ending = how.TimeUp at;
       numbers = after.numbers;
       last = max config.time after.pace.heard.ended;
+      behind = Some after;
     } = late at is ∙ late-ends config at all after (omega (arith, right.0, right.1)) in (
       whole,
       inl refl,

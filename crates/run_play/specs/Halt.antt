@@ -34,7 +34,7 @@ after_put slot = record slot { chosen = None; appended = None }
 
 -- the run whose memory couldn't be prepared
 abbrev pub unprepared : Play
-unprepared = record { slots = []; ending = Device; numbers = no_numbers; last = 0 }
+unprepared = record { slots = []; ending = Device; numbers = no_numbers; last = 0; behind = None }
 
 module _ (levels : ℕ) where
   -- The end time of a stop in the slot with this start: that of its reads; the end of the move that failed; or that of
@@ -62,6 +62,7 @@ module _ (levels : ℕ) where
     ending = ending_of stop;
     numbers = slot.left;
     last = end_of slot.start stop;
+    behind = None;
   }
 
   -- A play cut by a stop in its k-th slot, the first being 1, or in the append after it. The run whose memory couldn't

@@ -29,12 +29,14 @@ pub data PlayEnding : Type 0 where
   Integrity : Evidence → PlayEnding
   Device : PlayEnding
 
--- The slots of a run, how it ended, how far it came, and its end time.
+-- The slots of a run, how it ended, how far it came, and its end time; and, where no stop cut it, what stands behind its
+-- last request, before the slots up to its end pass.
 pub record Play : Type 0 where
   pub slots : List Slot
   pub ending : PlayEnding
   pub numbers : Numbers
   pub last : ℕ
+  pub behind : Option Standing
 
 -- slots before a play
 abbrev pub after_slots : List Slot → Play → Play
@@ -96,6 +98,7 @@ module _ (config : Config) where
         ending = ending;
         numbers = now.numbers;
         last = max until idle.pace.heard.ended;
+        behind = Some now;
       }
 
   -- the program ends it, or the budget does: slots go on up to its cycles; the time does: they go on up to the time

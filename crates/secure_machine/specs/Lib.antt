@@ -13,3 +13,4 @@ pub mod Plays
 pub mod Judged
 pub mod Spent
 pub mod Full
+pub mod Home

@@ -57,6 +57,7 @@ ghost use Rattle.play_run.specs.Shows.{IsPlayed, IsWholePlay};
 ghost use Rattle.secure_machine.specs.Plays.{play_report, play_with};
 ghost use Rattle.secure_machine.specs.Finish.{IsRightEnding, IsTimeUp};
 ghost use Rattle.secure_machine.specs.Full.{NoSlotIsFull};
+ghost use Rattle.secure_machine.specs.Home.{EndsAtHome};
 ghost use Rattle.secure_machine.specs.Judged.{ShowsEnding, EndsReplayed, WantsReplayed, SaysWanting, log_end};
 ghost use Rattle.secure_machine.specs.Run.{Reported, Wanting, IsFlatReport, IsUnprepared, IsTiedOr, IsTiedButLast};
 ghost use Rattle.secure_machine.specs.Run.{chip_keys, start_of, IsInBudget, DrawsLeaves};
@@ -213,6 +214,12 @@ fn run_prepared<M: UntrustedMemory, W: Watch, L: LeafFn>(
         Forgery (keys_of oram.port.tree oram.tagger (L.leaf_of oram.port.leaves)) (W.state bus.new.tap.now).log
         ⊎ IsPlayed config.now (play_with config.now image.now files.input) (play_report report)
         (W.state bus.new.tap.now).log) }
+    ensures home { AreKeys (keys_of oram.port.tree oram.tagger (L.leaf_of oram.port.leaves))
+        → CallsPlay (keys_of oram.port.tree oram.tagger (L.leaf_of oram.port.leaves)) (L.levels oram.port.leaves)
+        config.now
+        → CallsReplay (keys_of oram.port.tree oram.tagger (L.leaf_of oram.port.leaves)) (L.levels oram.port.leaves)
+        → IfOk result (λ report. EndsAtHome (keys_of oram.port.tree oram.tagger (L.leaf_of oram.port.leaves))
+        config.now (play_with config.now image.now files.input) report.ending (W.state bus.new.tap.now).log) }
     ensures reported { IfOk result (λ report. Reported config.now report (M.state bus.old.memory.now)
         (M.state bus.new.memory.now) (W.state bus.old.tap.now) (W.state bus.new.tap.now)) }
     ensures wanting { OnErr result (Wanting config.now (M.state bus.old.memory.now)
@@ -330,6 +337,9 @@ pub fn run<M: UntrustedMemory, W: Watch, L: LeafFn>(
         (W.state bus.new.tap.now).log) }
     ensures honest { (W.state bus.new.tap.now).log.altered ≡ []
         → IfOk result (λ report. (evidence : Evidence) → report.ending ≡ Ending.Integrity evidence → ⊥) }
+    ensures home { IfOk result (λ report.
+        EndsAtHome (chip_keys config.now codec tagger (L.leaf_of leaf)) config.now
+        (play_with config.now image.now input.now) report.ending (W.state bus.new.tap.now).log) }
     ensures complete { IsSome (M.state bus.old.memory.now).told
         → ¬ ((M.state bus.old.memory.now).faults < (M.state bus.new.memory.now).faults)
         → NoSlotIsFull (chip_keys config.now codec tagger (L.leaf_of leaf)) config.now.stash

@@ -12,6 +12,7 @@ ghost use Rattle.play_run.specs.Given.{CallsPlay};
 ghost use Rattle.play_run.specs.Shows.{RunShows};
 ghost use Rattle.play_run.specs.Stands.{numbers_of, StandsInImage};
 ghost use Rattle.run_play.specs.Play.{Play};
+ghost use Rattle.secure_machine.specs.Home.{EndsAtHome};
 ghost use Rattle.secure_machine.specs.Plays.{CallsInPlay, InImage, InRun, LeavesInPlay, StoppedInPlay, HaltsInPlay};
 ghost use Rattle.secure_machine.specs.Plays.{EndedInPlay, play_ending};
 ghost use Rattle.encrypted_run.specs.Refined.{Computes, loaded};
@@ -518,6 +519,13 @@ fn finish<M: UntrustedMemory, W: Watch, L: LeafFn>(
         (W.state lines.new.tap.now))
         (λ _. WantsReplayed (keys_in L.leaf_of lines.old) lines.old.oram.now.port.tree.stash
         (W.state lines.new.tap.now)) }
+    ensures home { (config : Config) (whole : Play) → AreKeys (keys_in L.leaf_of lines.old)
+        → HaltsInPlay M.state W.state L.leaf_of L.levels config whole halted lines.old
+        → CallsReplay (keys_in L.leaf_of lines.old) (L.levels lines.old.oram.now.port.leaves)
+        → CauseReplayed (keys_in L.leaf_of lines.old) lines.old.oram.now.port.tree.stash halted.cause
+        (timed_of M.state W.state lines.old).oram
+        → IfOk result (λ (ending, last). EndsAtHome (keys_in L.leaf_of lines.old) config whole ending
+        (W.state lines.new.tap.now).log) }
     ensures spends { (config : Config) (levels costs : ℕ)
         → CauseSpent M.state W.state L.levels config levels costs halted.instructions halted.cycles halted.cause
         lines.old
@@ -615,6 +623,25 @@ pub(crate) fn drive<M: UntrustedMemory, W: Watch, L: LeafFn>(
         oram.old.port.tree.stash course.ending (W.state bus.new.tap.now))
         (λ _. WantsReplayed (keys_of oram.old.port.tree oram.old.tagger (L.leaf_of oram.old.port.leaves))
         oram.old.port.tree.stash (W.state bus.new.tap.now)) }
+    ensures home { (config : Config) (whole : Play)
+        → AreKeys (keys_of oram.old.port.tree oram.old.tagger (L.leaf_of oram.old.port.leaves))
+        → CallsPlay (keys_of oram.old.port.tree oram.old.tagger (L.leaf_of oram.old.port.leaves))
+        (L.levels oram.old.port.leaves) config
+        → IsConfig config → IsCore core.old → config.budget ≡ budget
+        → StandsInImage (keys_of oram.old.port.tree oram.old.tagger (L.leaf_of oram.old.port.leaves))
+        (L.levels oram.old.port.leaves) config whole image.now.bytes.items (machine_of core.old files.old)
+        image.now.marked.items cache.old (record {
+          oram = oram_over M.state W.state oram.old bus.old.memory.now bus.old.tap.now;
+          clock = 0;
+          fetches = 0;
+        })
+        → CallsReplay (keys_of oram.old.port.tree oram.old.tagger (L.leaf_of oram.old.port.leaves))
+        (L.levels oram.old.port.leaves)
+        → IsReplayed (keys_of oram.old.port.tree oram.old.tagger (L.leaf_of oram.old.port.leaves))
+        (oram_over M.state W.state oram.old bus.old.memory.now bus.old.tap.now)
+        → IfOk result (λ course.
+        EndsAtHome (keys_of oram.old.port.tree oram.old.tagger (L.leaf_of oram.old.port.leaves)) config whole
+        course.ending (W.state bus.new.tap.now).log) }
     ensures spends { (ways : ℕ) (sets : Sets) → IsCore core.old
         → StandsAs oram.old.port.clock.config.shape.lines ways cache.old (over_image image.now sets)
         → let config = oram.old.port.clock.config in

@@ -5,6 +5,7 @@ use Rattle.fed_run.specs.Answered.{feed_of}
 use Rattle.oram_contents.specs.Entries.{AreKeys}
 use Rattle.rv32_core.specs.StepPlan.{machine_of}
 use Rattle.secure_machine.specs.Answered.{answered_lines}
+use Rattle.secure_machine.specs.Home.{EndsAtHome}
 use Rattle.secure_machine.specs.Judged.{EndsReplayed}
 use Rattle.secure_machine.specs.Fed.{over_image, over_loaded, CauseFed}
 use Rattle.secure_machine.proofs.LineChains.{same_then, halts_replayed}
@@ -173,3 +174,27 @@ returns-clause-spends g c ways sets core stands known =
           c.in_ok-ending.ending) e
           (c.in_ok-ending.ensures.spends config levels _ cause),
     )
+
+pub returns-clause-home : goal.returns-clause-home
+returns-clause-home g c config whole lawful calls is_config core budget stands =
+    let keys = keys_by g.M.UntrustedMemory.state g.W.Watch.state g.L.LeafFn.leaf_of g.L.LeafFn.levels in
+    let lines = c.new-lines.result in
+    let played = c.play-halted.new.lines in
+    let same = c.play-halted.ensures.halts.same in
+    let lawful_first = subst (λ o. AreKeys (keys o)) (sym c.new-lines.ensures.oram) lawful in
+    let calls_first = subst (λ o. CallsPlay (keys o) (g.L.LeafFn.levels o.port.leaves) config)
+    (sym c.new-lines.ensures.oram) calls in
+    let begun = begins g.M.UntrustedMemory.state g.W.Watch.state g.L.LeafFn.leaf_of g.L.LeafFn.levels config whole
+    c.args.image.now.bytes.items (machine_of c.args.core.now c.args.files.now) c.args.image.now.marked.items
+    c.args.cache.now lines c.args.oram.now c.args.bus.now.memory.now c.args.bus.now.tap.now
+    c.new-lines.ensures.memory c.new-lines.ensures.tap c.new-lines.ensures.oram c.new-lines.ensures.clock
+    c.new-lines.ensures.fetches stands in
+    let halted = c.play-halted.ensures.plays config whole lawful_first calls_first is_config core budget begun in
+    let log = (g.W.Watch.state c.finish.new.lines.tap.now).log in
+    halts_replayed g.M.UntrustedMemory.state g.W.Watch.state g.L.LeafFn.leaf_of g.L.LeafFn.levels
+    (λ keys stash. EndsAtHome keys config whole c.in_ok-ending.ending log) c.args.budget c.play-halted.result
+    lines played c.args.oram.now c.args.bus.now.memory.now c.args.bus.now.tap.now
+    c.new-lines.ensures.memory c.new-lines.ensures.tap c.new-lines.ensures.oram c.play-halted.ensures.halts
+    (c.in_ok-ending.ensures.home config whole
+    (subst AreKeys (sym (keys_same g.M.UntrustedMemory.state g.W.Watch.state g.L.LeafFn.leaf_of g.L.LeafFn.levels lines
+    played same)) lawful_first) halted)

@@ -25,6 +25,7 @@ use Rattle.secure_machine.proofs.Replaying.{own_replayed, stopped_replayed}
 use Rattle.play_run.proofs.WaitSteps.{wait-same}
 use Rattle.secure_machine.specs.Spent.{CauseSpent, EndsSpent}
 use Rattle.secure_machine.proofs.SpentRuns.{stop_spends, ended_stop_spends}
+use Rattle.secure_machine.proofs.HomeEnds.{home_behind, stopped_home}
 use Rattle.secure_machine.proofs.machine.finish.Goals as goal
 
 pub returns-in-Ok-clause-settled : goal.returns-in-Ok-clause-settled
@@ -330,3 +331,30 @@ returns-in-Stops-clause-spends g c config levels costs known =
     IfOk-weaker c.ending_of-in-Stops.result _ _ (λ (ending, end) named.
     stop_spends config levels costs c.args.halted.instructions c.args.halted.cycles c.in-Stops.stop ending old.port
     named spent late) c.ending_of-in-Stops.ensures.named
+
+pub returns-in-Ok-clause-home : goal.returns-in-Ok-clause-home
+returns-in-Ok-clause-home g c config whole lawful known calls cause =
+    let levels = g.L.LeafFn.levels c.args.lines.now.oram.now.port.leaves in
+    let keys = keys_in g.L.LeafFn.leaf_of c.args.lines.now in
+    let old = (timed_of g.M.UntrustedMemory.state g.W.Watch.state c.args.lines.now).oram in
+    let new = (timed_of g.M.UntrustedMemory.state g.W.Watch.state c.idle_until.new.self).oram in
+    let by = subst (λ (cause : Cause). HaltsBy c.args.budget levels c.args.halted.instructions
+    c.args.halted.cycles cause c.requires.halts.0 old) c.in-Ends.is c.requires.halts.1 in
+    let rests = by.1.serves.rests in
+    let now = subst (λ (cause : Cause). CauseReplayed keys old.port.tree.stash cause old) c.in-Ends.is cause in
+    let later = calls.request old new (Wait c.in-Ends.until) _ now rests tt c.in-Ok.ensures.step in
+    λ behind none. home_behind keys lawful levels config whole (play_ending c.in-Ends.ending) _ c.in-Ends.until _ old new
+    (subst (λ (cause : Cause). CauseInPlay g.M.UntrustedMemory.state g.W.Watch.state g.L.LeafFn.leaf_of
+    g.L.LeafFn.levels
+    config whole c.args.halted.instructions c.args.halted.cycles cause c.args.lines.now) c.in-Ends.is known)
+    c.in-Ok.ensures.step later none
+
+pub returns-in-Err-clause-home : goal.returns-in-Err-clause-home
+returns-in-Err-clause-home g c config whole lawful known calls cause =
+    stopped_home (keys_in g.L.LeafFn.leaf_of c.args.lines.now) config whole _ c.in-Err.stop c.ending_of.result
+    c.ending_of.ensures.named
+
+pub returns-in-Stops-clause-home : goal.returns-in-Stops-clause-home
+returns-in-Stops-clause-home g c config whole lawful known calls cause =
+    stopped_home (keys_in g.L.LeafFn.leaf_of c.args.lines.now) config whole _ c.in-Stops.stop c.ending_of-in-Stops.result
+    c.ending_of-in-Stops.ensures.named
