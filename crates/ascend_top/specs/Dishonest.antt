@@ -19,6 +19,7 @@ use Rattle.play_run.specs.Shows.{IsPlayed}
 use Rattle.rate_enforcer.specs.Counts.{is_answered}
 use Rattle.secure_machine.specs.Answered.{answered_lines}
 use Rattle.secure_machine.specs.Fed.{IsFed}
+use Rattle.secure_machine.specs.Home.{EndsAtHome}
 use Rattle.secure_machine.specs.Judged.{ShowsEnding, log_end}
 use Rattle.secure_machine.specs.Plays.{play_report, play_with}
 use Rattle.secure_machine.specs.Run.{DrawsLeaves, IsFlatReport, IsInBudget, IsTiedOr, IsUnprepared}
@@ -87,7 +88,8 @@ module _ (config : Config) (image : Image) (input : List ℕ) (keys : Keys) (len
     pub core : SeesAnswers
 
   -- Where no reply was altered the report is the flat run's, report and log are those of the Play, or of the Play cut
-  -- by a full stash or a failure, since no evidence comes, and there is no forgery. No reply is altered over a memory
+  -- by a full stash or a failure, since no evidence comes, and there is no forgery; and where the run ended behind an
+  -- instruction each block stands at one place, under its counter and with its line. No reply is altered over a memory
   -- that told its buckets before the run.
   pub record EndToEnd : Type 0 where
     pub flat : lent.tap'.log.altered ≡ [] → IsFlatReport config image input report
@@ -95,4 +97,5 @@ module _ (config : Config) (image : Image) (input : List ℕ) (keys : Keys) (len
         → IsPlayed config (play_with config image input) (play_report report) lent.tap'.log
     pub honest : lent.tap'.log.altered ≡ [] → (evidence : Evidence) → report.ending ≡ Integrity evidence → ⊥
     pub unforged : lent.tap'.log.altered ≡ [] → Forgery keys lent.tap'.log → ⊥
+    pub home : EndsAtHome keys config (play_with config image input) report.ending lent.tap'.log
     pub unaltered : IsSome lent.memory.told → lent.tap'.log.altered ≡ []
