@@ -146,7 +146,8 @@ end-within levels start (AppendOverfull held) slot fits = (omega arith, omega ar
 end-within levels start (MoveFails move) slot fits = by-move (cases_lt move (levels + 1))
   where
     by-move : (move < levels + 1) ⊎ (levels + 1 ≤ move)
-        → (start < end_of levels start (MoveFails move)) × (end_of levels start (MoveFails move) ≤ start + olat_of levels)
+        → (start < end_of levels start (MoveFails move))
+        × (end_of levels start (MoveFails move) ≤ start + olat_of levels)
     by-move (inl less) =
         let is : end_of levels start (MoveFails move) ≡ start + 40 * move + 1 =
         ap (λ b. cond {A = ℕ} b (start + 40 * move) (writes_start levels start + 40 * (move - (levels + 1))) + 1)

@@ -44,8 +44,8 @@ abbrev pub unprepared : Play
 unprepared = record { slots = []; ending = Device; numbers = no_numbers; last = 0 }
 
 module _ (levels : ℕ) where
-  -- A stop can come in a slot: a move that fails is one of its reads or writes; a message that is refused, or that finds
-  -- too many blocks, is appended behind it, and it is refused as one of two blocks of its address.
+  -- A stop can come in a slot: a move that fails is one of its reads or writes; a message that is refused behind it, or
+  -- that finds too many blocks, is appended there, and it is refused as one of two blocks of its address.
   abbrev pub Fits : Stop → Slot → Type 0
   Fits (Refused evidence) slot = Unit {0}
   Fits (Overfull held) slot = Unit {0}
