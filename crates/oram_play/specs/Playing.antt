@@ -15,7 +15,7 @@ use Rattle.oram_walk.specs.Shows.{Shows}
 use Rattle.rate_enforcer.specs.Counts.{IsCounted}
 use Rattle.rate_enforcer.specs.PortStep.{PortState}
 use Rattle.run_play.specs.Halt as cut
-use Rattle.run_play.specs.Halt.{part_of, end_of, ending_of}
+use Rattle.run_play.specs.Halt.{Fits, part_of, end_of, ending_of}
 use Rattle.run_play.specs.Play as how
 use Rattle.run_play.specs.PlayEvents.{said_of_all, play_events}
 use Rattle.run_play.specs.Requests.{Standing, Taken, data_line, walk_sizes}
@@ -49,13 +49,14 @@ abbrev pub IsTold : Standing → LineRequest → Option Line → Type 0
 IsTold now (Fetch line) told = told ≡ Some (record { 0 = data_line now.data_lines line })
 IsTold now (Store line value) told = told ≡ None
 
--- Of slots that were to be taken, behind others, one was stopped: the log says the slots before it and the part of it
--- that was done, and the port's last end is that of the stop.
+-- Of slots that were to be taken, behind others, one was stopped by a stop that can come in it: the log says the slots
+-- before it and the part of it that was done, and the port's last end is that of the stop.
 pub record IsCut (levels : ℕ) (slots taken : List Slot) (stop : cut.Stop) (new : PortState) : Type 0 where
   pub before : List Slot
   pub slot : Slot
   pub later : List Slot
   pub are : taken ≡ before ++ slot ∷ later
+  pub fits : Fits levels stop slot
   pub said : said_of_all new.tap.log.events ≡ play_events (slots ++ before ++ part_of levels stop slot ∷ [])
   pub last : new.clock.last ≡ end_of levels slot.start stop
 

@@ -1,5 +1,5 @@
 -- What the end of a run shows of its play.
-use Rattle.std.proofs.Common.{◌≡◌, ◌≤◌, ◌⊎◌, inl, inr, ℕ, suc, max, List, [], ◌∷◌, ◌++◌, Some, None, Ok, Err, length}
+use Rattle.std.proofs.Common.{◌≡◌, ◌≤◌, ◌⊎◌, inl, inr, ℕ, max, List, [], ◌∷◌, ◌++◌, Some, None, Ok, Err}
 use Rattle.std.proofs.Common.{refl, sym, ap, ◌∙◌, subst, arith, append_assoc, append-nil}
 use Rattle.asc_base.specs.declared.settings.Config.{Config}
 use Rattle.asc_base.specs.declared.stop.Stop.{Stop}
@@ -15,7 +15,7 @@ use Rattle.run_play.specs.Play.{Play, PlayEnding, after_slots, times_out}
 use Rattle.run_play.specs.PlayEvents.{play_events}
 use Rattle.run_play.specs.Requests.{Standing, Taken}
 use Rattle.run_play.specs.Slots.{Slot, Numbers, Passed}
-use Rattle.run_play.proofs.Halts.{halt-at}
+use Rattle.run_play.proofs.Halts.{cut-halted}
 use Rattle.run_play.proofs.Keeping.{passed-none}
 use Rattle.play_run.specs.Follows.{CutsWith, StopLeaves}
 use Rattle.play_run.specs.Given.{waited, WaitPlays, WaitStops}
@@ -30,12 +30,8 @@ cut-shows : (levels : ℕ) (whole : Play) (all more : List Slot) (ending : PlayE
     → RunShows levels whole ending numbers new.clock.last new.tap.log
 cut-shows levels whole all more ending numbers new parts (stop, is, h) = (
   cut_at levels stop h.before h.slot,
-  inr (
-    suc (length h.before),
-    stop,
-    sym (halt-at levels whole stop h.before (h.later ++ more) h.slot
-        (parts ∙ (ap (λ l. l ++ more) h.are ∙ append_assoc h.before (h.slot ∷ h.later) more))),
-  ),
+  inr (cut-halted levels whole stop h.before (h.later ++ more) h.slot
+      (parts ∙ (ap (λ l. l ++ more) h.are ∙ append_assoc h.before (h.slot ∷ h.later) more)) h.fits),
   record {
     events = h.said;
     ending = is;

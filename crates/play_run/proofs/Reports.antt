@@ -1,6 +1,6 @@
 -- A report is a play's where the log says the play's events.
 use Rattle.std.proofs.Common.{◌≡◌, ℕ, ◌+◌, List, [], ◌∷◌, ◌++◌, Option, Some, None, cond, length, refl, sym, ap, ◌∙◌}
-use Rattle.std.proofs.Common.{arith}
+use Rattle.std.proofs.Common.{arith, inl}
 use Rattle.std.specs.List.{flat_map, sum_by, count_by}
 use Rattle.std.proofs.lemmas.List.Sums.{sum_by-append, sum_by-cons}
 use Rattle.asc_base.specs.declared.block.Message.{Message}
@@ -124,7 +124,7 @@ pub shown-played : (config : Config) (whole : Play) (ending : PlayEnding) (numbe
     → IsPlayed config whole (shown_report (public_of config) ending numbers last log) log
 shown-played config whole ending numbers last log (run, is, x) = record {
   run = run;
-  is = is;
+  is = inl is;
   events = x.events;
   report_is = report-is (public_of config) run ending numbers last log x;
 }

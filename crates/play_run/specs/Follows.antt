@@ -10,7 +10,7 @@ use Rattle.oram_play.specs.Taken.{HasTaken}
 use Rattle.play_run.specs.Timed.{TimedState}
 use Rattle.rate_enforcer.specs.PortStep.{PortState}
 use Rattle.run_play.specs.Halt as cut
-use Rattle.run_play.specs.Halt.{part_of, end_of, ending_of}
+use Rattle.run_play.specs.Halt.{Fits, part_of, end_of, ending_of}
 use Rattle.run_play.specs.Play as how
 use Rattle.run_play.specs.PlayEvents.{said_of_all, play_events}
 use Rattle.run_play.specs.Requests.{Standing}
@@ -28,14 +28,15 @@ pub record Follows (keys : Keys) (levels : ℕ) (config : Config) (slots : List 
 abbrev pub with_fetches : Numbers → ℕ → Numbers
 with_fetches numbers count = record numbers { fetches = count }
 
--- One of these slots was stopped: the log says the slots before it and the part of it that was done, the port's last
--- end is that of the stop, and the slot leaves these numbers.
+-- One of these slots was stopped by a stop that can come in it: the log says the slots before it and the part of it
+-- that was done, the port's last end is that of the stop, and the slot leaves these numbers.
 pub record IsCutIn (levels : ℕ) (all : List Slot) (stop : cut.Stop) (numbers : Numbers) (new : PortState)
     : Type 0 where
   pub before : List Slot
   pub slot : Slot
   pub later : List Slot
   pub are : all ≡ before ++ slot ∷ later
+  pub fits : Fits levels stop slot
   pub said : said_of_all new.tap.log.events ≡ play_events (before ++ part_of levels stop slot ∷ [])
   pub last : new.clock.last ≡ end_of levels slot.start stop
   pub left : slot.left ≡ numbers

@@ -10,16 +10,15 @@ use Rattle.bus_schedule.specs.Timetable.{Public, public_of}
 use Rattle.bus_watch.specs.Log.{LogLists}
 use Rattle.rate_enforcer.specs.Counts.{is_dummy, is_real}
 use Rattle.rate_enforcer.specs.PortStep.{PortState}
-use Rattle.run_play.specs.Halt as cut
-use Rattle.run_play.specs.Halt.{halt}
+use Rattle.run_play.specs.Halt.{unprepared, IsHalted}
 use Rattle.run_play.specs.Play as how
 use Rattle.run_play.specs.Play.{Play, PlayEnding}
 use Rattle.run_play.specs.PlayEvents.{said_of_all, play_events, PlayReport, report_of}
 use Rattle.run_play.specs.Slots.{Numbers}
 
--- a play, or that play cut by a stop
+-- a play, or that play cut in one of its slots by a stop that can come there
 abbrev pub IsRunOf : ℕ → Play → Play → Type 0
-IsRunOf levels whole run = (run ≡ whole) ⊎ ((k : ℕ) × (stop : cut.Stop) × (run ≡ halt levels whole k stop))
+IsRunOf levels whole run = (run ≡ whole) ⊎ IsHalted levels whole run
 
 -- The log says the events of a play, and its ending, its numbers and its end time are these.
 pub record Shows (run : Play) (ended : PlayEnding) (left : Numbers) (end : ℕ) (log : LogLists) : Type 0 where
@@ -60,11 +59,11 @@ shown_report p ending numbers last log = record {
   code = log_code p log;
 }
 
--- What is reported of a run and what its log says are those of a play, or of that play cut by a stop: the log's events
--- are its slots', one by one, and the report is its report.
+-- What is reported of a run and what its log says are those of a play, or of that play cut by a stop, or of the run
+-- whose memory couldn't be prepared: the log's events are its slots', one by one, and the report is its report.
 pub record IsPlayed (config : Config) (whole : Play) (report : PlayReport) (log : LogLists) : Type 0 where
   pub run : Play
-  pub is : IsRunOf config.shape.levels whole run
+  pub is : IsRunOf config.shape.levels whole run ⊎ (run ≡ unprepared)
   pub events : said_of_all log.events ≡ play_events run.slots
   pub report_is : report ≡ report_of (public_of config) run
 

@@ -12,7 +12,8 @@ ghost use Rattle.run_play.specs.Rows.{default_config, small};
 
 /// A program that exits at once shows its play by an empty log and its report. A load shows it by a log that says the
 /// starts, the points and the blocks of four slots. A log with the start and the point of the first of them, whatever
-/// the leaf is, and a report that the memory failed at the end of its third read, show the play that is cut there.
+/// the leaf is, and a report that the memory failed at the end of its third read, show the play that is cut there. A
+/// report that it failed at the end of a thirteenth move shows none of the play, whatever the log says.
 pub fn reports_have_rows()
     ensures exit { (log : LogLists) → log.events ≡ [] → IsPlayed default_config
         (play_at default_config 65536 exit_words) (record {
@@ -55,4 +56,15 @@ pub fn reports_have_rows()
           choices = 0;
           code = 0;
         }) log }
+    ensures no_cut { (log : LogLists) → IsPlayed small (play_at small 0 load_words) (record {
+      ending = Device;
+      instructions = 0;
+      cycles = 1;
+      last = 753;
+      fetches = 0;
+      real = 1;
+      dummies = 0;
+      choices = 0;
+      code = 0;
+    }) log → ⊥ }
 {}

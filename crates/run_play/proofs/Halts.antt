@@ -1,18 +1,20 @@
 -- What a cut of a play is.
 use Rattle.std.proofs.Common.{◌≡◌, ◌<◌, ◌≤◌, ℕ, zero, suc, Bool, true, false, cond, List, [], ◌∷◌, ◌++◌, take, length}
 use Rattle.std.proofs.Common.{Option, Some, None, refl, sym, ap, ◌∙◌, arith, append_assoc, append-nil, length-append}
-use Rattle.std.proofs.Common.{inl, inr}
+use Rattle.std.proofs.Common.{◌⊎◌, ◌+◌, ◌-◌, ◌*◌, inl, inr}
 use Rattle.std.specs.Prelude.{slice_get, map, nat_le}
 use Rattle.std.specs.Option.{option_map_or}
 use Rattle.std.proofs.Math.Seq.{take-append_seam}
-use Rattle.std.proofs.lemmas.Bool.{cases_lt}
+use Rattle.std.proofs.lemmas.Bool.{cases_lt, lt-ltb, le-ltb}
 use Rattle.std.proofs.lemmas.List.{map-append, length-map}
 use Rattle.std.proofs.lemmas.List.Concat.{flat_map-append}
+use Rattle.asc_base.specs.TreeShape.{olat_of}
 use Rattle.asc_base.specs.declared.block.Message.{Message}
+use Rattle.bus_watch.specs.Path.{writes_start}
 use Rattle.run_play.specs.Slots.{Slot}
 use Rattle.run_play.specs.Play.{Play, after_slots}
 use Rattle.run_play.specs.Halt.{Stop, Refused, Overfull, MoveFails, AppendRefused, AppendOverfull, ending_of, end_of}
-use Rattle.run_play.specs.Halt.{before_put, after_put, part_of, cut_at, unprepared, halt}
+use Rattle.run_play.specs.Halt.{before_put, after_put, Fits, part_of, cut_at, unprepared, halt, IsHalted}
 use Rattle.run_play.specs.PlayEvents.{PlayEvent, Starts, Draws, tags_of, chooses_of, slot_events, play_events}
 use Rattle.run_play.specs.PlayEvents.{starts_in, points_in}
 
@@ -92,6 +94,79 @@ halt-numbers levels run k stop slot is =
       ap (λ (r : Play). r.ending) whole,
       ap (λ (r : Play). r.last) whole,
     )
+
+-- ---- a run that is halted
+-- It is the slots before one and a part of that one, cut by a stop that can come there.
+pub halted-parts : (levels : ℕ) (whole run : Play) → (h : IsHalted levels whole run)
+    → (before later : List Slot) × (whole.slots ≡ before ++ h.slot ∷ later)
+    × (run ≡ cut_at levels h.stop before h.slot)
+halted-parts levels whole run h = by-place (cases_lt h.before (length whole.slots))
+  where
+    by-place : (h.before < length whole.slots) ⊎ (length whole.slots ≤ h.before)
+        → (before later : List Slot) × (whole.slots ≡ before ++ h.slot ∷ later)
+        × (run ≡ cut_at levels h.stop before h.slot)
+    by-place (inr over) =
+        absurd (let bad : ◌≡◌ {A = Option Slot} None (Some h.slot) = sym (none-at whole.slots h.before over) ∙ h.at in
+        cc)
+    by-place (inl below) =
+        let p : Parted whole.slots h.before = parted whole.slots h.before below in
+        let found : Some p.cut ≡ Some h.slot =
+        sym (seam p.before p.later p.cut) ∙ ap (slice_get (p.before ++ p.cut ∷ p.later)) p.counted
+        ∙ ap (λ (l : List Slot). slice_get l h.before) (sym p.parts) ∙ h.at in
+        let same : p.cut ≡ h.slot = cc in
+        let parts : whole.slots ≡ p.before ++ h.slot ∷ p.later =
+        p.parts ∙ ap (λ (s : Slot). p.before ++ s ∷ p.later) same in (
+          p.before,
+          p.later,
+          parts,
+          h.is ∙ ap (λ n. halt levels whole (suc n) h.stop) (sym p.counted)
+              ∙ halt-at levels whole h.stop p.before p.later h.slot parts,
+        )
+
+-- every such cut is one
+pub cut-halted : (levels : ℕ) (whole : Play) (stop : Stop) (before later : List Slot) (slot : Slot)
+    → whole.slots ≡ before ++ slot ∷ later → Fits levels stop slot
+    → IsHalted levels whole (cut_at levels stop before slot)
+cut-halted levels whole stop before later slot parts fits = record {
+  before = length before;
+  slot = slot;
+  at = ap (λ (l : List Slot). slice_get l (length before)) parts ∙ seam before later slot;
+  stop = stop;
+  fits = fits;
+  is = sym (halt-at levels whole stop before later slot parts);
+}
+
+-- its end time
+end-within : (levels start : ℕ) (stop : Stop) (slot : Slot) → Fits levels stop slot
+    → (start < end_of levels start stop) × (end_of levels start stop ≤ start + olat_of levels)
+end-within levels start (Refused evidence) slot fits = (omega arith, omega arith)
+end-within levels start (Overfull held) slot fits = (omega arith, omega arith)
+end-within levels start (AppendRefused evidence) slot fits = (omega arith, omega arith)
+end-within levels start (AppendOverfull held) slot fits = (omega arith, omega arith)
+end-within levels start (MoveFails move) slot fits = by-move (cases_lt move (levels + 1))
+  where
+    by-move : (move < levels + 1) ⊎ (levels + 1 ≤ move)
+        → (start < end_of levels start (MoveFails move))
+        × (end_of levels start (MoveFails move) ≤ start + olat_of levels)
+    by-move (inl less) =
+        let is : end_of levels start (MoveFails move) ≡ start + 40 * move + 1 =
+        ap (λ b. cond {A = ℕ} b (start + 40 * move) (writes_start levels start + 40 * (move - (levels + 1))) + 1)
+        (lt-ltb move (levels + 1) less) in
+        (omega (arith, is), omega (arith, is, less))
+    by-move (inr over) =
+        let is : end_of levels start (MoveFails move)
+        ≡ writes_start levels start + 40 * (move - (levels + 1)) + 1 =
+        ap (λ b. cond {A = ℕ} b (start + 40 * move) (writes_start levels start + 40 * (move - (levels + 1))) + 1)
+        (le-ltb move (levels + 1) over) in
+        (omega (arith, is), omega (arith, is, over, fits))
+
+pub halted-ends : (levels : ℕ) (whole run : Play) → (h : IsHalted levels whole run)
+    → (h.slot.start < run.last) × (run.last ≤ h.slot.start + olat_of levels)
+halted-ends levels whole run h =
+    let last : run.last ≡ end_of levels h.slot.start h.stop =
+    ap (λ (r : Play). r.last) h.is ∙ (halt-numbers levels whole h.before h.stop h.slot h.at).2 in
+    let within = end-within levels h.slot.start h.stop h.slot h.fits in
+    (omega (arith, last, within.0), omega (arith, last, within.1))
 
 -- ---- what no stop changes of a slot
 -- the slot with other messages and another choice

@@ -5,6 +5,7 @@ ghost use Rattle.std.specs.Prelude.{List, [], ◌∷◌, ◌++◌};
 ghost use Rattle.std.specs.Prelude.{length, map, take, slice_get};
 ghost use Rattle.std.specs.Prelude.{Option, Some, None};
 ghost use Rattle.asc_base.specs.Settings.{IsConfig};
+ghost use Rattle.asc_base.specs.TreeShape.{olat_of};
 ghost use Rattle.asc_base.specs.declared.settings.Config.{Config};
 ghost use Rattle.bus_schedule.specs.Shown.{starts_of, indices_of};
 ghost use Rattle.asc_base.specs.declared.block.Message.{Message};
@@ -31,7 +32,7 @@ ghost use Rattle.run_play.specs.Requests.{StoredLines, Standing, access_slot, re
 ghost use Rattle.run_play.specs.Requests.{value_of, walk_sizes, followed, one_by_one, request_slots};
 ghost use Rattle.run_play.specs.Play.{Play, Budget, after_slots, access_turn, instruction, comes_to, times_out};
 ghost use Rattle.run_play.specs.Play.{after_requests, image_use, play_from, play_of};
-ghost use Rattle.run_play.specs.Halt.{Stop, ending_of, end_of, cut_at, unprepared, halt};
+ghost use Rattle.run_play.specs.Halt.{Stop, ending_of, end_of, Fits, cut_at, unprepared, halt, IsHalted};
 ghost use Rattle.run_play.specs.PlayEvents.{PlayEvent, said_of_all, play_events, starts_in, points_in, indices_in};
 ghost use Rattle.run_play.specs.PlayEvents.{choices_in, code_in};
 ghost use Rattle.run_play.specs.OnTime.{heard_in, IsPace, AreOnTime};
@@ -131,6 +132,19 @@ pub fn halts_are_prefixes()
         × ((halt levels run (suc k) stop).last ≡ end_of levels slot.start stop) }
     ensures events { (levels : ℕ) (run : Play) (k : ℕ) (stop : Stop) → (rest : List PlayEvent)
         × (play_events run.slots ≡ play_events (halt levels run k stop).slots ++ rest) }
+{}
+
+/// A run that is halted is some slots of the play and a part of the next one, cut by a stop that can come there, and
+/// every such cut is one. It ends after that slot's start, and by its end.
+pub fn halted_runs_are_cuts()
+    ensures parts { (levels : ℕ) (whole run : Play) → (h : IsHalted levels whole run)
+        → (before later : List Slot) × (whole.slots ≡ before ++ h.slot ∷ later)
+        × (run ≡ cut_at levels h.stop before h.slot) }
+    ensures cut { (levels : ℕ) (whole : Play) (stop : Stop) (before later : List Slot) (slot : Slot)
+        → whole.slots ≡ before ++ slot ∷ later → Fits levels stop slot
+        → IsHalted levels whole (cut_at levels stop before slot) }
+    ensures ends { (levels : ℕ) (whole run : Play) → (h : IsHalted levels whole run)
+        → (h.slot.start < run.last) × (run.last ≤ h.slot.start + olat_of levels) }
 {}
 
 /// The slots that start before a time pass one by one: none, or a dummy and then the others; the slot that is next then

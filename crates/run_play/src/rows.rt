@@ -4,11 +4,14 @@ ghost use Rattle.std.specs.Prelude.{◌≡◌, ◌+◌, ◌*◌, ℕ, [], ◌∷
 ghost use Rattle.std.specs.List.{range_with_len};
 ghost use Rattle.asc_base.specs.Settings.{config_of};
 ghost use Rattle.asc_base.specs.declared.block.Point.TheVariants.{Dummy};
+ghost use Rattle.asc_base.specs.declared.stop.Evidence.TheVariants.{BadSlot, Doubled};
 ghost use Rattle.bus_schedule.specs.Timetable.{public_of};
 ghost use Rattle.rv32_core.specs.declared.outcome.TrapKind.TheVariants.{FetchMisaligned};
 ghost use Rattle.run_play.specs.Play.{Exited, Trapped, Budget, TimeUp, StashFull, Device};
-ghost use Rattle.run_play.specs.Halt.{Overfull, MoveFails, AppendOverfull, halt};
+ghost use Rattle.run_play.specs.Halt.{Refused, Overfull, MoveFails, AppendRefused, AppendOverfull, Fits, halt};
+ghost use Rattle.run_play.specs.Halt.{IsHalted};
 ghost use Rattle.run_play.specs.PlayEvents.{Starts, Draws, play_events, starts_in, points_in, indices_in, report_of};
+ghost use Rattle.run_play.specs.Slots.{Slot};
 ghost use Rattle.run_play.specs.Rows.{default_settings, small_settings, default_config, small, no_budget, no_time};
 ghost use Rattle.run_play.specs.Rows.{one_rate, short_time, one_choice, one_held};
 ghost use Rattle.run_play.specs.Rows.{few_counts, two_choices};
@@ -268,4 +271,24 @@ pub fn halts_have_rows()
           choices = 0;
           code = 0;
         } }
+{}
+
+/// Which stops can come in a slot. The load's play can be cut where its reads are refused, where too many blocks stay,
+/// and where its last write fails, the twelfth move of a path of six buckets: there is no thirteenth. Under one root
+/// the message that is appended behind the second slot can find too many blocks, and can be refused as one of two
+/// blocks of its address, but of no other one; behind the third slot nothing is appended.
+pub fn stops_fit_slots()
+    ensures read { IsHalted 5 (play_at small 0 load_words)
+        (halt 5 (play_at small 0 load_words) 1 (Refused (BadSlot 0 0))) }
+    ensures full { IsHalted 5 (play_at small 0 load_words) (halt 5 (play_at small 0 load_words) 4 (Overfull 201)) }
+    ensures last_move { IsHalted 5 (play_at small 0 load_words) (halt 5 (play_at small 0 load_words) 3 (MoveFails 11)) }
+    ensures no_move { (slot : Slot) → Fits 5 (MoveFails 12) slot → ⊥ }
+    ensures append { IsHalted 5 (play_at one_held 0 load_words)
+        (halt 5 (play_at one_held 0 load_words) 2 (AppendOverfull 201)) }
+    ensures doubled { IsHalted 5 (play_at one_held 0 load_words)
+        (halt 5 (play_at one_held 0 load_words) 2 (AppendRefused (Doubled (record { 0 = 66 })))) }
+    ensures other_block { (slot : Slot) → slice_get (play_at one_held 0 load_words).slots 1 ≡ Some slot
+        → Fits 5 (AppendRefused (Doubled (record { 0 = 64 }))) slot → ⊥ }
+    ensures no_append { (slot : Slot) → slice_get (play_at one_held 0 load_words).slots 2 ≡ Some slot
+        → Fits 5 (AppendOverfull 201) slot → ⊥ }
 {}

@@ -25,7 +25,7 @@ use Rattle.play_run.proofs.Reports.{shown-played}
 use Rattle.play_run.proofs.Runs.{start-stands}
 use Rattle.rate_enforcer.specs.Counts.{is_dummy, is_real}
 use Rattle.run_play.specs.Play.{Play}
-use Rattle.run_play.specs.Halt.{MoveFails, unprepared}
+use Rattle.run_play.specs.Halt.{unprepared}
 use Rattle.run_play.specs.PlayEvents.{PlayReport, said_of_all}
 use Rattle.rv32_core.specs.Machine.{Machine}
 use Rattle.secure_machine.specs.Plays.{play_ending, play_report, play_with}
@@ -85,13 +85,13 @@ start_played keys config levels o image input machine cache is_config is_image l
     (some_sets config is_config) (some_ways config is_config) (whole ∙ ap (λ n. 64 * n) (sym lines)) zeros
     (calls.start_plays o new port (ap sizes_of new.front))))
 
--- A run whose memory couldn't be prepared is its play cut before the first slot.
+-- A run whose memory couldn't be prepared took no slot of its play.
 pub unprepared_played : (config : Config) (whole : Play) (report : Report) (tap tap' : TapState) (log : LogLists)
     → IsUnprepared report tap tap' → log.events ≡ [] → IsPlayed config whole (play_report report) log
 unfolding code_of
 unprepared_played config whole report tap tap' log is none = record {
   run = unprepared;
-  is = inr (0, MoveFails 0, refl);
+  is = inr refl;
   events = ap said_of_all none;
   report_is = λ i. record {
     ending = play_ending (is.ending i);
