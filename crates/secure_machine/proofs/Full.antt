@@ -1,6 +1,6 @@
 -- What is accepted and answered changes no verdict on a log; so a full stash that a run's log shows, where no reply was
 -- altered, is one of its play.
-use Rattle.std.proofs.Common.{◌≡◌, ◌+◌, inl, inr, ℕ, zero, suc, List, [], ◌∷◌, ◌++◌, length, map, Option, None, Some, take}
+use Rattle.std.proofs.Common.{◌≡◌, ◌+◌, ◌⊎◌, inl, inr, ℕ, suc, List, [], ◌∷◌, ◌++◌, length, map, Option, None, Some, take}
 use Rattle.std.proofs.Common.{refl, sym, ◌∙◌, ap, ap₂, subst, append_assoc}
 use Rattle.std.specs.Prelude.{slice_get}
 use Rattle.std.specs.List.{flat_map}
@@ -29,11 +29,12 @@ use Rattle.oram_contents.specs.Verdict.{event_verdict, events_verdict, first_of,
 use Rattle.play_run.specs.Shows.{IsRunOf, IsPlayed, IsOwn, IsWholePlay}
 use Rattle.play_run.proofs.Whole.{played-whole}
 use Rattle.run_play.specs.Halt as cut
-use Rattle.run_play.specs.Halt.{Refused, Overfull, MoveFails, AppendRefused, AppendOverfull, ending_of, halt, cut_at}
+use Rattle.run_play.specs.Halt.{Overfull, ending_of, halt, cut_at, unprepared}
 use Rattle.run_play.specs.Play as how
 use Rattle.run_play.specs.Play.{Play, PlayEnding}
 use Rattle.run_play.specs.PlayEvents.{PlayReport, play_events, report_of, said_of_all}
 use Rattle.run_play.specs.Slots.{Slot}
+use Rattle.run_play.proofs.Halts.{halt-numbers}
 use Rattle.secure_machine.specs.Full.{noted, log_of, NoSlotIsFull}
 use Rattle.secure_machine.specs.Judged.{ShowsEnding}
 use Rattle.secure_machine.specs.Plays.{play_ending, play_report}
@@ -211,27 +212,17 @@ whole_full levels whole run held is = record {
   is = is ∙ sym (beyond levels whole (Overfull held));
 }
 
-slot_full : (levels : ℕ) (whole run : Play) (held k : ℕ) (stop : cut.Stop) → run ≡ halt levels whole (suc k) stop
-    → run.ending ≡ how.StashFull held → (slot : Option Slot) → slice_get whole.slots k ≡ slot
-    → IsFullAt levels whole run held
-slot_full levels whole run held k stop is ends None at =
-    whole_full levels whole run held (is
-    ∙ ap (λ s. option_map_or (cut_at levels stop (take k whole.slots)) s whole) at)
-slot_full levels whole run held k stop is ends (Some slot) at = record {
-  k = suc k;
-  stop = stop;
-  ends = sym (ap (λ (r : Play). r.ending) (is
-      ∙ ap (λ s. option_map_or (cut_at levels stop (take k whole.slots)) s whole) at)) ∙ ends;
-  is = is;
+full_at : (levels : ℕ) (whole run : Play) (held : ℕ) → IsRunOf levels whole run ⊎ (run ≡ unprepared)
+    → run.ending ≡ how.StashFull held → IsFullAt levels whole run held
+full_at levels whole run held (inl (inl is)) ends = whole_full levels whole run held is
+full_at levels whole run held (inl (inr h)) ends = record {
+  k = suc h.before;
+  stop = h.stop;
+  ends = sym (ap (λ (r : Play). r.ending) h.is ∙ (halt-numbers levels whole h.before h.stop h.slot h.at).1) ∙ ends;
+  is = h.is;
 }
-
-full_at : (levels : ℕ) (whole run : Play) (held : ℕ) → IsRunOf levels whole run → run.ending ≡ how.StashFull held
-    → IsFullAt levels whole run held
-full_at levels whole run held (inl is) ends = whole_full levels whole run held is
-full_at levels whole run held (inr (zero, stop, is)) ends =
+full_at levels whole run held (inr is) ends =
     let bad : how.Device ≡ how.StashFull held = sym (ap (λ (r : Play). r.ending) is) ∙ ends in cc
-full_at levels whole run held (inr (suc k, stop, is)) ends =
-    slot_full levels whole run held k stop is ends (slice_get whole.slots k) refl
 
 -- A full stash that a run's log shows is one of its play, where no reply was altered.
 pub never_full : (keys : Keys) (stash : ℕ) (config : Config) (whole : Play) (report : PlayReport) (log : LogLists)
