@@ -33,8 +33,9 @@ ghost use Rattle.run_play.specs.Requests.{Standing, request_slots, requested, wa
 ghost use Rattle.run_play.specs.Slots.{Pace, Numbers, Slot};
 
 /// An access that is stopped leaves a part of the slots that it would take: the log says the slots before the one that
-/// stopped and what was done of that one, and the port's last end is that of the stop; or, where no slot is left that
-/// starts before the time of the settings, all dummies before it. So does an append, behind the last slot, and a wait.
+/// stopped and what was done of that one, the stop is one that can come there, and the port's last end is that of the
+/// stop; or, where no slot is left that starts before the time of the settings, all dummies before it. So does an
+/// append, behind the last slot, and a wait.
 pub fn stopped_accesses_are_cut()
     ensures slot { (keys : Keys) (levels notes : ℕ) (access : Access) (stop : Stop) (old new : PortState)
         (slots : List Slot) (pace : Pace) (numbers : Numbers) → FitKeys keys old → Resting notes levels old

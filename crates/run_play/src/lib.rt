@@ -9,11 +9,12 @@ mod laws;
 mod rows;
 
 pub use laws::{
-    accesses_take_slots, dummies_pass, halts_are_prefixes, instructions_take_slots,
-    late_servers_are_quiet, lists_take_slots, play_goes_on, plays_are_flat, plays_are_scheduled,
-    plays_stay_honest, requests_take_slots, slots_keep_the_pace,
+    accesses_take_slots, dummies_pass, halted_runs_are_cuts, halts_are_prefixes,
+    instructions_take_slots, late_servers_are_quiet, lists_take_slots, play_goes_on,
+    plays_are_flat, plays_are_scheduled, plays_stay_honest, requests_take_slots,
+    slots_keep_the_pace,
 };
 pub use rows::{
     appends_have_rows, choices_have_rows, halts_have_rows, jumps_have_rows, moves_have_rows,
-    plays_have_rows,
+    plays_have_rows, stops_fit_slots,
 };
