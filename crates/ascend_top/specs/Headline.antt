@@ -43,7 +43,8 @@ IsFlatOrPrefix program report = IsFlatReport program.config program.image progra
 abbrev pub program_play : Program → Play
 program_play program = play_with program.config program.image program.input.items
 
--- Beside the sentence: report and log are those of the program's Play, or of the Play cut by a stop.
+-- Beside the sentence: report and log are those of the program's Play, or of the Play cut in one of its slots by a stop
+-- that can come there, or of the run whose memory couldn't be prepared.
 abbrev pub IsPlayOrCut : Program → Report → LogLists → Type 0
 IsPlayOrCut program report log =
     IsPlayed program.config (program_play program) (play_report report) log
