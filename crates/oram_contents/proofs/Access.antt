@@ -327,6 +327,23 @@ module _ (keys : Keys) where
       (λ e h. came_more keys old new (accepted a c found) [] e f.adds
       (s.hand_came e (without-left now.hand (record { 0 = a }) e s.apart h).0)) s
 
+  -- a line of a block becomes an entry of its types
+  pub entry_typed : AreKeys keys → (a : ℕ) (c : Counter) (l : List ℕ) → a < keys.shape.total → length l ≡ 64
+      → IsEntry (entry_of keys a c l)
+  entry_typed lawful a c l inside whole =
+      let layered : IsLayered keys.shape = shape_layered keys.shape lawful.shape in
+      record {
+        address = omega (arith, inside, layered.total_to);
+        leaf = omega
+            (arith, lawful.leaves (real a c), few keys.shape.levels layered.levels_to);
+        line = whole;
+        tag =
+            length-tag keys.tags (message_of a c l);
+      }
+    where
+      few : (n : ℕ) → n ≤ 17 → 2 ^ n ≤ 2 ^ 17
+      few n less = pow_mono {i = n} {j = 17} less
+
   pub put_always : (lawful : AreKeys keys) (old new : LogLists) (now after : Contents) (a : ℕ) (c : Counter)
       (l : List ℕ) → a < keys.shape.total → length l ≡ 64
       → ((e : Entry) → Has e now.hand → e.address.0 ≡ a → ⊥) → IsPut keys old new now after a c l → Always keys old now
@@ -335,7 +352,8 @@ module _ (keys : Keys) where
       subst (λ x. Always keys new x) (sym put.after_is)
       (always_adds old new (Tagged (message_of a c l) ∷ []) now (now.hand ++ entry_of keys a c l ∷ []) put.adds
       (AreApart-append now.hand (entry_of keys a c l) s.apart (held-no_one now.hand (record { 0 = a }) other))
-      (put_of_shape keys.shape now.hand (now.hand ++ entry_of keys a c l ∷ []) (entry_of keys a c l) refl is_entry
+      (put_of_shape keys.shape now.hand (now.hand ++ entry_of keys a c l ∷ []) (entry_of keys a c l) refl
+      (entry_typed lawful a c l inside whole)
       (inside, lawful.leaves (real a c)) s.of_shape)
       came s)
     where
@@ -352,21 +370,6 @@ module _ (keys : Keys) where
               refl,
             ))
       ]
-
-      is_entry : IsEntry (entry_of keys a c l)
-      is_entry =
-          let layered : IsLayered keys.shape = shape_layered keys.shape lawful.shape in
-          record {
-            address = omega (arith, inside, layered.total_to);
-            leaf = omega
-                (arith, lawful.leaves (real a c), few keys.shape.levels layered.levels_to);
-            line = whole;
-            tag =
-                length-tag keys.tags (message_of a c l);
-          }
-        where
-          few : (n : ℕ) → n ≤ 17 → 2 ^ n ≤ 2 ^ 17
-          few n less = pow_mono {i = n} {j = 17} less
 
   -- a line is put at hand under its block's counter
   pub put_sound : (old new : LogLists) (g : Ghost) (now after : Contents) (a : ℕ) (l : List ℕ) → g.flight ≡ Some a

@@ -3,7 +3,10 @@
 ghost use Rattle.std.specs.Prelude.{IsTrue, ◌↔◌, true, count_by, ◌==◌, ◌*◌, ◌≡◌, ◌<◌, ◌≤◌, ◌+◌, ◌-◌, ◌%◌, ◌^◌, ◌⊎◌, ℕ};
 ghost use Rattle.std.specs.Prelude.{suc, false, List, [], ◌∷◌, ◌++◌, length, All, replicate, slice_index, slice_set};
 ghost use Rattle.std.specs.Prelude.{Option, None, Some};
-ghost use Rattle.asc_base.specs.Shape.{IsShape};
+ghost use Rattle.asc_base.specs.Shape.{IsShape, shape_of};
+ghost use Rattle.bucket_codec.specs.Pad.{pad_key};
+ghost use Rattle.leaf_function.specs.Leaf.{leaf_key};
+ghost use Rattle.pmmac_tags.specs.Tag.{tag_key};
 ghost use Rattle.asc_base.specs.TreeShape.{parent_of, children_of};
 ghost use Rattle.asc_base.specs.declared.block.Counter.{Counter};
 ghost use Rattle.asc_base.specs.declared.block.Entry.{Entry};
@@ -19,7 +22,7 @@ ghost use Rattle.asc_base.specs.declared.shape.Shape.{Shape};
 ghost use Rattle.posmap_counters.specs.Counters.{IsBefore, first_counter, next_group, next_own};
 ghost use Rattle.posmap_counters.specs.Group.{group_of, own_of};
 ghost use Rattle.oram_contents.specs.Contents.{Contents, after_write, IsReadTo};
-ghost use Rattle.oram_contents.specs.Entries.{Keys, AreKeys, real, entry_of};
+ghost use Rattle.oram_contents.specs.Entries.{Keys, AreKeys, keys_by, real, entry_of};
 ghost use Rattle.asc_base.specs.Has.{Has};
 ghost use Rattle.oram_contents.specs.Counts.{Ghost, IsAway, line_at, put_at};
 ghost use Rattle.oram_contents.specs.Chip.{HeldBlock, Chip, AreGroups, first_chip, root_place, root_stepped};
@@ -42,8 +45,7 @@ ghost use Rattle.oram_contents.specs.Decided.{draws, shows_forgery};
 ghost use Rattle.oram_contents.specs.Forgery.{Forgery, LastDrawn};
 ghost use Rattle.oram_contents.specs.Provenance.{Sound, Always};
 ghost use Rattle.oram_contents.specs.Steps.{Adds, opened_at, raised, taken, stored, landed, closed, inserted};
-ghost use Rattle.oram_contents.specs.Starts.{empty_log, first_ghost, first_contents, forged_log, unforged_log};
-ghost use Rattle.bucket_codec.specs.Slot.{IsEntry, IsInRange};
+ghost use Rattle.oram_contents.specs.Starts.{empty_log, first_ghost, first_contents, altered_log};
 ghost use Rattle.oram_contents.specs.Slots.{drawn_events, MayDraw, IsRead, IsFound, MayRise, IsPut, HasSeeds, IsAccess};
 ghost use Rattle.oram_contents.specs.Slots.{IsRefill};
 ghost use Rattle.oram_contents.specs.Slots.{IsPass, IsEnd, ArePasses, IsBetween, done, refilled, passed_by};
@@ -237,15 +239,38 @@ pub fn groups_show_counters()
         → IsGroupOf shape (record g { move = None }) p ((group + 1) % 2 ^ 64) (replicate 32 0) }
 {}
 
-/// The start is sound and at home. There is a log that shows a forgery, and one with the same altered reply that
-/// doesn't.
+/// The start is sound and at home. Of the logs of two slots with an altered reply one shows a forgery: the line that
+/// stood in the reply is accepted, and another one was put back. None is shown where the line that was put back is
+/// accepted, whether it stood in the reply or another one did, nor where a line is accepted that didn't stand there. The
+/// test of lists says so.
 pub fn instances_are_there()
     ensures sound { (keys : Keys) → Sound keys empty_log first_ghost (first_contents keys) }
     ensures always { (keys : Keys) → Always keys empty_log (first_contents keys) }
     ensures home { (keys : Keys) → Home keys first_ghost (first_contents keys) }
-    ensures forged { (keys : Keys) (a : ℕ) (c : Counter) (l : List ℕ) → IsEntry (entry_of keys a c l)
-        → IsInRange keys.shape (Some (entry_of keys a c l)) → Forgery keys (forged_log keys a c l) }
-    ensures unforged { (keys : Keys) (a : ℕ) (c : Counter) (l : List ℕ) → Forgery keys (unforged_log keys a c l) → ⊥ }
+    ensures forged { (keys : Keys) → AreKeys keys → (a : ℕ) (c : Counter) → a < keys.shape.total
+        → (put found : List ℕ) → length found ≡ 64 → (found ≡ put → ⊥)
+        → Forgery keys (altered_log keys a c put found found) }
+    ensures forged_shown { (keys : Keys) → AreKeys keys → (a : ℕ) (c : Counter) → a < keys.shape.total
+        → (put found : List ℕ) → length found ≡ 64 → (found ≡ put → ⊥)
+        → shows_forgery keys (altered_log keys a c put found found) ≡ true }
+    ensures tagged { (keys : Keys) (a : ℕ) (c : Counter) (put stood : List ℕ)
+        → Forgery keys (altered_log keys a c put stood put) → ⊥ }
+    ensures tagged_shown { (keys : Keys) (a : ℕ) (c : Counter) (put stood : List ℕ)
+        → shows_forgery keys (altered_log keys a c put stood put) ≡ false }
+    ensures elsewhere { (keys : Keys) → AreKeys keys → (a : ℕ) (c : Counter) → a < keys.shape.total
+        → (put stood found : List ℕ) → length stood ≡ 64 → (found ≡ stood → ⊥)
+        → Forgery keys (altered_log keys a c put stood found) → ⊥ }
+{}
+
+/// Three keys are keys of every shape that there is: each leaf is one of its tree's. So those are that a chip derives
+/// from its master key.
+pub fn chips_have_keys()
+    ensures shape { (shape : Shape) (pads tags leaves : List ℕ) → IsShape shape
+        → AreKeys (keys_by shape pads tags leaves) }
+    ensures sized { (lines roots : ℕ) (pads tags leaves : List ℕ) → 1 ≤ lines → lines ≤ 262144 → 1 ≤ roots
+        → AreKeys (keys_by (shape_of lines roots) pads tags leaves) }
+    ensures derived { (lines roots : ℕ) (master : List ℕ) → 1 ≤ lines → lines ≤ 262144 → 1 ≤ roots
+        → AreKeys (keys_by (shape_of lines roots) (pad_key master) (tag_key master) (leaf_key master)) }
 {}
 
 /// Where no reply is altered no path read gives evidence, and what is found for a block is right.
