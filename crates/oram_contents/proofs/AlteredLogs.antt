@@ -8,7 +8,7 @@ use Rattle.asc_base.specs.declared.block.Entry.{Entry}
 use Rattle.asc_base.specs.declared.block.Message.{Message}
 use Rattle.asc_base.proofs.Members.{has_right}
 use Rattle.bucket_codec.specs.Bucket.{bucket_text}
-use Rattle.bucket_codec.specs.Slot.{IsSlot, IsInRange, IsEntry}
+use Rattle.bucket_codec.specs.Slot.{IsSlot, IsInRange}
 use Rattle.bucket_codec.proofs.Buckets.{opened_bucket}
 use Rattle.bus_watch.specs.declared.log.Altered.{Altered}
 use Rattle.bus_watch.specs.declared.log.Event.{Event}

@@ -1,5 +1,5 @@
 -- The keys of a chip are keys.
-use Rattle.std.proofs.Common.{◌≡◌, ◌≤◌, ℕ, List, refl, subst, sym}
+use Rattle.std.proofs.Common.{◌≤◌, ℕ, List, refl}
 use Rattle.asc_base.specs.Shape.{IsShape, shape_of, layered}
 use Rattle.asc_base.specs.declared.shape.Shape.{Shape}
 use Rattle.leaf_function.proofs.Leaves.{leaf_below}

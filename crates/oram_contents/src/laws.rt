@@ -119,6 +119,62 @@ pub fn reads_keep()
         → Always keys old now → Always keys new (record now { hand = joined }) }
 {}
 
+/// A block is taken out of the hand and comes to a later counter: the invariant is kept, and what was found has the
+/// block's line, or the log shows a forgery.
+pub fn takes_keep()
+    ensures sound { (keys : Keys) → AreKeys keys → (old new : LogLists) (g : Ghost) (now : Contents) (a : ℕ)
+        (c : Counter) (found : Option Entry) → g.path ≡ Some (keys.leaf_of (real a (g.count a))) → g.pend ≡ Some a
+        → LastDrawn old.events a (g.count a) → MayRise keys g a c
+        → IsFound keys old new now.hand a (g.count a) found → Always keys old now → Sound keys old g now
+        → Forgery keys new
+        ⊎ (Sound keys new (taken g a c) (record now { hand = without now.hand (record { 0 = a }) })
+        × (line_found found ≡ line_at keys.shape g a)) }
+    ensures always { (keys : Keys) (old new : LogLists) (now : Contents) (a : ℕ) (c : Counter) (found : Option Entry)
+        → IsFound keys old new now.hand a c found → Always keys old now
+        → Always keys new (record now { hand = without now.hand (record { 0 = a }) }) }
+{}
+
+/// The block in flight is put back: a line of it is stored, tagged under its counter, and joins the hand.
+pub fn puts_keep()
+    ensures sound { (keys : Keys) (old new : LogLists) (g : Ghost) (now after : Contents) (a : ℕ) (l : List ℕ)
+        → g.flight ≡ Some a → (Has a g.held → ⊥) → l ≡ line_at keys.shape (stored g a l) a
+        → IsPut keys old new now after a (g.count a) l → Sound keys old g now
+        → Sound keys new (landed (stored g a l)) after }
+    ensures always { (keys : Keys) → AreKeys keys → (old new : LogLists) (now after : Contents) (a : ℕ) (c : Counter)
+        (l : List ℕ) → a < keys.shape.total → length l ≡ 64
+        → ((e : Entry) → Has e now.hand → e.address.0 ≡ a → ⊥) → IsPut keys old new now after a c l
+        → Always keys old now → Always keys new after }
+{}
+
+/// The open path is written, and closed by it.
+pub fn writes_keep()
+    ensures sound { (keys : Keys) → AreKeys keys → (log : LogLists) (now : Contents) (leaf : ℕ)
+        → leaf < 2 ^ keys.shape.levels → HasSeeds now → Always keys log now → (g : Ghost) → g.path ≡ Some leaf
+        → Sound keys log g now → Sound keys log (closed g) (after_write keys.pads keys.shape.levels leaf now) }
+    ensures always { (keys : Keys) → AreKeys keys → (log : LogLists) (now : Contents) (leaf : ℕ)
+        → leaf < 2 ^ keys.shape.levels → HasSeeds now → Always keys log now
+        → Always keys log (after_write keys.pads keys.shape.levels leaf now) }
+{}
+
+/// A slot that stops keeps what is known, of which no more than the log's part is needed then. In its reads it stops
+/// with nothing joined to the hand, whatever they gave; in its writes some buckets of the open path are written.
+pub fn stops_keep()
+    ensures reading { (keys : Keys) (old new : LogLists) (now : Contents) (start : ℕ) (asked : Option ℕ) (p : Point)
+        (altered : List Altered) → Adds old new (drawn_events keys start asked p) altered
+        → (g : Ghost) → g.path ≡ None → MayDraw g p → Sound keys old g now
+        → Sound keys new (opened_at g p (keys.leaf_of p)) now }
+    ensures reading_always { (keys : Keys) (old new : LogLists) (now : Contents) (start : ℕ) (asked : Option ℕ)
+        (p : Point) (altered : List Altered)
+        → Adds old new (drawn_events keys start asked p) altered
+        → All (λ (reply : Altered). reply.before ≡ length old.events + 2) altered
+        → Always keys old now → Always keys new now }
+    ensures writing { (keys : Keys) (log : LogLists) (g : Ghost) (now : Contents) (leaf n : ℕ) → g.path ≡ Some leaf
+        → n ≤ keys.shape.levels + 1 → Sound keys log g now
+        → Sound keys log g (record now {
+          mirror = sealed keys.pads keys.shape.levels leaf now.seed now.hand now.mirror n;
+        }) }
+{}
+
 /// An access after which the block is put back: the invariant is kept, and what was found has the block's line, or the
 /// log shows a forgery.
 pub fn accesses_keep()
@@ -173,7 +229,8 @@ pub fn dummies_keep()
         → Always keys old now → Home keys g now → Always keys new after × Home keys (passed_by k g) after }
 {}
 
-/// Between slots: the block in flight is held, or put at hand; a held one is renumbered.
+/// Between slots: the block in flight is held, or put at hand; a held one is renumbered; a block's slot comes next; and
+/// a group move begins, is further by a child or ends, or a parent is a step ahead of a block.
 pub fn changes_between_keep()
     ensures inserted { (keys : Keys) → AreKeys keys → (log : LogLists) (g : Ghost) (now : Contents) (plb a : ℕ)
         → g.flight ≡ Some a → Sound keys log g now → Sound keys log (inserted g plb a) now }
@@ -184,6 +241,11 @@ pub fn changes_between_keep()
         (c : Counter) → IsAway g a → IsBefore (g.count a) c
         → ((p : ℕ) → parent_of keys.shape.lines keys.shape.layers a ≡ Some p → IsAway g p)
         → Sound keys log g now → Sound keys log (raised g a c g.pend) now }
+    ensures next { (keys : Keys) → AreKeys keys → (log : LogLists) (g : Ghost) (now : Contents) (a : ℕ)
+        → g.pend ≡ None → Sound keys log g now → Sound keys log (record g { pend = Some a }) now }
+    ensures marked { (keys : Keys) → AreKeys keys → (log : LogLists) (g : Ghost) (now : Contents)
+        (move : Option (ℕ × ℕ)) (stepped : Option ℕ) → Sound keys log g now
+        → Sound keys log (record g { move = move; stepped = stepped }) now }
 {}
 
 /// Where no reply is altered each block that was accessed has one place, and every other block has none.
