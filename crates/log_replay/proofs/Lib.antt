@@ -24,6 +24,7 @@ pub mod FirstReads
 pub mod SlotSplits
 pub mod OrderRows
 pub mod VerdictRows
+mod FullRows
 pub mod AlteredRows
 pub mod ReadBacks
 pub mod AgainRows

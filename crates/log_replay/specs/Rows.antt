@@ -1,6 +1,6 @@
 -- Logs that are computed with, of one slot or two: in which no reply was altered, or one.
-use Rattle.std.specs.Prelude.{◌≡◌, ◌<◌, ◌+◌, ℕ, false, List, [], ◌∷◌, ◌++◌, length, None, Some}
-use Rattle.asc_base.specs.TreeShape.{parent_of, children_of}
+use Rattle.std.specs.Prelude.{◌≡◌, ◌<◌, ◌+◌, ◌^◌, ℕ, false, List, [], ◌∷◌, ◌++◌, length, Option, None, Some}
+use Rattle.asc_base.specs.TreeShape.{parent_of, children_of, shared_of}
 use Rattle.asc_base.specs.declared.block.Counter.{Counter}
 use Rattle.asc_base.specs.declared.block.Entry.{Entry}
 use Rattle.asc_base.specs.declared.block.Message.{Message}
@@ -97,3 +97,45 @@ pub record CanStand (keys : Keys) (a : ℕ) (l tag : List ℕ) : Type 0 where
   pub inside : a < keys.shape.total
   pub line : length l ≡ 64
   pub tagged : length tag ≡ 16
+
+-- an entry of a block with this leaf, line and tag
+abbrev pub leaf_entry : ℕ → ℕ → List ℕ → List ℕ → Entry
+leaf_entry a leaf l tag = record {
+  address = record { 0 = a };
+  leaf = record { 0 = leaf };
+  line = record { 0 = l };
+  tag = tag;
+}
+
+-- the slots of a bucket with entries of blocks 1 to 4
+abbrev pub four_entries : ℕ → List ℕ → List ℕ → List (Option Entry)
+four_entries leaf l tag = Some (leaf_entry 1 leaf l tag) ∷ Some (leaf_entry 2 leaf l tag)
+    ∷ Some (leaf_entry 3 leaf l tag) ∷ Some (leaf_entry 4 leaf l tag) ∷ []
+
+-- the root's reply is altered to such a bucket
+abbrev pub full_reply : Keys → ℕ → List ℕ → List ℕ → Altered
+full_reply keys leaf l tag = record {
+  time = 256;
+  bucket = 0;
+  bytes = bucket_text keys.pads 1 (four_entries leaf l tag);
+  before = 2;
+}
+
+-- a log of the first slot of block 0 with that reply, in which a line of block 0 is put back under a counter
+abbrev pub full_log : Keys → Counter → ℕ → List ℕ → List ℕ → LogLists
+full_log keys c leaf l tag = record {
+  moves = [];
+  events = block_events keys 0 first_counter (Tagged (message_of 0 c l) ∷ []);
+  altered = full_reply keys leaf l tag ∷ [];
+}
+
+-- Such entries can stand in a bucket; and neither they nor block 0 under the counter can stand below the root on the
+-- path of its first slot.
+pub record AreApartBelow (keys : Keys) (c : Counter) (leaf : ℕ) (l tag : List ℕ) : Type 0 where
+  pub lawful : AreKeys keys
+  pub blocks : 4 < keys.shape.total
+  pub within : leaf < 2 ^ keys.shape.levels
+  pub line : length l ≡ 64
+  pub tagged : length tag ≡ 16
+  pub others : shared_of keys.shape.levels leaf (keys.leaf_of (real 0 first_counter)) ≡ 0
+  pub again : shared_of keys.shape.levels (keys.leaf_of (real 0 c)) (keys.leaf_of (real 0 first_counter)) ≡ 0

@@ -303,8 +303,8 @@ pub fn groups_show_counters()
 
 /// The start is sound and at home. Of the logs of two slots with an altered reply one shows a forgery: the line that
 /// stood in the reply is accepted, and another one was put back. None is shown where the line that was put back is
-/// accepted, whether it stood in the reply or another one did, nor where a line is accepted that didn't stand there. The
-/// test of lists says so.
+/// accepted, whether it stood in the reply or another one did, nor where a line is accepted that didn't stand there.
+/// The test of lists says so.
 pub fn instances_are_there()
     ensures sound { (keys : Keys) → Sound keys empty_log first_ghost (first_contents keys) }
     ensures always { (keys : Keys) → Always keys empty_log (first_contents keys) }
