@@ -25,6 +25,7 @@ pub mod SlotSplits
 pub mod OrderRows
 pub mod VerdictRows
 mod FullRows
+mod PartedKeys
 pub mod AlteredRows
 pub mod ReadBacks
 pub mod AgainRows

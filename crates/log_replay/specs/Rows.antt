@@ -1,10 +1,12 @@
 -- Logs that are computed with, of one slot or two: in which no reply was altered, or one.
-use Rattle.std.specs.Prelude.{◌≡◌, ◌<◌, ◌+◌, ◌^◌, ℕ, false, List, [], ◌∷◌, ◌++◌, length, Option, None, Some}
+use Rattle.std.specs.Prelude.{◌≡◌, ◌<◌, ◌+◌, ◌-◌, ◌^◌, if◌then◌else◌, ℕ, false, List, [], ◌∷◌, ◌++◌, length, Option, None, Some}
 use Rattle.asc_base.specs.TreeShape.{parent_of, children_of, shared_of}
 use Rattle.asc_base.specs.declared.block.Counter.{Counter}
 use Rattle.asc_base.specs.declared.block.Entry.{Entry}
 use Rattle.asc_base.specs.declared.block.Message.{Message}
-use Rattle.asc_base.specs.declared.block.Point.TheVariants.{Dummy}
+use Rattle.asc_base.specs.declared.block.Point.{Point}
+use Rattle.asc_base.specs.declared.block.Point.TheVariants.{Real, Dummy}
+use Rattle.asc_base.specs.declared.shape.Shape.{Shape}
 use Rattle.bucket_codec.specs.Bucket.{bucket_text}
 use Rattle.bus_watch.specs.Log.{LogLists}
 use Rattle.bus_watch.specs.Path.{along}
@@ -14,6 +16,7 @@ use Rattle.bus_watch.specs.declared.log.Event.TheVariants.{Accepted, Tagged, Cho
 use Rattle.bus_watch.specs.declared.log.Move.{Move}
 use Rattle.oram_contents.specs.Entries.{Keys, AreKeys, real, message_of}
 use Rattle.oram_contents.specs.Slots.{drawn_events}
+use Rattle.oram_contents.specs.Verdict.{is_first}
 use Rattle.pmmac_tags.specs.Tag.{tag}
 use Rattle.posmap_counters.specs.Counters.{first_counter}
 
@@ -139,3 +142,12 @@ pub record AreApartBelow (keys : Keys) (c : Counter) (leaf : ℕ) (l tag : List 
   pub tagged : length tag ≡ 16
   pub others : shared_of keys.shape.levels leaf (keys.leaf_of (real 0 first_counter)) ≡ 0
   pub again : shared_of keys.shape.levels (keys.leaf_of (real 0 c)) (keys.leaf_of (real 0 first_counter)) ≡ 0
+
+-- a leaf function that parts blocks from where they first are: the first leaf for a block that was never accessed and
+-- for dummies, and else the first leaf of the tree's other half
+abbrev pub parted_leaf : ℕ → Point → ℕ
+parted_leaf levels (Real a c) = (if is_first c then 0 else 2 ^ (levels - 1))
+parted_leaf levels (Dummy n) = 0
+
+abbrev pub parted_keys : Shape → Keys
+parted_keys shape = record { shape = shape; pads = []; tags = []; leaf_of = parted_leaf shape.levels }
