@@ -1,10 +1,9 @@
 -- A log of one slot, in which the root's reply was altered: an entry stands there in the first slot.
-use Rattle.std.proofs.Common.{◌≡◌, ◌<◌, ◌≤◌, ◌+◌, ◌*◌, ◌^◌, ◌==◌, ◌⊎◌, inl, inr, ℕ, zero, suc, Bool, true, false}
-use Rattle.std.proofs.Common.{if◌then◌else◌, List, [], ◌∷◌, ◌++◌, map, get_or, All, Option, None, Some, Result, Ok, Err}
+use Rattle.std.proofs.Common.{◌≡◌, ◌≤◌, ◌^◌, ◌==◌, ◌⊎◌, inl, inr, ℕ, zero, suc, Bool, true, false}
+use Rattle.std.proofs.Common.{if◌then◌else◌, List, [], ◌∷◌, ◌++◌, All, Option, None, Some, Result, Ok, Err}
 use Rattle.std.proofs.Common.{bytes_eq, is_some, refl, sym, ◌∙◌, ap, subst, arith}
 use Rattle.std.proofs.lemmas.Bool.Decides.{eqb_tells}
 use Rattle.std.proofs.lemmas.Slice.Eq.{bytes_eq-Decides}
-use Rattle.std.specs.List.{range_with_len}
 use Rattle.asc_base.specs.Has.{Has}
 use Rattle.asc_base.specs.TreeShape.{bucket_of}
 use Rattle.asc_base.specs.declared.block.Counter.{Counter}
@@ -16,7 +15,6 @@ use Rattle.asc_base.specs.declared.stop.Evidence.TheVariants.{BadTag, Doubled, O
 use Rattle.asc_base.proofs.ShapeFacts.{IsLayered}
 use Rattle.asc_base.proofs.ShapeFacts.{shape_layered}
 use Rattle.std.proofs.Math.Pow.{pow_mono}
-use Rattle.asc_outside.specs.Memory.{zero_buckets}
 use Rattle.bucket_codec.specs.Bucket.{opened}
 use Rattle.bucket_codec.specs.Slot.{IsEntry, IsSlot, IsInRange}
 use Rattle.bucket_codec.proofs.Buckets.{opened_bucket}
@@ -24,7 +22,7 @@ use Rattle.bus_watch.specs.declared.log.Altered.{Altered}
 use Rattle.bus_watch.specs.declared.log.Event.TheVariants.{Accepted}
 use Rattle.oram_contents.specs.Contents.{IsReadTo}
 use Rattle.oram_contents.specs.Entries.{Keys, real, message_of}
-use Rattle.oram_contents.specs.PathRead.{reply_at, then_join, join_entry, join_slots, join_bucket, join_buckets}
+use Rattle.oram_contents.specs.PathRead.{then_join, join_entry, join_slots}
 use Rattle.oram_contents.specs.Starts.{first_contents}
 use Rattle.oram_contents.specs.Verdict.{is_first, judged, put_events}
 use Rattle.oram_stash.specs.Entries.{held}
@@ -32,7 +30,7 @@ use Rattle.pmmac_tags.specs.Tag.{tag as tag_of}
 use Rattle.log_replay.specs.Order.{Nothing, SlotNotes, accepted_events, chosen_events, behind_events, IsTaken}
 use Rattle.log_replay.specs.Order.{IsDone, IsBare, LogOrder}
 use Rattle.log_replay.specs.Rows.{found_entry, found_reply, found_log, CanStand}
-use Rattle.log_replay.proofs.FirstReads.{opens_empty}
+use Rattle.log_replay.proofs.FirstReads.{read_altered}
 use Rattle.log_replay.proofs.Orders.{later_events}
 use Rattle.log_replay.proofs.SlotSplits.{first_slot, none_held}
 
@@ -74,34 +72,6 @@ module _ (keys : Keys) (a : ℕ) (c : Counter) (l tag : List ℕ) (can : CanStan
       each_range (suc (suc (suc zero))) d less = tt
       each_range (suc (suc (suc (suc k)))) d less = absurd (omega arith)
 
-  abbrev reply_of : ℕ → List ℕ
-  reply_of level = reply_at (zero_buckets keys.shape.buckets) (found_reply keys a c l tag ∷ []) (256 + 40 * level)
-      (bucket_of keys.shape.levels (keys.leaf_of (real a c)) level)
-
-  abbrev joins : ℕ → List ℕ → List Entry → Result (List Entry) Evidence
-  joins level levels hand = join_buckets keys.shape.levels (keys.leaf_of (real a c)) level
-      (map (opened keys.pads keys.shape) (map (λ level. reply_of level) levels)) hand
-
-  -- below the root the replies are as written last
-  below_root : (level from many : ℕ) (hand : List Entry) → 0 < from
-      → joins level (range_with_len from many) hand ≡ Ok hand
-  below_root level from zero hand some = refl
-  below_root level from (suc many) hand some =
-      ap (λ (b : Bool). then_join (join_bucket keys.shape.levels (keys.leaf_of (real a c)) level
-      (opened keys.pads keys.shape (if b then (found_reply keys a c l tag).bytes else get_or
-      (zero_buckets keys.shape.buckets) (bucket_of keys.shape.levels (keys.leaf_of (real a c)) from) [])) hand)
-      (joins (level + 1) (range_with_len (from + 1) many))) other_time
-      ∙ ap (λ r. then_join (join_bucket keys.shape.levels (keys.leaf_of (real a c)) level r hand)
-      (joins (level + 1) (range_with_len (from + 1) many)))
-      (opens_empty keys keys.shape.buckets (bucket_of keys.shape.levels (keys.leaf_of (real a c)) from))
-      ∙ below_root (level + 1) (from + 1) many hand (omega arith)
-    where
-      other_time : (256 == 256 + 40 * from) ≡ false
-      other_time = elim (eqb_tells 256 (256 + 40 * from)) [
-        | inl same ↦ absurd (omega (arith, same.1, some))
-        | inr other ↦ other.0
-      ]
-
   joins_it : join_entry keys.shape.levels (keys.leaf_of (real a c)) 0 0 (found_entry keys a c l tag) []
       ≡ Ok (found_entry keys a c l tag ∷ [])
   joins_it =
@@ -115,13 +85,10 @@ module _ (keys : Keys) (a : ℕ) (c : Counter) (l tag : List ℕ) (can : CanStan
   pub read_found : IsReadTo keys.pads keys.shape 256 (keys.leaf_of (real a c)) (found_reply keys a c l tag ∷ [])
       (first_contents keys) (found_entry keys a c l tag ∷ [])
   read_found =
-      let one : keys.shape.levels + 1 ≡ suc keys.shape.levels = omega arith in
-      ap (λ n. joins 0 (range_with_len 0 n) []) one
-      ∙ ap (λ r. then_join (join_bucket keys.shape.levels (keys.leaf_of (real a c)) 0 r [])
-      (joins 1 (range_with_len 1 keys.shape.levels))) opens
-      ∙ ap (λ r. then_join (then_join r (join_slots keys.shape.levels (keys.leaf_of (real a c)) 0 1
-      (None ∷ None ∷ None ∷ []))) (joins 1 (range_with_len 1 keys.shape.levels))) joins_it
-      ∙ below_root 1 1 keys.shape.levels (found_entry keys a c l tag ∷ []) (omega arith)
+      read_altered keys (keys.leaf_of (real a c)) (found_reply keys a c l tag) refl
+      (Some (found_entry keys a c l tag) ∷ None ∷ None ∷ None ∷ []) (found_entry keys a c l tag ∷ []) opens
+      (ap (λ r. then_join r (join_slots keys.shape.levels (keys.leaf_of (real a c)) 0 1
+      (None ∷ None ∷ None ∷ []))) joins_it)
 
   held_found : held (found_entry keys a c l tag ∷ []) (record { 0 = a }) ≡ Some (found_entry keys a c l tag)
   unfolding held

@@ -24,6 +24,8 @@ pub mod FirstReads
 pub mod SlotSplits
 pub mod OrderRows
 pub mod VerdictRows
+mod FullRows
+mod PartedKeys
 pub mod AlteredRows
 pub mod ReadBacks
 pub mod AgainRows

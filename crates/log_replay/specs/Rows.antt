@@ -1,10 +1,12 @@
 -- Logs that are computed with, of one slot or two: in which no reply was altered, or one.
-use Rattle.std.specs.Prelude.{◌≡◌, ◌<◌, ◌+◌, ℕ, false, List, [], ◌∷◌, ◌++◌, length, None, Some}
-use Rattle.asc_base.specs.TreeShape.{parent_of, children_of}
+use Rattle.std.specs.Prelude.{◌≡◌, ◌<◌, ◌+◌, ◌-◌, ◌^◌, if◌then◌else◌, ℕ, false, List, [], ◌∷◌, ◌++◌, length, Option, None, Some}
+use Rattle.asc_base.specs.TreeShape.{parent_of, children_of, shared_of}
 use Rattle.asc_base.specs.declared.block.Counter.{Counter}
 use Rattle.asc_base.specs.declared.block.Entry.{Entry}
 use Rattle.asc_base.specs.declared.block.Message.{Message}
-use Rattle.asc_base.specs.declared.block.Point.TheVariants.{Dummy}
+use Rattle.asc_base.specs.declared.block.Point.{Point}
+use Rattle.asc_base.specs.declared.block.Point.TheVariants.{Real, Dummy}
+use Rattle.asc_base.specs.declared.shape.Shape.{Shape}
 use Rattle.bucket_codec.specs.Bucket.{bucket_text}
 use Rattle.bus_watch.specs.Log.{LogLists}
 use Rattle.bus_watch.specs.Path.{along}
@@ -14,6 +16,7 @@ use Rattle.bus_watch.specs.declared.log.Event.TheVariants.{Accepted, Tagged, Cho
 use Rattle.bus_watch.specs.declared.log.Move.{Move}
 use Rattle.oram_contents.specs.Entries.{Keys, AreKeys, real, message_of}
 use Rattle.oram_contents.specs.Slots.{drawn_events}
+use Rattle.oram_contents.specs.Verdict.{is_first}
 use Rattle.pmmac_tags.specs.Tag.{tag}
 use Rattle.posmap_counters.specs.Counters.{first_counter}
 
@@ -97,3 +100,54 @@ pub record CanStand (keys : Keys) (a : ℕ) (l tag : List ℕ) : Type 0 where
   pub inside : a < keys.shape.total
   pub line : length l ≡ 64
   pub tagged : length tag ≡ 16
+
+-- an entry of a block with this leaf, line and tag
+abbrev pub leaf_entry : ℕ → ℕ → List ℕ → List ℕ → Entry
+leaf_entry a leaf l tag = record {
+  address = record { 0 = a };
+  leaf = record { 0 = leaf };
+  line = record { 0 = l };
+  tag = tag;
+}
+
+-- the slots of a bucket with entries of blocks 1 to 4
+abbrev pub four_entries : ℕ → List ℕ → List ℕ → List (Option Entry)
+four_entries leaf l tag = Some (leaf_entry 1 leaf l tag) ∷ Some (leaf_entry 2 leaf l tag)
+    ∷ Some (leaf_entry 3 leaf l tag) ∷ Some (leaf_entry 4 leaf l tag) ∷ []
+
+-- the root's reply is altered to such a bucket
+abbrev pub full_reply : Keys → ℕ → List ℕ → List ℕ → Altered
+full_reply keys leaf l tag = record {
+  time = 256;
+  bucket = 0;
+  bytes = bucket_text keys.pads 1 (four_entries leaf l tag);
+  before = 2;
+}
+
+-- a log of the first slot of block 0 with that reply, in which a line of block 0 is put back under a counter
+abbrev pub full_log : Keys → Counter → ℕ → List ℕ → List ℕ → LogLists
+full_log keys c leaf l tag = record {
+  moves = [];
+  events = block_events keys 0 first_counter (Tagged (message_of 0 c l) ∷ []);
+  altered = full_reply keys leaf l tag ∷ [];
+}
+
+-- Such entries can stand in a bucket; and neither they nor block 0 under the counter can stand below the root on the
+-- path of its first slot.
+pub record AreApartBelow (keys : Keys) (c : Counter) (leaf : ℕ) (l tag : List ℕ) : Type 0 where
+  pub lawful : AreKeys keys
+  pub blocks : 4 < keys.shape.total
+  pub within : leaf < 2 ^ keys.shape.levels
+  pub line : length l ≡ 64
+  pub tagged : length tag ≡ 16
+  pub others : shared_of keys.shape.levels leaf (keys.leaf_of (real 0 first_counter)) ≡ 0
+  pub again : shared_of keys.shape.levels (keys.leaf_of (real 0 c)) (keys.leaf_of (real 0 first_counter)) ≡ 0
+
+-- a leaf function that parts blocks from where they first are: the first leaf for a block that was never accessed and
+-- for dummies, and else the first leaf of the tree's other half
+abbrev pub parted_leaf : ℕ → Point → ℕ
+parted_leaf levels (Real a c) = (if is_first c then 0 else 2 ^ (levels - 1))
+parted_leaf levels (Dummy n) = 0
+
+abbrev pub parted_keys : Shape → Keys
+parted_keys shape = record { shape = shape; pads = []; tags = []; leaf_of = parted_leaf shape.levels }

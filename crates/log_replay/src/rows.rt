@@ -1,9 +1,11 @@
 //! Logs in order and logs that aren't, in numbers. The functions do nothing: each states laws in its contract.
 
-ghost use Rattle.std.specs.Prelude.{◌≡◌, ◌≤◌, ℕ, true, false, List, [], ◌∷◌, ◌++◌, None, Some};
+ghost use Rattle.std.specs.Prelude.{◌≡◌, ◌<◌, ◌≤◌, ◌-◌, ◌^◌, ℕ, true, false, List, [], ◌∷◌, ◌++◌, length, None, Some};
+ghost use Rattle.asc_base.specs.Shape.{IsShape};
 ghost use Rattle.asc_base.specs.declared.block.Counter.{Counter};
 ghost use Rattle.asc_base.specs.declared.block.Message.{Message};
 ghost use Rattle.asc_base.specs.declared.block.Point.TheVariants.{Dummy};
+ghost use Rattle.asc_base.specs.declared.shape.Shape.{Shape};
 ghost use Rattle.asc_base.specs.declared.stop.Evidence.TheVariants.{Missing};
 ghost use Rattle.asc_base.specs.declared.stop.Stop.{Stop};
 ghost use Rattle.asc_base.specs.declared.stop.Stop.TheVariants.{Integrity, StashFull, TimeUp, Device, NoMemory};
@@ -25,6 +27,7 @@ ghost use Rattle.log_replay.specs.Judged.{verdict_on, IsFirstVerdict, BreaksOffR
 ghost use Rattle.log_replay.specs.Order.{LogOrder};
 ghost use Rattle.log_replay.specs.Rows.{log_of, moved_log, dummy_events, block_events, fetched, displaced, broken_log};
 ghost use Rattle.log_replay.specs.Rows.{CanStand, IsTopLine, found_log, again_log, found_again};
+ghost use Rattle.log_replay.specs.Rows.{full_log, AreApartBelow, parted_keys};
 
 /// Logs in order, in which no reply was altered, and logs that aren't. The empty log is in order; the slot of the
 /// first dummy; a block's first slot, in which zeros are put back and answered, or any line of it is put back, or
@@ -110,12 +113,13 @@ pub fn altered_logs_have_rows()
         → (m : Message) (u : List ℕ) → is_first c ≡ true → LogOrder keys (found_log keys a c l t m u) → ⊥ }
 {}
 
-/// What logs show to be wrong. Nothing is wrong in the slot of the first dummy, so no stop is its first verdict, nor
-/// in a block's first slot. A block that was accessed before is missing where no bucket was ever written, and a
-/// message that is appended is one too many for a stash of none. Reads broke off where no more moves are noted than
-/// those down to a level, and not where none is noted, or a write came last. Where a device failed the log ended with a
-/// failed move, and not whole; where memory ran out it may have ended so, and not with a failed move; and where time
-/// was up not with a failed move. An empty log says buckets of zeros alone.
+/// What logs show to be wrong. Nothing is wrong in the slot of the first dummy, so no stop is its first verdict, nor in
+/// a block's first slot. A block that was accessed before is missing where no bucket was ever written, and a message
+/// that is appended is one too many for a stash of none; and so is one of five entries at hand that fit no bucket of
+/// the path but the root, four of them out of an altered reply; there are keys under which they do. Reads broke off
+/// where no more moves are noted than those down to a level, and not where none is noted, or a write came last. Where a
+/// device failed the log ended with a failed move, and not whole; where memory ran out it may have ended so, and not
+/// with a failed move; and where time was up not with a failed move. An empty log says buckets of zeros alone.
 pub fn verdicts_have_rows()
     ensures dummy { (keys : Keys) (stash : ℕ) → verdict_on keys stash (log_of (dummy_events keys 0)) ≡ None }
     ensures first { (keys : Keys) (stash a : ℕ) → verdict_on keys stash
@@ -126,6 +130,11 @@ pub fn verdicts_have_rows()
         (log_of (block_events keys a c [])) (Integrity (Missing (record { 0 = a }) c)) }
     ensures full { (keys : Keys) (a b : ℕ) (c : Counter) (l : List ℕ) → IsFirstVerdict keys 0
         (log_of (block_events keys a first_counter (Chosen 0 ∷ Tagged (message_of b c l) ∷ []))) (StashFull 1) }
+    ensures overfull { (keys : Keys) (c : Counter) (leaf : ℕ) (l tag : List ℕ) → AreApartBelow keys c leaf l tag
+        → IsFirstVerdict keys 0 (full_log keys c leaf l tag) (StashFull 1) }
+    ensures parted { (shape : Shape) (c : Counter) (l tag : List ℕ) → IsShape shape → 4 < shape.total
+        → is_first c ≡ false → length l ≡ 64 → length tag ≡ 16
+        → AreApartBelow (parted_keys shape) c (2 ^ (shape.levels - 1)) l tag }
     ensures breaks_off { (keys : Keys) (stash level : ℕ) → level ≤ keys.shape.levels
         → BreaksOffReading keys stash (broken_log keys level) }
     ensures no_moves { (keys : Keys) (stash : ℕ) (events : List Event) → BreaksOffReading keys stash

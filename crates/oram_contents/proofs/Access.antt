@@ -1,8 +1,10 @@
 -- The parts of a slot keep the invariant, or the log shows a forgery.
-use Rattle.std.proofs.Common.{◌≡◌, ◌<◌, ◌≤◌, ◌+◌, ◌^◌, ◌⊎◌, inl, inr, ℕ, List, [], ◌∷◌, ◌++◌, length, map}
+use Rattle.std.proofs.Common.{◌≡◌, ◌<◌, ◌≤◌, ◌+◌, ◌^◌, ◌⊎◌, inl, inr, ℕ, List, [], ◌∷◌, ◌++◌, length, map, get_or, All}
 use Rattle.std.proofs.Common.{Option, None, Some, refl, sym, ◌∙◌, ap, subst, arith, length-append}
 use Rattle.std.proofs.Common.{append_assoc, append-nil}
 use Rattle.std.proofs.lemmas.Bool.{cases_eq}
+use Rattle.std.proofs.lemmas.Option.{unwrap_or-slice_get}
+use Rattle.std.specs.Prelude.{unwrap_or}
 use Rattle.asc_base.specs.TreeShape.{children_of}
 use Rattle.asc_base.specs.declared.block.Address.{Address}
 use Rattle.asc_base.specs.declared.block.Counter.{Counter}
@@ -25,11 +27,11 @@ use Rattle.posmap_counters.specs.Counters.{IsBefore, first_counter}
 use Rattle.posmap_counters.proofs.Order.{before_irreflexive}
 use Rattle.oram_contents.specs.Contents.{Contents, after_write}
 use Rattle.oram_contents.specs.PathRead.{replies}
-use Rattle.oram_contents.specs.PathWritten.{places_of}
+use Rattle.oram_contents.specs.PathWritten.{places_of, sealed}
 use Rattle.oram_contents.specs.Shapes.{AreOfShape}
-use Rattle.oram_contents.proofs.ContentsLaws.{sealed-length}
+use Rattle.oram_contents.proofs.ContentsLaws.{sealed-length, sealed-off}
 use Rattle.oram_contents.proofs.OfShape.{without_of_shape, put_of_shape}
-use Rattle.oram_contents.specs.Entries.{Keys, AreKeys, real, message_of, entry_of, entries_at, OnPath}
+use Rattle.oram_contents.specs.Entries.{Keys, AreKeys, real, message_of, entry_of, entries_in, entries_at, OnPath}
 use Rattle.asc_base.specs.Has.{Has}
 use Rattle.oram_contents.specs.Counts.{Ghost, line_at, line_by, zero_line, IsAway, put_at}
 use Rattle.oram_contents.specs.Verdict.{judged, line_found}
@@ -112,26 +114,25 @@ module _ (keys : Keys) where
     in_tree = s.in_tree;
   }
 
-  -- a path is read
-  module _ (old new : LogLists) (g : Ghost) (now : Contents) (start : ℕ) (p : Point) (joined : List Entry)
-      (r : IsRead keys old new now start p joined) where
-    none_tagged : AreUntagged (drawn_events keys start r.asked p)
+  -- a slot's start and its point are noted, and altered replies after them
+  module _ (old new : LogLists) (now : Contents) (start : ℕ) (asked : Option ℕ) (p : Point) (altered : List Altered)
+      (adds : Adds old new (drawn_events keys start asked p) altered) where
+    none_tagged : AreUntagged (drawn_events keys start asked p)
     none_tagged m (inl e) = cc
     none_tagged m (inr (inl e)) = cc
     none_tagged m (inr (inr h)) = h
 
-    point_of : (q : Point) (x : Leaf) → Has (Drawn q x) (drawn_events keys start r.asked p) → q ≡ p
+    point_of : (q : Point) (x : Leaf) → Has (Drawn q x) (drawn_events keys start asked p) → q ≡ p
     point_of q x (inl e) = cc
     point_of q x (inr (inl e)) = cc
     point_of q x (inr (inr h)) = absurd h
 
-    pub read_sound : g.path ≡ None → MayDraw g p → Sound keys old g now
-        → Sound keys new (opened_at g p (keys.leaf_of p)) (record now { hand = joined })
-    read_sound shut may s =
-        sound_read keys new (record g { dummies = next_dummy g.dummies p }) now joined (keys.leaf_of p) shut from
-        (sound_log keys old new (drawn_events keys start r.asked p) r.altered
-        (record g { dummies = next_dummy g.dummies p }) now r.adds none_tagged past fewer
-        (sound_dummies old g now (next_dummy g.dummies p) (more p may) s))
+    drawn_sound : (g : Ghost) → MayDraw g p → Sound keys old g now
+        → Sound keys new (record g { dummies = next_dummy g.dummies p }) now
+    drawn_sound g may s =
+        sound_log keys old new (drawn_events keys start asked p) altered
+        (record g { dummies = next_dummy g.dummies p }) now adds none_tagged past fewer
+        (sound_dummies old g now (next_dummy g.dummies p) (more p may) s)
       where
         more : (q : Point) → MayDraw g q → g.dummies ≤ next_dummy g.dummies q
         more (Real a c) is = omega arith
@@ -144,7 +145,7 @@ module _ (keys : Keys) where
             inr (is.0 ∙ ap Some (sym here), there ∙ is.1 ∙ ap g.count (sym here))
         past_of (Dummy n) is a c same = absurd (let bad : real a c ≡ Dummy n = same in cc)
 
-        past : (a : ℕ) (c : Counter) (x : Leaf) → Has (Drawn (real a c) x) (drawn_events keys start r.asked p)
+        past : (a : ℕ) (c : Counter) (x : Leaf) → Has (Drawn (real a c) x) (drawn_events keys start asked p)
             → IsPast g a c
         past a c x h = past_of p may a c (point_of (real a c) x h)
 
@@ -152,10 +153,52 @@ module _ (keys : Keys) where
         fewer_of (Real b d) is n same = absurd (let bad : Dummy n ≡ Real b d = same in cc)
         fewer_of (Dummy m) is n same = let here : n ≡ m = cc in omega arith
 
-        fewer : (n : ℕ) (x : Leaf) → Has (Drawn (Dummy n) x) (drawn_events keys start r.asked p)
+        fewer : (n : ℕ) (x : Leaf) → Has (Drawn (Dummy n) x) (drawn_events keys start asked p)
             → n < next_dummy g.dummies p
         fewer n x h = fewer_of p may n (point_of (Dummy n) x h)
 
+    pub drawn_always : All (λ (reply : Altered). reply.before ≡ length old.events + 2) altered → Always keys old now
+        → Always keys new now
+    drawn_always noted s = record {
+      placed = s.placed;
+      apart = s.apart;
+      of_shape = s.of_shape;
+      hand_came = λ e h. came_more keys old new (drawn_events keys start asked p) altered e adds (s.hand_came e h);
+      tree_came = λ b e h. came_more keys old new (drawn_events keys start asked p) altered e adds
+          (s.tree_came b e h);
+      past = λ reply h. elim (has_split reply old.altered altered
+          (subst (λ (l : List Altered). Has reply l) adds.altered_are h)) [
+            | inl o ↦ omega (
+              arith,
+              s.past reply o,
+              ap length adds.events_are,
+              length-append old.events
+                  (drawn_events keys start asked p),
+            )
+            | inr n ↦ (let at : reply.before ≡ length old.events + 2 = all_has
+                (λ (x : Altered). x.before ≡ length old.events + 2) reply altered noted n in omega
+                (arith, at, ap length adds.events_are, length-append old.events (drawn_events keys start asked p)))
+          ];
+      mirrored = s.mirrored;
+      seeds = s.seeds;
+    }
+
+    -- the reads of a slot stop, and nothing joined the hand
+    pub begun_sound : (g : Ghost) → g.path ≡ None → MayDraw g p → Sound keys old g now
+        → Sound keys new (opened_at g p (keys.leaf_of p)) now
+    begun_sound g shut may s =
+        sound_read keys new (record g { dummies = next_dummy g.dummies p }) now now.hand (keys.leaf_of p) shut
+        (λ e h. inl h) (drawn_sound g may s)
+
+  -- a path is read
+  module _ (old new : LogLists) (g : Ghost) (now : Contents) (start : ℕ) (p : Point) (joined : List Entry)
+      (r : IsRead keys old new now start p joined) where
+    pub read_sound : g.path ≡ None → MayDraw g p → Sound keys old g now
+        → Sound keys new (opened_at g p (keys.leaf_of p)) (record now { hand = joined })
+    read_sound shut may s =
+        sound_read keys new (record g { dummies = next_dummy g.dummies p }) now joined (keys.leaf_of p) shut from
+        (drawn_sound old new now start r.asked p r.altered r.adds g may s)
+      where
         from : (e : Entry) → Has e joined → Has e now.hand
             ⊎ (FromOutside keys new e ⊎ ((bucket : ℕ) × Has e (entries_at keys now.mirror bucket)))
         from e h = elim (joined_from keys start (keys.leaf_of p) r.altered now joined e r.read h) [
@@ -172,43 +215,30 @@ module _ (keys : Keys) where
         ]
 
     pub read_always : Always keys old now → Always keys new (record now { hand = joined })
-    read_always s = record {
-      placed = s.placed;
-      apart = buckets-apart keys.shape.levels (keys.leaf_of p) 0
-          (map (opened keys.pads keys.shape) (replies keys.shape.levels start (keys.leaf_of p) now.mirror r.altered))
-          now.hand joined r.read s.apart;
-      of_shape = r.of_shape;
-      hand_came = λ e h. elim (joined_from keys start (keys.leaf_of p) r.altered now joined e r.read h) [
-        | inl l ↦ came_more keys old new (drawn_events keys start r.asked p) r.altered e r.adds (s.hand_came e l)
-        | inr c ↦ elim c [
-          | inl o ↦ inl (
-            o.0,
-            subst (λ (l : List Altered). Has o.0 l) (sym r.adds.altered_are)
-                (has_right o.0 old.altered r.altered o.1),
-            (e, o.2, refl, refl, refl),
-          )
-          | inr b ↦ came_more keys old new (drawn_events keys start r.asked p) r.altered e r.adds
-              (s.tree_came b.0 e b.1)
-        ]
-      ];
-      tree_came = λ b e h. came_more keys old new (drawn_events keys start r.asked p) r.altered e r.adds
-          (s.tree_came b e h);
-      past = λ reply h. elim (has_split reply old.altered r.altered
-          (subst (λ (l : List Altered). Has reply l) r.adds.altered_are h)) [
-            | inl o ↦ omega (
-              arith,
-              s.past reply o,
-              ap length r.adds.events_are,
-              length-append old.events
-                  (drawn_events keys start r.asked p),
-            )
-            | inr n ↦ (let at : reply.before ≡ length old.events + 2 = all_has
-                (λ (x : Altered). x.before ≡ length old.events + 2) reply r.altered r.noted n in omega
-                (arith, at, ap length r.adds.events_are, length-append old.events (drawn_events keys start r.asked p)))
+    read_always s =
+        let w : Always keys new now = drawn_always old new now start r.asked p r.altered r.adds r.noted s in record {
+          placed = w.placed;
+          apart = buckets-apart keys.shape.levels (keys.leaf_of p) 0
+              (map (opened keys.pads keys.shape)
+              (replies keys.shape.levels start (keys.leaf_of p) now.mirror r.altered)) now.hand joined r.read s.apart;
+          of_shape = r.of_shape;
+          hand_came = λ e h. elim (joined_from keys start (keys.leaf_of p) r.altered now joined e r.read h) [
+            | inl l ↦ w.hand_came e l
+            | inr c ↦ elim c [
+              | inl o ↦ inl (
+                o.0,
+                subst (λ (l : List Altered). Has o.0 l) (sym r.adds.altered_are)
+                    (has_right o.0 old.altered r.altered o.1),
+                (e, o.2, refl, refl, refl),
+              )
+              | inr b ↦ w.tree_came b.0 e b.1
+            ]
           ];
-      mirrored = s.mirrored;
-      seeds = s.seeds;
-    }
+          tree_came = w.tree_came;
+          past = w.past;
+          mirrored = w.mirrored;
+          seeds = w.seeds;
+        }
 
   -- a block is taken
   module _ (lawful : AreKeys keys) (old new : LogLists) (g : Ghost) (now : Contents) (a : ℕ) (c : Counter)
@@ -295,6 +325,11 @@ module _ (keys : Keys) where
               stood = (o.2.0, o.2.1, o.2.2 ∙ at.1, o.2.3, o.2.4);
             })
 
+    pub take_keeps : Forgery keys new
+        ⊎ (Sound keys new (taken g a c) (record now { hand = without now.hand (record { 0 = a }) })
+        × (line_found found ≡ line_at keys.shape g a))
+    take_keeps = elim take_line [ inl f ↦ inl f | inr same ↦ inr (take_sound, same) ]
+
   -- what holds always, when entries leave or one joins
   pub always_adds : (old new : LogLists) (events : List Event) (now : Contents) (hand : List Entry)
       → Adds old new events [] → AreApart hand → AreOfShape keys.shape hand
@@ -327,6 +362,23 @@ module _ (keys : Keys) where
       (λ e h. came_more keys old new (accepted a c found) [] e f.adds
       (s.hand_came e (without-left now.hand (record { 0 = a }) e s.apart h).0)) s
 
+  -- a line of a block becomes an entry of its types
+  pub entry_typed : AreKeys keys → (a : ℕ) (c : Counter) (l : List ℕ) → a < keys.shape.total → length l ≡ 64
+      → IsEntry (entry_of keys a c l)
+  entry_typed lawful a c l inside whole =
+      let layered : IsLayered keys.shape = shape_layered keys.shape lawful.shape in
+      record {
+        address = omega (arith, inside, layered.total_to);
+        leaf = omega
+            (arith, lawful.leaves (real a c), few keys.shape.levels layered.levels_to);
+        line = whole;
+        tag =
+            length-tag keys.tags (message_of a c l);
+      }
+    where
+      few : (n : ℕ) → n ≤ 17 → 2 ^ n ≤ 2 ^ 17
+      few n less = pow_mono {i = n} {j = 17} less
+
   pub put_always : (lawful : AreKeys keys) (old new : LogLists) (now after : Contents) (a : ℕ) (c : Counter)
       (l : List ℕ) → a < keys.shape.total → length l ≡ 64
       → ((e : Entry) → Has e now.hand → e.address.0 ≡ a → ⊥) → IsPut keys old new now after a c l → Always keys old now
@@ -335,7 +387,8 @@ module _ (keys : Keys) where
       subst (λ x. Always keys new x) (sym put.after_is)
       (always_adds old new (Tagged (message_of a c l) ∷ []) now (now.hand ++ entry_of keys a c l ∷ []) put.adds
       (AreApart-append now.hand (entry_of keys a c l) s.apart (held-no_one now.hand (record { 0 = a }) other))
-      (put_of_shape keys.shape now.hand (now.hand ++ entry_of keys a c l ∷ []) (entry_of keys a c l) refl is_entry
+      (put_of_shape keys.shape now.hand (now.hand ++ entry_of keys a c l ∷ []) (entry_of keys a c l) refl
+      (entry_typed lawful a c l inside whole)
       (inside, lawful.leaves (real a c)) s.of_shape)
       came s)
     where
@@ -352,21 +405,6 @@ module _ (keys : Keys) where
               refl,
             ))
       ]
-
-      is_entry : IsEntry (entry_of keys a c l)
-      is_entry =
-          let layered : IsLayered keys.shape = shape_layered keys.shape lawful.shape in
-          record {
-            address = omega (arith, inside, layered.total_to);
-            leaf = omega
-                (arith, lawful.leaves (real a c), few keys.shape.levels layered.levels_to);
-            line = whole;
-            tag =
-                length-tag keys.tags (message_of a c l);
-          }
-        where
-          few : (n : ℕ) → n ≤ 17 → 2 ^ n ≤ 2 ^ 17
-          few n less = pow_mono {i = n} {j = 17} less
 
   -- a line is put at hand under its block's counter
   pub put_sound : (old new : LogLists) (g : Ghost) (now after : Contents) (a : ℕ) (l : List ℕ) → g.flight ≡ Some a
@@ -406,6 +444,15 @@ module _ (keys : Keys) where
           (subst (IsBefore first_counter) (ap g.count (sym at) ∙ none) (s.away a away).1))
       blank_of b inside none (inr other) = other_line b other ∙ s.blank b inside none
 
+  -- a line is stored and put at hand
+  pub put_back_sound : (old new : LogLists) (g : Ghost) (now after : Contents) (a : ℕ) (l : List ℕ)
+      → g.flight ≡ Some a → (Has a g.held → ⊥) → l ≡ line_at keys.shape (stored g a l) a
+      → IsPut keys old new now after a (g.count a) l → Sound keys old g now
+      → Sound keys new (landed (stored g a l)) after
+  put_back_sound old new g now after a l flying unheld is put s =
+      put_sound old new (stored g a l) now after a l flying unheld is put
+      (store_sound old g now a l (inr flying) s)
+
   -- the open path is written
   module _ (lawful : AreKeys keys) (log : LogLists) (now : Contents) (leaf : ℕ) (within : leaf < 2 ^ keys.shape.levels)
       (room : HasSeeds now) (w : Always keys log now) where
@@ -431,3 +478,32 @@ module _ (keys : Keys) where
           ∙ w.mirrored;
       seeds = omega (arith, w.seeds);
     }
+
+  -- the writes of the open path stop behind so many
+  pub part_sound : (log : LogLists) (g : Ghost) (now : Contents) (leaf n : ℕ) → g.path ≡ Some leaf
+      → n ≤ keys.shape.levels + 1 → Sound keys log g now
+      → Sound keys log g (record now {
+        mirror = sealed keys.pads keys.shape.levels leaf now.seed now.hand now.mirror n;
+      })
+  part_sound log g now leaf n opened within s = record {
+    fresh = s.fresh;
+    last = s.last;
+    once = s.once;
+    blank = s.blank;
+    drawn = s.drawn;
+    dummies = s.dummies;
+    away = s.away;
+    at_hand = s.at_hand;
+    in_tree = λ b e off h. s.in_tree b e off (subst (λ t. Has e (entries_in keys t)) (kept b off) h);
+  }
+    where
+      kept : (b : ℕ) → OffOpen keys.shape.levels g.path b
+          → get_or (sealed keys.pads keys.shape.levels leaf now.seed now.hand now.mirror n) b []
+          ≡ get_or now.mirror b []
+      kept b off =
+          let away : OnPath keys.shape.levels leaf b → ⊥ = subst (λ p. OffOpen keys.shape.levels p b) opened off in
+          sym (unwrap_or-slice_get _ b [])
+          ∙ ap (λ o. unwrap_or o [])
+          (sealed-off keys.pads keys.shape.levels leaf now.seed now.hand now.mirror n b
+          (λ level less is. away (level, omega (arith, less, within), sym is)))
+          ∙ unwrap_or-slice_get now.mirror b []

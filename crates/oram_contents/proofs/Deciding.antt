@@ -38,7 +38,7 @@ decides_among test P each (y ∷ ys) =
     (λ h. elim h.1 [ inl is ↦ inl (subst P is h.2) | inr r ↦ inr (h.0, r, h.2) ])
     (Decides-or (test y) (among test ys) (each y) (decides_among test P each ys))
 
-decides_message : (m n : Message) → Decides (same_message m n) (m ≡ n)
+pub decides_message : (m n : Message) → Decides (same_message m n) (m ≡ n)
 decides_message m n =
     Decides-like (same_message m n)
     (λ (h : (m.address.0 ≡ n.address.0) × ((m.counter.group ≡ n.counter.group)

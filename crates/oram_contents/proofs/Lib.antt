@@ -22,6 +22,8 @@ pub mod ChipLaws
 pub mod HomeLaws
 pub mod HomeSteps
 pub mod StartLaws
+pub mod KeyLaws
+pub mod AlteredLogs
 pub mod Cuts
 pub mod Honest
 pub mod HomeSlots

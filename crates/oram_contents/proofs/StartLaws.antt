@@ -1,31 +1,23 @@
--- The start is sound and at home; a log that shows a forgery, and one that doesn't.
+-- The start is sound and at home.
 use Rattle.std.proofs.Common.{◌≡◌, ◌+◌, ◌⊎◌, inl, inr, ℕ, zero, suc, Bool, true, false, if◌then◌else◌}
-use Rattle.std.proofs.Common.{List, [], ◌∷◌, length, map, get_or, replicate, All, Option, None, Some}
-use Rattle.std.proofs.Common.{refl, sym, ◌∙◌, ap, subst, arith, nat_lt}
+use Rattle.std.proofs.Common.{List, [], length, map, get_or, replicate, Option, None, Some}
+use Rattle.std.proofs.Common.{refl, ◌∙◌, ap, subst, arith, nat_lt}
 use Rattle.std.specs.List.{range_with_len}
 use Rattle.asc_base.specs.TreeShape.{children_of}
 use Rattle.asc_base.specs.declared.block.Counter.{Counter}
 use Rattle.asc_base.specs.declared.block.Entry.{Entry}
-use Rattle.asc_base.specs.declared.block.Message.{Message}
 use Rattle.asc_outside.specs.Memory.{zero_bucket, zero_buckets}
-use Rattle.bucket_codec.specs.Bucket.{seed_in, opened, bucket_text}
-use Rattle.bucket_codec.specs.Slot.{IsSlot, IsInRange, IsEntry}
-use Rattle.bucket_codec.proofs.Buckets.{opened_bucket}
-use Rattle.bus_watch.specs.declared.log.Event.TheVariants.{Access, Accepted}
+use Rattle.bucket_codec.specs.Bucket.{seed_in, opened}
 use Rattle.posmap_counters.specs.Counters.{first_counter}
 use Rattle.posmap_counters.specs.Digits.{digits}
 use Rattle.posmap_counters.specs.Families.{own_counts}
 use Rattle.posmap_counters.specs.Group.{line_of}
-use Rattle.oram_contents.specs.Contents.{entries_of}
-use Rattle.oram_contents.specs.Entries.{Keys, real, message_of, entry_of, entries_in, entries_at}
+use Rattle.oram_contents.specs.Entries.{Keys, entries_in, entries_at}
 use Rattle.asc_base.specs.Has.{Has}
 use Rattle.oram_contents.specs.Counts.{line_by, zero_line}
-use Rattle.oram_contents.specs.Forgery.{Forgery}
 use Rattle.oram_contents.specs.Home.{Home, total, copies, tree_copies}
-use Rattle.oram_contents.specs.Slots.{drawn_events}
 use Rattle.oram_contents.specs.Provenance.{Sound, Always}
-use Rattle.oram_contents.specs.Starts.{empty_log, first_ghost, first_contents, forged_log, unforged_log}
-use Rattle.asc_base.proofs.Members.{has_right}
+use Rattle.oram_contents.specs.Starts.{empty_log, first_ghost, first_contents}
 use Rattle.oram_stash.proofs.Apart.{AreApart-nil}
 
 zeros_same : (f : ℕ → ℕ) (n from : ℕ) → ((k : ℕ) → f k ≡ 0)
@@ -119,57 +111,3 @@ start_home keys a inside =
     (λ b. copies a (entries_at keys (zero_buckets keys.shape.buckets) b)) keys.shape.buckets
     (λ b. ap (copies a) (none_at keys b)) in
     ap (λ n. 0 + (n + (0 + 0))) none
-
--- an entry of the shape in a sealed bucket's first slot is in it
-stands_in : (keys : Keys) (e : Entry) → IsEntry e → IsInRange keys.shape (Some e)
-    → Has e (entries_in keys (bucket_text keys.pads 1 (Some e ∷ None ∷ None ∷ None ∷ [])))
-stands_in keys e is range =
-    let opens = opened_bucket keys.pads keys.shape 1 (Some e ∷ None ∷ None ∷ None ∷ []) (omega arith) (omega arith)
-    (record { four = refl; each = each_slot }) each_range in
-    subst (λ r. Has e (entries_of r)) (sym opens) (inl refl)
-  where
-    each_slot : All IsSlot (Some e ∷ None ∷ None ∷ None ∷ [])
-    each_slot zero d less = is
-    each_slot (suc zero) d less = tt
-    each_slot (suc (suc zero)) d less = tt
-    each_slot (suc (suc (suc zero))) d less = tt
-    each_slot (suc (suc (suc (suc k)))) d less = absurd (omega arith)
-
-    each_range : All (IsInRange keys.shape) (Some e ∷ None ∷ None ∷ None ∷ [])
-    each_range zero d less = range
-    each_range (suc zero) d less = tt
-    each_range (suc (suc zero)) d less = tt
-    each_range (suc (suc (suc zero))) d less = tt
-    each_range (suc (suc (suc (suc k)))) d less = absurd (omega arith)
-
-pub forged : (keys : Keys) (a : ℕ) (c : Counter) (l : List ℕ) → IsEntry (entry_of keys a c l)
-    → IsInRange keys.shape (Some (entry_of keys a c l)) → Forgery keys (forged_log keys a c l)
-forged keys a c l is range = record {
-  earlier = drawn_events keys 0 None (real a c);
-  later = [];
-  message = message_of a c l;
-  found = (entry_of keys a c l).tag;
-  accepted = refl;
-  never = λ h. elim h [ inl e ↦ cc | inr r ↦ elim r [ inl e ↦ cc | inr none ↦ none ] ];
-  point = (Access 0 None ∷ [], [], record { 0 = keys.leaf_of (real a c) }, refl, λ p x h. h);
-  valid = refl;
-  reply = record {
-    time = 0;
-    bucket = 0;
-    bytes = bucket_text keys.pads 1
-        (Some (entry_of keys a c l) ∷ None ∷ None ∷ None ∷ []);
-    before = 2;
-  };
-  altered = inl refl;
-  before = omega arith;
-  stood = (entry_of keys a c l, stands_in keys (entry_of keys a c l) is range, refl, refl, refl);
-}
-
-pub unforged : (keys : Keys) (a : ℕ) (c : Counter) (l : List ℕ) → Forgery keys (unforged_log keys a c l) → ⊥
-unforged keys a c l f = none_accepted (subst (λ x. Has (Accepted f.message f.found) x) (sym f.accepted)
-    (has_right (Accepted f.message f.found) f.earlier (Accepted f.message f.found ∷ f.later) (inl refl)))
-  where
-    none_accepted : {m : Message} {t : List ℕ} → Has (Accepted m t) (drawn_events keys 0 None (real a c)) → ⊥
-    none_accepted (inl e) = cc
-    none_accepted (inr (inl e)) = cc
-    none_accepted (inr (inr h)) = h

@@ -9,6 +9,7 @@ use Rattle.asc_base.specs.declared.block.Point.{Point}
 use Rattle.asc_base.specs.declared.block.Point.TheVariants.{Real}
 use Rattle.asc_base.specs.declared.shape.Shape.{Shape}
 use Rattle.bucket_codec.specs.Bucket.{opened}
+use Rattle.leaf_function.specs.Leaf.{leaf}
 use Rattle.pmmac_tags.specs.Tag.{tag}
 use Rattle.oram_contents.specs.Contents.{entries_of}
 
@@ -23,6 +24,15 @@ pub record Keys : Type 0 where
 pub record AreKeys (keys : Keys) : Type 0 where
   pub shape : IsShape keys.shape
   pub leaves : (point : Point) → keys.leaf_of point < 2 ^ keys.shape.levels
+
+-- the keys of a memory of this shape by three keys: of its pads, of its tags and of its leaves
+abbrev pub keys_by : Shape → (pads tags leaves : List ℕ) → Keys
+keys_by shape pads tags leaves = record {
+  shape = shape;
+  pads = pads;
+  tags = tags;
+  leaf_of = leaf leaves shape.levels;
+}
 
 -- a block under a counter
 abbrev pub real : ℕ → Counter → Point

@@ -3,7 +3,7 @@ use Rattle.std.specs.Prelude.{ℕ, List, [], ◌∷◌, ◌++◌, None, Some}
 use Rattle.asc_outside.specs.Memory.{zero_buckets}
 use Rattle.bucket_codec.specs.Bucket.{bucket_text}
 use Rattle.bus_watch.specs.Log.{LogLists}
-use Rattle.bus_watch.specs.declared.log.Event.TheVariants.{Accepted}
+use Rattle.bus_watch.specs.declared.log.Event.TheVariants.{Tagged, Accepted}
 use Rattle.posmap_counters.specs.Counters.{first_counter}
 use Rattle.oram_contents.specs.Contents.{Contents}
 use Rattle.oram_contents.specs.Fold.{Fold}
@@ -34,24 +34,19 @@ first_contents keys = record { hand = []; mirror = zero_buckets keys.shape.bucke
 abbrev pub first_fold : Keys → Fold
 first_fold keys = record { now = first_contents keys; start = 0; path = None }
 
--- A log that shows a forgery: a block's line under a counter is accepted that was never tagged, since a reply had it.
-abbrev pub forged_log : Keys → ℕ → Counter → List ℕ → LogLists
-forged_log keys a c l = record {
+-- A log of two slots of a block that was never accessed. In the first a line of it is put back under a counter. The
+-- second draws the point of that counter; the root's reply in it is altered, so that an entry of the block stands in it
+-- with a line under that counter and its valid tag; and a line of the block is accepted with its valid tag.
+abbrev pub altered_log : Keys → ℕ → Counter → (put stood found : List ℕ) → LogLists
+altered_log keys a c put stood found = record {
   moves = [];
-  events = drawn_events keys 0 None (real a c) ++ Accepted (message_of a c l) (entry_of keys a c l).tag ∷ [];
+  events = drawn_events keys 256 (Some 0) (real a first_counter) ++ (Tagged (message_of a c put)
+      ∷ (drawn_events keys 1008 (Some 752) (real a c)
+      ++ Accepted (message_of a c found) (entry_of keys a c found).tag ∷ []));
   altered = record {
-    time = 0;
+    time = 1008;
     bucket = 0;
-    bytes = bucket_text keys.pads 1
-        (Some (entry_of keys a c l) ∷ None ∷ None ∷ None ∷ []);
-    before = 2;
+    bytes = bucket_text keys.pads 1 (Some (entry_of keys a c stood) ∷ None ∷ None ∷ None ∷ []);
+    before = 5;
   } ∷ [];
-}
-
--- A log with the same altered reply in which nothing is accepted.
-abbrev pub unforged_log : Keys → ℕ → Counter → List ℕ → LogLists
-unforged_log keys a c l = record {
-  moves = [];
-  events = drawn_events keys 0 None (real a c);
-  altered = (forged_log keys a c l).altered;
 }

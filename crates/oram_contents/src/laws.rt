@@ -3,7 +3,10 @@
 ghost use Rattle.std.specs.Prelude.{IsTrue, ◌↔◌, true, count_by, ◌==◌, ◌*◌, ◌≡◌, ◌<◌, ◌≤◌, ◌+◌, ◌-◌, ◌%◌, ◌^◌, ◌⊎◌, ℕ};
 ghost use Rattle.std.specs.Prelude.{suc, false, List, [], ◌∷◌, ◌++◌, length, All, replicate, slice_index, slice_set};
 ghost use Rattle.std.specs.Prelude.{Option, None, Some};
-ghost use Rattle.asc_base.specs.Shape.{IsShape};
+ghost use Rattle.asc_base.specs.Shape.{IsShape, shape_of};
+ghost use Rattle.bucket_codec.specs.Pad.{pad_key};
+ghost use Rattle.leaf_function.specs.Leaf.{leaf_key};
+ghost use Rattle.pmmac_tags.specs.Tag.{tag_key};
 ghost use Rattle.asc_base.specs.TreeShape.{parent_of, children_of};
 ghost use Rattle.asc_base.specs.declared.block.Counter.{Counter};
 ghost use Rattle.asc_base.specs.declared.block.Entry.{Entry};
@@ -19,7 +22,7 @@ ghost use Rattle.asc_base.specs.declared.shape.Shape.{Shape};
 ghost use Rattle.posmap_counters.specs.Counters.{IsBefore, first_counter, next_group, next_own};
 ghost use Rattle.posmap_counters.specs.Group.{group_of, own_of};
 ghost use Rattle.oram_contents.specs.Contents.{Contents, after_write, IsReadTo};
-ghost use Rattle.oram_contents.specs.Entries.{Keys, AreKeys, real, entry_of};
+ghost use Rattle.oram_contents.specs.Entries.{Keys, AreKeys, keys_by, real, entry_of};
 ghost use Rattle.asc_base.specs.Has.{Has};
 ghost use Rattle.oram_contents.specs.Counts.{Ghost, IsAway, line_at, put_at};
 ghost use Rattle.oram_contents.specs.Chip.{HeldBlock, Chip, AreGroups, first_chip, root_place, root_stepped};
@@ -42,8 +45,7 @@ ghost use Rattle.oram_contents.specs.Decided.{draws, shows_forgery};
 ghost use Rattle.oram_contents.specs.Forgery.{Forgery, LastDrawn};
 ghost use Rattle.oram_contents.specs.Provenance.{Sound, Always};
 ghost use Rattle.oram_contents.specs.Steps.{Adds, opened_at, raised, taken, stored, landed, closed, inserted};
-ghost use Rattle.oram_contents.specs.Starts.{empty_log, first_ghost, first_contents, forged_log, unforged_log};
-ghost use Rattle.bucket_codec.specs.Slot.{IsEntry, IsInRange};
+ghost use Rattle.oram_contents.specs.Starts.{empty_log, first_ghost, first_contents, altered_log};
 ghost use Rattle.oram_contents.specs.Slots.{drawn_events, MayDraw, IsRead, IsFound, MayRise, IsPut, HasSeeds, IsAccess};
 ghost use Rattle.oram_contents.specs.Slots.{IsRefill};
 ghost use Rattle.oram_contents.specs.Slots.{IsPass, IsEnd, ArePasses, IsBetween, done, refilled, passed_by};
@@ -117,6 +119,62 @@ pub fn reads_keep()
         → Always keys old now → Always keys new (record now { hand = joined }) }
 {}
 
+/// A block is taken out of the hand and comes to a later counter: the invariant is kept, and what was found has the
+/// block's line, or the log shows a forgery.
+pub fn takes_keep()
+    ensures sound { (keys : Keys) → AreKeys keys → (old new : LogLists) (g : Ghost) (now : Contents) (a : ℕ)
+        (c : Counter) (found : Option Entry) → g.path ≡ Some (keys.leaf_of (real a (g.count a))) → g.pend ≡ Some a
+        → LastDrawn old.events a (g.count a) → MayRise keys g a c
+        → IsFound keys old new now.hand a (g.count a) found → Always keys old now → Sound keys old g now
+        → Forgery keys new
+        ⊎ (Sound keys new (taken g a c) (record now { hand = without now.hand (record { 0 = a }) })
+        × (line_found found ≡ line_at keys.shape g a)) }
+    ensures always { (keys : Keys) (old new : LogLists) (now : Contents) (a : ℕ) (c : Counter) (found : Option Entry)
+        → IsFound keys old new now.hand a c found → Always keys old now
+        → Always keys new (record now { hand = without now.hand (record { 0 = a }) }) }
+{}
+
+/// The block in flight is put back: a line of it is stored, tagged under its counter, and joins the hand.
+pub fn puts_keep()
+    ensures sound { (keys : Keys) (old new : LogLists) (g : Ghost) (now after : Contents) (a : ℕ) (l : List ℕ)
+        → g.flight ≡ Some a → (Has a g.held → ⊥) → l ≡ line_at keys.shape (stored g a l) a
+        → IsPut keys old new now after a (g.count a) l → Sound keys old g now
+        → Sound keys new (landed (stored g a l)) after }
+    ensures always { (keys : Keys) → AreKeys keys → (old new : LogLists) (now after : Contents) (a : ℕ) (c : Counter)
+        (l : List ℕ) → a < keys.shape.total → length l ≡ 64
+        → ((e : Entry) → Has e now.hand → e.address.0 ≡ a → ⊥) → IsPut keys old new now after a c l
+        → Always keys old now → Always keys new after }
+{}
+
+/// The open path is written, and closed by it.
+pub fn writes_keep()
+    ensures sound { (keys : Keys) → AreKeys keys → (log : LogLists) (now : Contents) (leaf : ℕ)
+        → leaf < 2 ^ keys.shape.levels → HasSeeds now → Always keys log now → (g : Ghost) → g.path ≡ Some leaf
+        → Sound keys log g now → Sound keys log (closed g) (after_write keys.pads keys.shape.levels leaf now) }
+    ensures always { (keys : Keys) → AreKeys keys → (log : LogLists) (now : Contents) (leaf : ℕ)
+        → leaf < 2 ^ keys.shape.levels → HasSeeds now → Always keys log now
+        → Always keys log (after_write keys.pads keys.shape.levels leaf now) }
+{}
+
+/// A slot that stops keeps what is known, of which no more than the log's part is needed then. In its reads it stops
+/// with nothing joined to the hand, whatever they gave; in its writes some buckets of the open path are written.
+pub fn stops_keep()
+    ensures reading { (keys : Keys) (old new : LogLists) (now : Contents) (start : ℕ) (asked : Option ℕ) (p : Point)
+        (altered : List Altered) → Adds old new (drawn_events keys start asked p) altered
+        → (g : Ghost) → g.path ≡ None → MayDraw g p → Sound keys old g now
+        → Sound keys new (opened_at g p (keys.leaf_of p)) now }
+    ensures reading_always { (keys : Keys) (old new : LogLists) (now : Contents) (start : ℕ) (asked : Option ℕ)
+        (p : Point) (altered : List Altered)
+        → Adds old new (drawn_events keys start asked p) altered
+        → All (λ (reply : Altered). reply.before ≡ length old.events + 2) altered
+        → Always keys old now → Always keys new now }
+    ensures writing { (keys : Keys) (log : LogLists) (g : Ghost) (now : Contents) (leaf n : ℕ) → g.path ≡ Some leaf
+        → n ≤ keys.shape.levels + 1 → Sound keys log g now
+        → Sound keys log g (record now {
+          mirror = sealed keys.pads keys.shape.levels leaf now.seed now.hand now.mirror n;
+        }) }
+{}
+
 /// An access after which the block is put back: the invariant is kept, and what was found has the block's line, or the
 /// log shows a forgery.
 pub fn accesses_keep()
@@ -171,7 +229,8 @@ pub fn dummies_keep()
         → Always keys old now → Home keys g now → Always keys new after × Home keys (passed_by k g) after }
 {}
 
-/// Between slots: the block in flight is held, or put at hand; a held one is renumbered.
+/// Between slots: the block in flight is held, or put at hand; a held one is renumbered; a block's slot comes next; and
+/// a group move begins, is further by a child or ends, or a parent is a step ahead of a block.
 pub fn changes_between_keep()
     ensures inserted { (keys : Keys) → AreKeys keys → (log : LogLists) (g : Ghost) (now : Contents) (plb a : ℕ)
         → g.flight ≡ Some a → Sound keys log g now → Sound keys log (inserted g plb a) now }
@@ -182,6 +241,11 @@ pub fn changes_between_keep()
         (c : Counter) → IsAway g a → IsBefore (g.count a) c
         → ((p : ℕ) → parent_of keys.shape.lines keys.shape.layers a ≡ Some p → IsAway g p)
         → Sound keys log g now → Sound keys log (raised g a c g.pend) now }
+    ensures next { (keys : Keys) → AreKeys keys → (log : LogLists) (g : Ghost) (now : Contents) (a : ℕ)
+        → g.pend ≡ None → Sound keys log g now → Sound keys log (record g { pend = Some a }) now }
+    ensures marked { (keys : Keys) → AreKeys keys → (log : LogLists) (g : Ghost) (now : Contents)
+        (move : Option (ℕ × ℕ)) (stepped : Option ℕ) → Sound keys log g now
+        → Sound keys log (record g { move = move; stepped = stepped }) now }
 {}
 
 /// Where no reply is altered each block that was accessed has one place, and every other block has none.
@@ -237,15 +301,38 @@ pub fn groups_show_counters()
         → IsGroupOf shape (record g { move = None }) p ((group + 1) % 2 ^ 64) (replicate 32 0) }
 {}
 
-/// The start is sound and at home. There is a log that shows a forgery, and one with the same altered reply that
-/// doesn't.
+/// The start is sound and at home. Of the logs of two slots with an altered reply one shows a forgery: the line that
+/// stood in the reply is accepted, and another one was put back. None is shown where the line that was put back is
+/// accepted, whether it stood in the reply or another one did, nor where a line is accepted that didn't stand there.
+/// The test of lists says so.
 pub fn instances_are_there()
     ensures sound { (keys : Keys) → Sound keys empty_log first_ghost (first_contents keys) }
     ensures always { (keys : Keys) → Always keys empty_log (first_contents keys) }
     ensures home { (keys : Keys) → Home keys first_ghost (first_contents keys) }
-    ensures forged { (keys : Keys) (a : ℕ) (c : Counter) (l : List ℕ) → IsEntry (entry_of keys a c l)
-        → IsInRange keys.shape (Some (entry_of keys a c l)) → Forgery keys (forged_log keys a c l) }
-    ensures unforged { (keys : Keys) (a : ℕ) (c : Counter) (l : List ℕ) → Forgery keys (unforged_log keys a c l) → ⊥ }
+    ensures forged { (keys : Keys) → AreKeys keys → (a : ℕ) (c : Counter) → a < keys.shape.total
+        → (put found : List ℕ) → length found ≡ 64 → (found ≡ put → ⊥)
+        → Forgery keys (altered_log keys a c put found found) }
+    ensures forged_shown { (keys : Keys) → AreKeys keys → (a : ℕ) (c : Counter) → a < keys.shape.total
+        → (put found : List ℕ) → length found ≡ 64 → (found ≡ put → ⊥)
+        → shows_forgery keys (altered_log keys a c put found found) ≡ true }
+    ensures tagged { (keys : Keys) (a : ℕ) (c : Counter) (put stood : List ℕ)
+        → Forgery keys (altered_log keys a c put stood put) → ⊥ }
+    ensures tagged_shown { (keys : Keys) (a : ℕ) (c : Counter) (put stood : List ℕ)
+        → shows_forgery keys (altered_log keys a c put stood put) ≡ false }
+    ensures elsewhere { (keys : Keys) → AreKeys keys → (a : ℕ) (c : Counter) → a < keys.shape.total
+        → (put stood found : List ℕ) → length stood ≡ 64 → (found ≡ stood → ⊥)
+        → Forgery keys (altered_log keys a c put stood found) → ⊥ }
+{}
+
+/// Three keys are keys of every shape that there is: each leaf is one of its tree's. So those are that a chip derives
+/// from its master key.
+pub fn chips_have_keys()
+    ensures shape { (shape : Shape) (pads tags leaves : List ℕ) → IsShape shape
+        → AreKeys (keys_by shape pads tags leaves) }
+    ensures sized { (lines roots : ℕ) (pads tags leaves : List ℕ) → 1 ≤ lines → lines ≤ 262144 → 1 ≤ roots
+        → AreKeys (keys_by (shape_of lines roots) pads tags leaves) }
+    ensures derived { (lines roots : ℕ) (master : List ℕ) → 1 ≤ lines → lines ≤ 262144 → 1 ≤ roots
+        → AreKeys (keys_by (shape_of lines roots) (pad_key master) (tag_key master) (leaf_key master)) }
 {}
 
 /// Where no reply is altered no path read gives evidence, and what is found for a block is right.

@@ -1,6 +1,8 @@
 use Rattle.std.proofs.Common.{refl, inl, inr}
 use Rattle.log_replay.proofs.VerdictRows.{dummy_right, first_right, right, missing, full, breaks_off, no_moves, written}
 use Rattle.log_replay.proofs.VerdictRows.{buckets, other_buckets}
+use Rattle.log_replay.proofs.FullRows.{overfull}
+use Rattle.log_replay.proofs.PartedKeys.{parted}
 use Rattle.log_replay.proofs.rows.verdicts_have_rows.Goals as goal
 
 pub returns : goal.returns
@@ -10,6 +12,8 @@ returns c = record {
   right = right;
   missing = missing;
   full = full;
+  overfull = overfull;
+  parted = parted;
   breaks_off = breaks_off;
   no_moves = no_moves;
   written = written;

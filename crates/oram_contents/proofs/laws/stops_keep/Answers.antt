@@ -1,0 +1,11 @@
+use Rattle.oram_contents.proofs.Access.{begun_sound, drawn_always, part_sound}
+use Rattle.oram_contents.proofs.laws.stops_keep.Goals as goal
+
+pub returns-clause-reading : goal.returns-clause-reading
+returns-clause-reading c = begun_sound
+
+pub returns-clause-reading_always : goal.returns-clause-reading_always
+returns-clause-reading_always c = drawn_always
+
+pub returns-clause-writing : goal.returns-clause-writing
+returns-clause-writing c = part_sound
