@@ -29,7 +29,7 @@ use Rattle.secure_machine.specs.declared.report.Report.{Report}
 use Rattle.ascend_top.specs.Lent.{Lent}
 
 module _ (config : Config) (image : Image) (input : List ℕ) (keys : Keys) (lent : Lent) (report : Report) where
-    -- 1. Refinement or forgery: the report is the flat run's, and report and log are those of the program's Play, of the
+  -- 1. Refinement or forgery: the report is the flat run's, and report and log are those of the program's Play, of the
   -- Play cut in a slot by a stop that can come there, or of the run whose memory couldn't be prepared; or the log shows
   -- a forgery.
   pub record IsRefined : Type 0 where
