@@ -1,5 +1,5 @@
 -- A run that ends behind an instruction, over a memory that alters no reply, leaves each block at home.
-use Rattle.std.proofs.Common.{◌≡◌, ◌⊎◌, inl, inr, ℕ, List, [], Some, Result, Ok, Err, IfOk, sym, ap, subst}
+use Rattle.std.proofs.Common.{◌≡◌, ◌⊎◌, inl, inr, ℕ, [], Some, Result, Ok, Err, IfOk, sym, ap, subst}
 use Rattle.asc_base.specs.declared.settings.Config.{Config}
 use Rattle.asc_base.specs.declared.stop.Stop.{Stop}
 use Rattle.asc_base.specs.declared.stop.Stop.TheVariants as why
