@@ -34,7 +34,7 @@ use Rattle.log_replay.proofs.FirstReads.{read_altered}
 use Rattle.log_replay.proofs.Orders.{later_events}
 use Rattle.log_replay.proofs.SlotSplits.{first_slot, none_held}
 
-same_number : (n : ℕ) → (n == n) ≡ true
+pub same_number : (n : ℕ) → (n == n) ≡ true
 same_number n = elim (eqb_tells n n) [ inl same ↦ same.0 | inr other ↦ absurd (other.1 refl) ]
 
 module _ (keys : Keys) (a : ℕ) (c : Counter) (l tag : List ℕ) (can : CanStand keys a l tag) where
@@ -53,7 +53,7 @@ module _ (keys : Keys) (a : ℕ) (c : Counter) (l tag : List ℕ) (can : CanStan
       few : (n : ℕ) → n ≤ 17 → 2 ^ n ≤ 2 ^ 17
       few n less = pow_mono {i = n} {j = 17} less
 
-  opens : opened keys.pads keys.shape (found_reply keys a c l tag).bytes
+  pub opens : opened keys.pads keys.shape (found_reply keys a c l tag).bytes
       ≡ Ok (Some (found_entry keys a c l tag) ∷ None ∷ None ∷ None ∷ [])
   opens = opened_bucket keys.pads keys.shape 1 (Some (found_entry keys a c l tag) ∷ None ∷ None ∷ None ∷ [])
       (omega arith) (omega arith) (record { four = refl; each = each_slot }) each_range
@@ -72,7 +72,7 @@ module _ (keys : Keys) (a : ℕ) (c : Counter) (l tag : List ℕ) (can : CanStan
       each_range (suc (suc (suc zero))) d less = tt
       each_range (suc (suc (suc (suc k)))) d less = absurd (omega arith)
 
-  joins_it : join_entry keys.shape.levels (keys.leaf_of (real a c)) 0 0 (found_entry keys a c l tag) []
+  pub joins_it : join_entry keys.shape.levels (keys.leaf_of (real a c)) 0 0 (found_entry keys a c l tag) []
       ≡ Ok (found_entry keys a c l tag ∷ [])
   joins_it =
       ap (λ (b : Bool). if b then (if is_some (held [] (record { 0 = a })) then Err (Doubled (record { 0 = a }))
@@ -90,7 +90,7 @@ module _ (keys : Keys) (a : ℕ) (c : Counter) (l tag : List ℕ) (can : CanStan
       (ap (λ r. then_join r (join_slots keys.shape.levels (keys.leaf_of (real a c)) 0 1
       (None ∷ None ∷ None ∷ []))) joins_it)
 
-  held_found : held (found_entry keys a c l tag ∷ []) (record { 0 = a }) ≡ Some (found_entry keys a c l tag)
+  pub held_found : held (found_entry keys a c l tag ∷ []) (record { 0 = a }) ≡ Some (found_entry keys a c l tag)
   unfolding held
   held_found = ap (λ (b : Bool). if b then Some (found_entry keys a c l tag) else None) (same_number a)
 

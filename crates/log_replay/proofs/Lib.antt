@@ -27,5 +27,6 @@ pub mod VerdictRows
 mod FullRows
 mod PartedKeys
 pub mod AlteredRows
+mod ForgedRows
 pub mod ReadBacks
 pub mod AgainRows

@@ -52,7 +52,7 @@ module _ (keys : Keys) (stash : ℕ) where
   first_read p = path_read keys.pads keys.shape (keys.leaf_of p) (replies keys.shape.levels 256 (keys.leaf_of p)
       (first_contents keys).mirror []) []
 
-  none_stays : (leaf : ℕ) → write_verdict keys stash leaf [] ≡ None
+  pub none_stays : (leaf : ℕ) → write_verdict keys stash leaf [] ≡ None
   none_stays leaf =
       let none = ap (length {A = Entry}) (none_kept (eviction [] keys.shape.levels)) in
       write_right keys stash leaf [] (omega (arith, none))
@@ -92,7 +92,7 @@ module _ (keys : Keys) (stash : ℕ) where
     none_left = refl
 
     -- in a block's first slot nothing is found for it, and nothing is left at hand
-    first_part : (c : Counter) (P : Option Stop → List Entry → Type 0) → P (integrity (judged keys a c None)) []
+    pub first_part : (c : Counter) (P : Option Stop → List Entry → Type 0) → P (integrity (judged keys a c None)) []
         → P (read_verdict keys (real a c) (first_read (real a c)))
         (hand_after (real a c) [] (first_read (real a c)))
     first_part c P base =

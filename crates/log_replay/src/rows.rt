@@ -2,6 +2,7 @@
 
 ghost use Rattle.std.specs.Prelude.{◌≡◌, ◌<◌, ◌≤◌, ◌-◌, ◌^◌, ℕ, true, false, List, [], ◌∷◌, ◌++◌, length, None, Some};
 ghost use Rattle.asc_base.specs.Shape.{IsShape};
+ghost use Rattle.asc_base.specs.TreeShape.{shared_of};
 ghost use Rattle.asc_base.specs.declared.block.Counter.{Counter};
 ghost use Rattle.asc_base.specs.declared.block.Message.{Message};
 ghost use Rattle.asc_base.specs.declared.block.Point.TheVariants.{Dummy};
@@ -16,10 +17,10 @@ ghost use Rattle.bus_watch.specs.declared.log.Event.{Event};
 ghost use Rattle.bus_watch.specs.declared.log.Event.TheVariants.{Access, Drawn, Accepted, Tagged, Chosen, Answered};
 ghost use Rattle.bus_watch.specs.declared.log.Move.{Move};
 ghost use Rattle.oram_contents.specs.Counts.{zero_line};
-ghost use Rattle.oram_contents.specs.Entries.{Keys, real, message_of};
+ghost use Rattle.oram_contents.specs.Entries.{Keys, AreKeys, real, message_of};
 ghost use Rattle.oram_contents.specs.Fold.{Whole, LastFailed, RanOut};
 ghost use Rattle.oram_contents.specs.Slots.{drawn_events};
-ghost use Rattle.oram_contents.specs.Starts.{empty_log};
+ghost use Rattle.oram_contents.specs.Starts.{empty_log, altered_log};
 ghost use Rattle.oram_contents.specs.Verdict.{is_first};
 ghost use Rattle.pmmac_tags.specs.Tag.{tag};
 ghost use Rattle.posmap_counters.specs.Counters.{first_counter, IsBefore};
@@ -116,10 +117,12 @@ pub fn altered_logs_have_rows()
 /// What logs show to be wrong. Nothing is wrong in the slot of the first dummy, so no stop is its first verdict, nor in
 /// a block's first slot. A block that was accessed before is missing where no bucket was ever written, and a message
 /// that is appended is one too many for a stash of none; and so is one of five entries at hand that fit no bucket of
-/// the path but the root, four of them out of an altered reply; there are keys under which they do. Reads broke off
-/// where no more moves are noted than those down to a level, and not where none is noted, or a write came last. Where a
-/// device failed the log ended with a failed move, and not whole; where memory ran out it may have ended so, and not
-/// with a failed move; and where time was up not with a failed move. An empty log says buckets of zeros alone.
+/// the path but the root, four of them out of an altered reply; there are keys under which they do. Nothing is wrong in
+/// a log of two slots that shows a forgery, where what the first puts back stands in the root and the second's reply
+/// from there is altered. Reads broke off where no more moves are noted than those down to a level, and not where none
+/// is noted, or a write came last. Where a device failed the log ended with a failed move, and not whole; where memory
+/// ran out it may have ended so, and not with a failed move; and where time was up not with a failed move. An empty log
+/// says buckets of zeros alone.
 pub fn verdicts_have_rows()
     ensures dummy { (keys : Keys) (stash : ℕ) → verdict_on keys stash (log_of (dummy_events keys 0)) ≡ None }
     ensures first { (keys : Keys) (stash a : ℕ) → verdict_on keys stash
@@ -135,6 +138,10 @@ pub fn verdicts_have_rows()
     ensures parted { (shape : Shape) (c : Counter) (l tag : List ℕ) → IsShape shape → 4 < shape.total
         → is_first c ≡ false → length l ≡ 64 → length tag ≡ 16
         → AreApartBelow (parted_keys shape) c (2 ^ (shape.levels - 1)) l tag }
+    ensures forged { (keys : Keys) → AreKeys keys → (stash a : ℕ) (c : Counter) (put found : List ℕ)
+        → a < keys.shape.total → length found ≡ 64 → is_first c ≡ false
+        → shared_of keys.shape.levels (keys.leaf_of (real a c)) (keys.leaf_of (real a first_counter)) ≡ 0
+        → verdict_on keys stash (altered_log keys a c put found found) ≡ None }
     ensures breaks_off { (keys : Keys) (stash level : ℕ) → level ≤ keys.shape.levels
         → BreaksOffReading keys stash (broken_log keys level) }
     ensures no_moves { (keys : Keys) (stash : ℕ) (events : List Event) → BreaksOffReading keys stash

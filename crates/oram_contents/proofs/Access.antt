@@ -114,6 +114,21 @@ module _ (keys : Keys) where
     in_tree = s.in_tree;
   }
 
+  -- a group move begins, is further or ends, and a block's parent is a step ahead of it
+  pub marked_sound : (log : LogLists) (g : Ghost) (now : Contents) (move : Option (ℕ × ℕ)) (stepped : Option ℕ)
+      → Sound keys log g now → Sound keys log (record g { move = move; stepped = stepped }) now
+  marked_sound log g now move stepped s = record {
+    fresh = s.fresh;
+    last = s.last;
+    once = s.once;
+    blank = s.blank;
+    drawn = s.drawn;
+    dummies = s.dummies;
+    away = s.away;
+    at_hand = s.at_hand;
+    in_tree = s.in_tree;
+  }
+
   -- a slot's start and its point are noted, and altered replies after them
   module _ (old new : LogLists) (now : Contents) (start : ℕ) (asked : Option ℕ) (p : Point) (altered : List Altered)
       (adds : Adds old new (drawn_events keys start asked p) altered) where

@@ -248,18 +248,3 @@ module _ (keys : Keys) (lawful : AreKeys keys) where
     at_hand = s.at_hand;
     in_tree = s.in_tree;
   }
-
-  -- a group move begins, is further or ends, and a block's parent is a step ahead of it
-  pub marked_sound : (log : LogLists) (g : Ghost) (now : Contents) (move : Option (ℕ × ℕ)) (stepped : Option ℕ)
-      → Sound keys log g now → Sound keys log (record g { move = move; stepped = stepped }) now
-  marked_sound log g now move stepped s = record {
-    fresh = s.fresh;
-    last = s.last;
-    once = s.once;
-    blank = s.blank;
-    drawn = s.drawn;
-    dummies = s.dummies;
-    away = s.away;
-    at_hand = s.at_hand;
-    in_tree = s.in_tree;
-  }

@@ -156,8 +156,8 @@ pub fn writes_keep()
         → Always keys log (after_write keys.pads keys.shape.levels leaf now) }
 {}
 
-/// A slot that stops keeps what is known, of which no more than the log's part is needed then. In its reads it stops
-/// with nothing joined to the hand, whatever they gave; in its writes some buckets of the open path are written.
+/// A slot that stops keeps what is known; what comes after it is of the log alone. In its reads it stops with nothing
+/// joined to the hand, whatever they gave; in its writes some buckets of the open path are written.
 pub fn stops_keep()
     ensures reading { (keys : Keys) (old new : LogLists) (now : Contents) (start : ℕ) (asked : Option ℕ) (p : Point)
         (altered : List Altered) → Adds old new (drawn_events keys start asked p) altered
@@ -243,8 +243,8 @@ pub fn changes_between_keep()
         → Sound keys log g now → Sound keys log (raised g a c g.pend) now }
     ensures next { (keys : Keys) → AreKeys keys → (log : LogLists) (g : Ghost) (now : Contents) (a : ℕ)
         → g.pend ≡ None → Sound keys log g now → Sound keys log (record g { pend = Some a }) now }
-    ensures marked { (keys : Keys) → AreKeys keys → (log : LogLists) (g : Ghost) (now : Contents)
-        (move : Option (ℕ × ℕ)) (stepped : Option ℕ) → Sound keys log g now
+    ensures marked { (keys : Keys) (log : LogLists) (g : Ghost) (now : Contents) (move : Option (ℕ × ℕ))
+        (stepped : Option ℕ) → Sound keys log g now
         → Sound keys log (record g { move = move; stepped = stepped }) now }
 {}
 

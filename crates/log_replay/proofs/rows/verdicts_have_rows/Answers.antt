@@ -1,6 +1,7 @@
 use Rattle.std.proofs.Common.{refl, inl, inr}
 use Rattle.log_replay.proofs.VerdictRows.{dummy_right, first_right, right, missing, full, breaks_off, no_moves, written}
 use Rattle.log_replay.proofs.VerdictRows.{buckets, other_buckets}
+use Rattle.log_replay.proofs.ForgedRows.{forged_right}
 use Rattle.log_replay.proofs.FullRows.{overfull}
 use Rattle.log_replay.proofs.PartedKeys.{parted}
 use Rattle.log_replay.proofs.rows.verdicts_have_rows.Goals as goal
@@ -14,6 +15,7 @@ returns c = record {
   full = full;
   overfull = overfull;
   parted = parted;
+  forged = forged_right;
   breaks_off = breaks_off;
   no_moves = no_moves;
   written = written;
