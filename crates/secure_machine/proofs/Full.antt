@@ -15,7 +15,6 @@ use Rattle.asc_base.specs.declared.shape.Shape.{Shape}
 use Rattle.asc_base.specs.declared.stop.Evidence.{Evidence}
 use Rattle.asc_base.specs.declared.stop.Stop.{Stop}
 use Rattle.asc_base.specs.declared.stop.Stop.TheVariants as why
-use Rattle.bus_schedule.specs.Timetable.{public_of}
 use Rattle.bus_watch.specs.Log.{LogLists}
 use Rattle.bus_watch.specs.declared.log.Event.{Event}
 use Rattle.bus_watch.specs.declared.log.Event.TheVariants.{Access, Drawn, Tagged, Accepted, Chosen, Answered}
@@ -23,7 +22,7 @@ use Rattle.log_replay.specs.Judged.{verdict_on}
 use Rattle.log_replay.specs.Order.{Behind, Nothing, Appends, Answers, SlotNotes, accepted_events, chosen_events}
 use Rattle.log_replay.specs.Order.{behind_events, events_of, LogOrder}
 use Rattle.oram_contents.specs.Entries.{Keys}
-use Rattle.oram_contents.specs.Fold.{Fold, settle, after_event, fold_events}
+use Rattle.oram_contents.specs.Fold.{Fold, after_event, fold_events}
 use Rattle.oram_contents.specs.Starts.{first_fold}
 use Rattle.oram_contents.specs.Verdict.{event_verdict, events_verdict, first_of, open_verdict, put_events}
 use Rattle.play_run.specs.Shows.{IsRunOf, IsPlayed, IsOwn, IsWholePlay}
@@ -32,7 +31,7 @@ use Rattle.run_play.specs.Halt as cut
 use Rattle.run_play.specs.Halt.{Refused, Overfull, MoveFails, AppendRefused, AppendOverfull, ending_of, halt, cut_at}
 use Rattle.run_play.specs.Play as how
 use Rattle.run_play.specs.Play.{Play, PlayEnding}
-use Rattle.run_play.specs.PlayEvents.{PlayReport, play_events, report_of, said_of_all}
+use Rattle.run_play.specs.PlayEvents.{PlayReport, play_events, said_of_all}
 use Rattle.run_play.specs.Slots.{Slot}
 use Rattle.secure_machine.specs.Full.{noted, log_of, NoSlotIsFull}
 use Rattle.secure_machine.specs.Judged.{ShowsEnding}
@@ -107,10 +106,12 @@ module _ (keys : Keys) where
       let apart : (found ++ (put ++ (chosen ++ behind))) ++ rest ≡ found ++ (put ++ (chosen ++ (behind ++ rest))) =
       append_assoc found (put ++ (chosen ++ behind)) rest
       ∙ ap (λ l. found ++ l) (append_assoc put (chosen ++ behind) rest
-      ∙ ap (λ l. put ++ l) (append_assoc chosen behind rest)) in
-      (refl, subst IsPlain (sym apart) (accepted_plain s.point s.found (put ++ (chosen ++ (behind ++ rest)))
-      (put_plain s.put (chosen ++ (behind ++ rest)) (chosen_plain s.chosen (behind ++ rest)
-      (behind_plain s.behind later (slots_plain later))))))
+      ∙ ap (λ l. put ++ l) (append_assoc chosen behind rest)) in (
+        refl,
+        subst IsPlain (sym apart) (accepted_plain s.point s.found (put ++ (chosen ++ (behind ++ rest)))
+            (put_plain s.put (chosen ++ (behind ++ rest)) (chosen_plain s.chosen (behind ++ rest)
+            (behind_plain s.behind later (slots_plain later))))),
+      )
 
   module _ (stash : ℕ) where
     -- what events show to be wrong from a fold on, up to the open path, where no reply was altered
