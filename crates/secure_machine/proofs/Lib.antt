@@ -23,3 +23,4 @@ pub mod SpentChains
 pub mod SpentRuns
 pub mod SpentReports
 pub mod Full
+pub mod Roomy
