@@ -1,6 +1,6 @@
 -- What is said over files that are told, or that a host may show.
 use Rattle.std.proofs.Common.{◌≡◌, ℕ, List, Option, Some, None, IfSome, refl, subst, arith}
-use Rattle.std.specs.Prelude.{◌<◌, ◌+◌, replicate}
+use Rattle.std.specs.Prelude.{◌+◌, replicate}
 use Rattle.std.proofs.lemmas.List.{length-replicate}
 use Rattle.asc_outside.specs.Host.{Files, IsLonger}
 use Rattle.ascend_top.specs.Steps.{Shows}

@@ -1,7 +1,7 @@
 -- Laws of steps: what a host's answers make of each.
 use Rattle.std.proofs.Common.{◌≡◌, ℕ, ◌≤◌, List, [], ◌∷◌, Option, Some, None, Err, IfSome, refl, sym, ap, subst}
 use Rattle.std.proofs.Common.{◌∙◌, inl, inr, arith, append-nil}
-use Rattle.std.specs.Prelude.{◌<◌, ◌+◌, replicate, unwrap_or}
+use Rattle.std.specs.Prelude.{unwrap_or}
 use Rattle.ascend_top.proofs.Shown.{shows_any, shows_file, shows_longer}
 use Rattle.asc_base.specs.Settings.{AreAllowed, IsFirstFault as IsFirstSetting, config_of}
 use Rattle.asc_base.specs.declared.settings.Setting.{Setting}

@@ -1,7 +1,7 @@
 use Rattle.ascend_top.proofs.StepLaws.{read_done}
 use Rattle.ascend_top.specs.declared.refusal.Source.TheVariants.{Text as TextFile}
 use Rattle.rv32_asm.specs.File.{assembled}
-use Rattle.std.proofs.Common.{◌≡◌, List, ℕ, Ok, IsOk, refl, subst, sym}
+use Rattle.std.proofs.Common.{IsOk, refl, subst, sym}
 use Rattle.ascend_top.specs.Steps.{AText}
 use Rattle.ascend_top.proofs.steps.read_text.Goals as goal
 

@@ -1,4 +1,3 @@
-use Rattle.ascend_top.specs.FlatRun.{Report}
 use Rattle.ascend_top.specs.Parts.{program_report}
 use Rattle.ascend_top.specs.Command.{run_end}
 use Rattle.ascend_top.proofs.RunLaws.{flat_ends}

@@ -1,6 +1,5 @@
-use Rattle.std.proofs.Common.{◌≡◌, List, ℕ, Result, Ok, Err, IfOk, OnOk, refl, sym, subst}
+use Rattle.std.proofs.Common.{◌≡◌, Result, Ok, Err, IfOk, OnOk, refl, subst}
 use Rattle.std.proofs.lemmas.Result.{IfOk-weaker}
-use Rattle.asc_outside.specs.Host.{Files}
 use Rattle.ascend_top.specs.Flat.{input_steps}
 use Rattle.ascend_top.specs.FlatRun.{input_as}
 use Rattle.ascend_top.specs.Parts.{WasRead}

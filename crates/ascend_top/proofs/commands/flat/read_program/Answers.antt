@@ -1,5 +1,4 @@
 use Rattle.std.proofs.Common.{◌≡◌, sym, subst}
-use Rattle.asc_outside.specs.Host.{Files}
 use Rattle.ascend_words.specs.Settings.{text_in}
 use Rattle.ascend_words.specs.declared.table.Name.TheVariants.{Input}
 use Rattle.ascend_top.specs.FlatRun.{bytes_in, input_in}

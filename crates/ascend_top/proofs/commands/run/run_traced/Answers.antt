@@ -1,4 +1,4 @@
-use Rattle.std.proofs.Common.{inl, inr}
+use Rattle.std.proofs.Common.{inr}
 use Rattle.ascend_top.proofs.commands.run.run_traced.Goals as goal
 
 pub returns-in-Err-trace-clause-wanting : goal.returns-in-Err-trace-clause-wanting
