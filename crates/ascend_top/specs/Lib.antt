@@ -15,3 +15,4 @@ pub mod Run
 pub mod Status
 pub mod Steps
 pub mod Texts
+pub mod Instance

@@ -1,23 +1,29 @@
 //! Laws of the crates below, taken together, and of what a run leaves. The calls do nothing.
 
-ghost use Rattle.std.specs.Prelude.{◌≡◌, ℕ, List, [], ◌∷◌, Option, Some, IsSome};
+ghost use Rattle.std.specs.Prelude.{◌≡◌, ◌≤◌, ℕ, List, [], ◌∷◌, Option, Some, IsSome};
+ghost use Rattle.asc_base.specs.Settings.{config_of};
 ghost use Rattle.asc_outside.specs.Host.{Files, HostState};
 ghost use Rattle.asc_outside.specs.Rose.{Rose};
+ghost use Rattle.bus_schedule.specs.Timetable.{public_of};
 ghost use Rattle.elf_loader.specs.Elf.{entry_of};
 ghost use Rattle.elf_loader.specs.Faults.{IsFaultless};
 ghost use Rattle.elf_loader.specs.Layout.{image_bytes};
 ghost use Rattle.play_run.specs.Shows.{IsWholePlay};
+ghost use Rattle.run_play.specs.Slots.{first_pace};
 ghost use Rattle.rv32_asm.specs.File.{file_of};
 ghost use Rattle.secure_machine.specs.Full.{NoSlotIsFull};
 ghost use Rattle.secure_machine.specs.Plays.{play_report};
-ghost use Rattle.ascend_words.specs.Grammar.{Pair};
-ghost use Rattle.ascend_words.specs.Settings.{text_in};
+ghost use Rattle.ascend_words.specs.Grammar.{IsWords, Pair};
+ghost use Rattle.ascend_words.specs.Settings.{settings_of, text_in};
 ghost use Rattle.ascend_words.specs.declared.table.Command.{Command};
 ghost use Rattle.ascend_words.specs.declared.table.Name.TheVariants.{Output, Trace};
 ghost use Rattle.ascend_top.specs.Assembled.{IsInside, memory_of};
+ghost use Rattle.ascend_top.specs.Command.{AreRight};
+ghost use Rattle.ascend_top.specs.Complete.{HasRoom};
 ghost use Rattle.ascend_top.specs.FlatRun.{file_in};
 ghost use Rattle.ascend_top.specs.EncryptedRun.{Lent, keys_from};
-ghost use Rattle.ascend_top.specs.Headline.{program_play};
+ghost use Rattle.ascend_top.specs.Headline.{RunsEncrypted, program_play};
+ghost use Rattle.ascend_top.specs.Instance.{HaveKey, short_read, short_words};
 ghost use Rattle.ascend_top.specs.Run.{IsRun, run_report_steps};
 ghost use Rattle.ascend_top.specs.Steps.{AllDone, PrintsMore};
 ghost use Rattle.ascend_top.specs.Texts.{run_text};
@@ -62,4 +68,16 @@ pub fn reported_runs_leave_their_files()
     ensures printed { (given : List Pair) (run : EncryptedRun) (old new : HostState)
         → AllDone (run_report_steps given run) old new
         → PrintsMore old.printed (run_text run.report run.altered) new.printed }
+{}
+
+/// The premises of completeness can be met. Where the first slot of a run would start at or after the time of its
+/// settings, no slot finds too many blocks.
+pub fn completeness_can_be_met()
+    ensures late { (command : Command) (given : List Pair) (files : Files)
+        → (let config = config_of (settings_of given) in
+        config.time ≤ (first_pace (public_of config)).beat.next) → HasRoom command given files }
+    ensures read { IsWords short_words short_read }
+    ensures encrypted { RunsEncrypted short_read.command }
+    ensures right { (files : Files) → HaveKey files → AreRight short_read files }
+    ensures room { (files : Files) → HasRoom short_read.command short_read.given files }
 {}
