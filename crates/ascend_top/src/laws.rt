@@ -42,9 +42,9 @@ pub fn assembled_files_are_accepted()
     ensures one { IsInside 0 1_048_576 4_096 (115 ∷ 0 ∷ 0 ∷ 0 ∷ []) }
 {}
 
-/// A run over a memory that told its buckets and didn't fail, and no slot of whose Play finds too many blocks to keep, is
-/// the whole Play of its program: its report is the Play's, and the log's events are those of the Play's slots, one by
-/// one. So its status is 0, 1, 8 or 9, as the Play ends.
+/// A run over a memory that told its buckets and didn't fail, and no slot of whose Play finds too many blocks to keep,
+/// is the whole Play of its program: its report is the Play's, and the log's events are those of the Play's slots, one
+/// by one. So its status is 0, 1, 8 or 9, as the Play ends.
 pub fn runs_over_honest_memory_are_plays()
     ensures { (command : Command) (given : List Pair) (told : Option Files) (lent : Lent) (run : EncryptedRun)
         → (ran : IsRun command given told lent run) → IsSome lent.memory.told
@@ -71,7 +71,10 @@ pub fn reported_runs_leave_their_files()
 {}
 
 /// The premises of completeness can be met. Where the first slot of a run would start at or after the time of its
-/// settings, no slot finds too many blocks.
+/// settings, no slot finds too many blocks. The words `gen seed=0 words=1 key=k output=o time=16384` are read, and are a
+/// command that runs over encrypted memory; over any files of which `k` has the length of a key nothing is refused
+/// before the run; and no slot of its Play finds too many blocks. [`crate::outside_with_key`] makes such files, with a
+/// memory and a tap.
 pub fn completeness_can_be_met()
     ensures late { (command : Command) (given : List Pair) (files : Files)
         → (let config = config_of (settings_of given) in

@@ -171,9 +171,7 @@ fn nothing_runs_where_the_program_is_not_saved(rt: HostRuntime) -> Result<(), Fa
 #[test]
 fn words_that_meet_the_premises_of_completeness_run(rt: HostRuntime) -> Result<(), Fail> {
     let alloc = rt.alloc();
-    let Ok(mut outside) = outside_with_key(alloc, &[7; 32]) else {
-        return Ok(());
-    };
+    let mut outside = outside_with_key(alloc, &[7; 32])?;
     compare_over(
         &rt,
         alloc,
