@@ -11,3 +11,4 @@ pub mod StepLaws
 pub mod TraceLaws
 pub mod HeadlineLaws
 pub mod PlayLaws
+pub mod Instances

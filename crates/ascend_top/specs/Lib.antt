@@ -17,3 +17,4 @@ pub mod Run
 pub mod Status
 pub mod Steps
 pub mod Texts
+pub mod Instance

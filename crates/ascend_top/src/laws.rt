@@ -1,23 +1,29 @@
 //! Laws of the crates below, taken together, and of what a run leaves. The calls do nothing.
 
-ghost use Rattle.std.specs.Prelude.{◌≡◌, ◌<◌, ℕ, List, [], ◌∷◌, Option, Some, IsSome};
+ghost use Rattle.std.specs.Prelude.{◌≡◌, ◌<◌, ◌≤◌, ℕ, List, [], ◌∷◌, Option, Some, IsSome};
+ghost use Rattle.asc_base.specs.Settings.{config_of};
 ghost use Rattle.asc_outside.specs.Host.{Files, HostState};
+ghost use Rattle.bus_schedule.specs.Timetable.{public_of};
 ghost use Rattle.elf_loader.specs.Elf.{entry_of};
 ghost use Rattle.elf_loader.specs.Faults.{IsFaultless};
 ghost use Rattle.elf_loader.specs.Layout.{image_bytes};
 ghost use Rattle.play_run.specs.Shows.{IsWholePlay};
+ghost use Rattle.run_play.specs.Slots.{first_pace};
 ghost use Rattle.rv32_asm.specs.File.{file_of};
 ghost use Rattle.secure_machine.specs.Full.{NoSlotIsFull};
 ghost use Rattle.secure_machine.specs.Plays.{play_report};
-ghost use Rattle.ascend_words.specs.Grammar.{Pair};
-ghost use Rattle.ascend_words.specs.Settings.{text_in};
+ghost use Rattle.ascend_words.specs.Grammar.{IsWords, Pair};
+ghost use Rattle.ascend_words.specs.Settings.{settings_of, text_in};
 ghost use Rattle.ascend_words.specs.declared.table.Command.{Command};
 ghost use Rattle.ascend_words.specs.declared.table.Name.TheVariants.{Output, Trace};
 ghost use Rattle.ascend_top.specs.Assembled.{IsInside, memory_of};
+ghost use Rattle.ascend_top.specs.Command.{AreRight};
+ghost use Rattle.ascend_top.specs.Complete.{HasRoom};
 ghost use Rattle.ascend_top.specs.FlatRun.{file_in};
 ghost use Rattle.ascend_top.specs.EncryptedRun.{keys_from};
+ghost use Rattle.ascend_top.specs.Headline.{RunsEncrypted, program_play};
+ghost use Rattle.ascend_top.specs.Instance.{HaveKey, short_read, short_words};
 ghost use Rattle.ascend_top.specs.Lent.{Lent};
-ghost use Rattle.ascend_top.specs.Headline.{program_play};
 ghost use Rattle.ascend_top.specs.Run.{IsRun, run_report_steps};
 ghost use Rattle.ascend_top.specs.Steps.{AllDone, PrintsMore};
 ghost use Rattle.ascend_top.specs.Texts.{run_text};
@@ -36,9 +42,9 @@ pub fn assembled_files_are_accepted()
     ensures one { IsInside 0 1_048_576 4_096 (115 ∷ 0 ∷ 0 ∷ 0 ∷ []) }
 {}
 
-/// A run over a memory that told its buckets and didn't fail, and no slot of whose Play finds too many blocks to keep, is
-/// the whole Play of its program: its report is the Play's, and the log's events are those of the Play's slots, one by
-/// one. So its status is 0, 1, 8 or 9, as the Play ends.
+/// A run over a memory that told its buckets and didn't fail, and no slot of whose Play finds too many blocks to keep,
+/// is the whole Play of its program: its report is the Play's, and the log's events are those of the Play's slots, one
+/// by one. So its status is 0, 1, 8 or 9, as the Play ends.
 pub fn runs_over_honest_memory_are_plays()
     ensures { (command : Command) (given : List Pair) (told : Option Files) (lent : Lent) (run : EncryptedRun)
         → (ran : IsRun command given told lent run) → IsSome lent.memory.told
@@ -62,4 +68,19 @@ pub fn reported_runs_leave_their_files()
     ensures printed { (given : List Pair) (run : EncryptedRun) (old new : HostState)
         → AllDone (run_report_steps given run) old new
         → PrintsMore old.printed (run_text run.report run.altered) new.printed }
+{}
+
+/// The premises of completeness can be met. Where the first slot of a run would start at or after the time of its
+/// settings, no slot finds too many blocks. The words `gen seed=0 words=1 key=k output=o time=16384` are read, and are a
+/// command that runs over encrypted memory; over any files of which `k` has the length of a key nothing is refused
+/// before the run; and no slot of its Play finds too many blocks. [`crate::outside_with_key`] makes such files, with a
+/// memory and a tap.
+pub fn completeness_can_be_met()
+    ensures late { (command : Command) (given : List Pair) (files : Files)
+        → (let config = config_of (settings_of given) in
+        config.time ≤ (first_pace (public_of config)).beat.next) → HasRoom command given files }
+    ensures read { IsWords short_words short_read }
+    ensures encrypted { RunsEncrypted short_read.command }
+    ensures right { (files : Files) → HaveKey files → AreRight short_read files }
+    ensures room { (files : Files) → HasRoom short_read.command short_read.given files }
 {}

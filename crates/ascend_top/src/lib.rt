@@ -6,6 +6,7 @@
 #![tactic(auto)]
 
 mod commands;
+mod instance;
 mod laws;
 mod listing;
 mod refusal;
@@ -36,8 +37,9 @@ use crate::refusal::Refusal;
 use asc_outside::{Host, HostFault, UntrustedMemory};
 use ascend_words::{Command, WordFault, Words, read_words};
 use bus_watch::Recorder;
+pub use instance::{Outside, outside_with_key};
 pub use laws::{
-    assembled_files_are_accepted, reported_runs_leave_their_files,
+    assembled_files_are_accepted, completeness_can_be_met, reported_runs_leave_their_files,
     runs_over_honest_memory_are_plays,
 };
 pub use status::{HOST_FAILED, NO_MEMORY};

@@ -19,3 +19,4 @@ pub mod PlaysOnTime
 pub mod IsPaced
 pub mod Jumps
 pub mod Defaults
+pub mod NoSlots

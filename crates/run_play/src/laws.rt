@@ -269,3 +269,10 @@ pub fn plays_are_scheduled()
     ensures log { (events : List Event) (slots : List Slot) → said_of_all events ≡ play_events slots
         → (starts_of events ≡ starts_in slots) × (indices_of events ≡ indices_in slots) }
 {}
+
+/// Where the first slot would start at or after the time of the settings, a play has no slot.
+pub fn plays_without_time_have_no_slots()
+    ensures { (config : Config) (memory marked : List ℕ) (machine : Machine)
+        → config.time ≤ (first_pace (public_of config)).beat.next
+        → (play_of config memory marked machine).slots ≡ [] }
+{}

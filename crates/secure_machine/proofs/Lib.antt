@@ -24,3 +24,4 @@ pub mod SpentRuns
 pub mod SpentReports
 pub mod Full
 pub mod HomeEnds
+pub mod Roomy

@@ -14,7 +14,7 @@ mod machine;
 mod report;
 mod store;
 
-pub use laws::requests_keep_pace;
+pub use laws::{plays_without_slots_have_room, requests_keep_pace};
 pub use lines::{Stopped, TimedLines};
 pub use report::{Ending, Report};
 

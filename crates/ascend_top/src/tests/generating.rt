@@ -167,3 +167,20 @@ fn nothing_runs_where_the_program_is_not_saved(rt: HostRuntime) -> Result<(), Fa
     assert!(rt; tap.log().moves.is_empty());
     Ok(())
 }
+
+#[test]
+fn words_that_meet_the_premises_of_completeness_run(rt: HostRuntime) -> Result<(), Fail> {
+    let alloc = rt.alloc();
+    let mut outside = outside_with_key(alloc, &[7; 32])?;
+    compare_over(
+        &rt,
+        alloc,
+        "gen seed=0 words=1 key=k output=o time=16384",
+        &mut outside.host,
+        &mut outside.memory,
+        &mut outside.tap,
+        0,
+        report(alloc, "exit 0", [29, 57, 57, 0, 0, 0, 0, 0, 0])?.as_str(),
+        Some(OUTPUT),
+    )
+}

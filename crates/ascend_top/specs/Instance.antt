@@ -1,0 +1,25 @@
+-- Words of which the premises of completeness hold, over any files that have their key.
+use Rattle.std.specs.Prelude.{◌≡◌, ℕ, List, [], ◌∷◌, length, codes, Some}
+use Rattle.asc_outside.specs.Host.{Files}
+use Rattle.ascend_words.specs.Grammar.{Read}
+use Rattle.ascend_words.specs.declared.table.Command.TheVariants.{Gen}
+use Rattle.ascend_words.specs.declared.table.Name.TheVariants.{Key, Output, Seed, Time, Words}
+use Rattle.ascend_top.specs.Steps.{key_length}
+
+-- a program of one data word, which has the cycles before the first slot starts
+abbrev pub short_words : List (List ℕ)
+short_words =
+    codes "gen" ∷ codes "seed=0" ∷ codes "words=1" ∷ codes "key=k" ∷ codes "output=o" ∷ codes "time=16384" ∷ []
+
+-- what they are read as
+abbrev pub short_read : Read
+short_read = record {
+  command = Gen;
+  given = record { name = Seed; value = codes "0" } ∷ record { name = Words; value = codes "1" }
+      ∷ record { name = Key; value = codes "k" } ∷ record { name = Output; value = codes "o" }
+      ∷ record { name = Time; value = codes "16384" } ∷ [];
+}
+
+-- the file that they name for the key has the length of one
+abbrev pub HaveKey : Files → Type 0
+HaveKey files = (bytes : List ℕ) × (files (codes "k") ≡ Some bytes) × (length bytes ≡ key_length)
