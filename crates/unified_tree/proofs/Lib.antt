@@ -3,3 +3,4 @@ pub mod ReadLaws
 pub mod Replies
 pub mod Slots
 pub mod Written
+pub mod Silent

@@ -1,6 +1,6 @@
 //! A whole slot made of a path's read and its write: how the contracts of the two compose.
 
-ghost use Rattle.std.specs.Prelude.{◌≡◌, ◌<◌, ◌≤◌, ◌+◌, ◌*◌, ◌^◌, ◌∷◌, [], None, length, OnOk};
+ghost use Rattle.std.specs.Prelude.{◌≡◌, ◌<◌, ◌≤◌, ◌+◌, ◌*◌, ◌^◌, ◌∷◌, [], None, length, OnOk, ◌++◌};
 ghost use Rattle.asc_base.specs.declared.block.Point.TheVariants.{Dummy};
 ghost use Rattle.bus_watch.specs.Made.{Ran};
 ghost use Rattle.bus_watch.specs.Path.{slot_moves};
@@ -21,7 +21,8 @@ use asc_outside::UntrustedMemory;
 use bus_watch::{Bus, Event, Watch};
 
 /// The slot of the dummy of a number, which starts at a time, in cycles, and takes nothing out and puts nothing back.
-/// Its start and its leaf are noted first. It is refused where the path's read or its write is.
+/// Its start and its leaf are noted first, on every answer, and nothing else is. It is refused where the path's read or
+/// its write is.
 pub fn pass_by<M: UntrustedMemory, W: Watch>(
     tree: &mut Tree,
     bus: &mut Bus<'_, M, W>,
@@ -50,6 +51,8 @@ pub fn pass_by<M: UntrustedMemory, W: Watch>(
         → Sound keys (W.state bus.old.tap.now).log g (contents_of tree.old (W.state bus.old.tap.now))
         → Always keys (W.state bus.new.tap.now).log (contents_of tree.new (W.state bus.new.tap.now))
         × Sound keys (W.state bus.new.tap.now).log (passed g) (contents_of tree.new (W.state bus.new.tap.now))) }
+    ensures noted { (W.state bus.new.tap.now).log.events
+        ≡ (W.state bus.old.tap.now).log.events ++ (Access start None ∷ Drawn (Dummy number) leaf ∷ []) }
     ensures kept { IsSameTree tree.old tree.new }
     ensures path { OnOk result (tree.new.path ≡ None) }
 {
