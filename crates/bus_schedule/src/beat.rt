@@ -6,6 +6,7 @@ ghost use Rattle.bus_schedule.specs.Timetable.{Public, most_of, rate_at, falls, 
 ghost use Rattle.bus_schedule.specs.Timing.{IsTimingOf};
 
 use crate::{epoch_of, slot_after};
+use asc_base::{MOVE_CYCLES, TURN_CYCLES};
 
 /// Where a timetable stands between two slots.
 #[derive(Clone, Copy, Debug, PartialEq, Eq)]
@@ -58,7 +59,7 @@ fn end_of(beat: &Beat, timing: &Timing) -> u64
     ensures end { result ≡ beat.now.next + olat_of timing.now.levels }
     ensures time { result < 2 ^ 40 }
 {
-    beat.next + 2 * (u64::from(timing.levels) + 1) * 40 + 16
+    beat.next + 2 * (u64::from(timing.levels) + 1) * MOVE_CYCLES + TURN_CYCLES
 }
 
 /// Whether a choice falls at the end of the slot that is next, which starts before 2^39.

@@ -29,7 +29,7 @@ ghost use Rattle.oram_contents.specs.Groups.{IsGroupOf, AreCounters, AreSmall, m
 ghost use Rattle.oram_contents.specs.Home.{Home, AreInForm, flying};
 ghost use Rattle.oram_contents.specs.Fold.{Fold, IsCut, LogEnd, Whole, with_entry, is_open_for, fold_events, whole};
 ghost use Rattle.oram_contents.specs.Fold.{contents_of_log};
-ghost use Rattle.bus_watch.specs.Path.{along, reads, reads_end, slot_moves};
+ghost use Rattle.bus_watch.specs.Path.{along, reads, writes_start, slot_moves};
 ghost use Rattle.oram_contents.specs.PathWritten.{sealed};
 ghost use Rattle.oram_stash.specs.Entries.{held};
 ghost use Rattle.oram_contents.specs.Shapes.{AreOfShape};
@@ -269,7 +269,7 @@ pub fn ends_show_contents()
     ensures write { (keys : Keys) (first : Fold) (log : LogLists) (before : List Move) (end : LogEnd)
         (start level : ℕ) (p : Point) (leaf : ℕ) → IsCut end → level ≤ keys.shape.levels
         → log.moves ≡ before ++ (reads keys.shape.levels start leaf
-        ++ along keys.shape.levels true (reads_end keys.shape.levels start + 16) leaf (level + 1))
+        ++ along keys.shape.levels true (writes_start keys.shape.levels start) leaf (level + 1))
         → (fold_events keys log.altered 0 log.events first).path ≡ Some (p, leaf)
         → (contents_of_log keys first log end).mirror
         ≡ sealed keys.pads keys.shape.levels leaf (fold_events keys log.altered 0 log.events first).now.seed
