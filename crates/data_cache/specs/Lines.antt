@@ -1,7 +1,8 @@
 -- What is asked of a store of lines, what is told of it, and a store that is one list of lines.
 use Rattle.std.proofs.Common.{refl, ap, sym, ◌∙◌, length-set}
-use Rattle.std.specs.Prelude.{◌≡◌, ℕ, ◌<◌, List, [], Option, Some, Result, Ok, Err, All, length, slice_index_or}
+use Rattle.std.specs.Prelude.{◌≡◌, ℕ, List, [], Option, Some, Result, Ok, Err, length, slice_index_or}
 use Rattle.std.specs.Prelude.{slice_get, slice_set}
+use Rattle.asc_base.specs.Bytes.{AreBytes}
 
 -- A fetch of a line, which is answered by its bytes; a store of a line's bytes, which is answered by none.
 pub data LineRequest : Type 0 where
@@ -10,7 +11,7 @@ pub data LineRequest : Type 0 where
 
 -- the 64 bytes of a line
 abbrev pub IsLine : List ℕ → Type 0
-IsLine bytes = (length bytes ≡ 64) × All (λ b. b < 256) bytes
+IsLine bytes = (length bytes ≡ 64) × AreBytes bytes
 
 -- A fetch is answered by a line, and a store by nothing.
 abbrev pub IsLineAnswer : LineRequest → List ℕ → Type 0

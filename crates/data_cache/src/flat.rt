@@ -1,6 +1,7 @@
 //! Lines in one vector.
 
-ghost use Rattle.std.specs.Prelude.{◌≡◌, ℕ, ◌<◌, ◌≤◌, ◌+◌, ◌*◌, List, All, IfOk, length, map};
+ghost use Rattle.std.specs.Prelude.{◌≡◌, ℕ, ◌<◌, ◌≤◌, ◌+◌, ◌*◌, List, IfOk, length, map};
+ghost use Rattle.asc_base.specs.Bytes.{AreBytes};
 ghost use Rattle.asc_base.specs.declared.block.Line.{Line};
 ghost use Rattle.data_cache.specs.Lines.{FlatStep, FlatStep-length, FlatStep-answers, FlatStep-told, FlatStep-fetch};
 ghost use Rattle.data_cache.specs.Lines.{FlatStep-store};
@@ -49,7 +50,7 @@ impl FlatLines {
 fn whole(bytes: &[u8]) -> Line
     requires { length bytes.now ≡ 64 }
     ensures bytes { result.0 ≡ bytes.now }
-    ensures low { All (λ b. b < 256) result.0 }
+    ensures low { AreBytes result.0 }
 {
     let mut line = [0; 64];
     line.copy_from_slice(bytes);

@@ -1,8 +1,9 @@
 -- What a machine asks of its bytes, what is told of them, and bytes that are one list.
 use Rattle.std.proofs.Common.{refl, ap, sym, ◌∙◌, arith}
 use Rattle.std.proofs.lemmas.Grind.{common_steps}
-use Rattle.std.specs.Prelude.{◌≡◌, ℕ, ◌+◌, ◌-◌, ◌%◌, ◌<◌, ◌≤◌, List, [], ◌++◌, Option, Some, Result, Ok, Err, All, take}
+use Rattle.std.specs.Prelude.{◌≡◌, ℕ, ◌+◌, ◌-◌, ◌%◌, ◌≤◌, List, [], ◌++◌, Option, Some, Result, Ok, Err, take}
 use Rattle.std.specs.Prelude.{drop, length}
+use Rattle.asc_base.specs.Bytes.{AreBytes}
 
 -- A load of so many bytes from an address on, which is answered by them; a store of bytes, which is answered by none.
 pub data Access : Type 0 where
@@ -22,7 +23,7 @@ IsAccess base size (Store address bytes) = IsInLine base size address (length by
 
 -- A load is answered by as many bytes as it asks for, and a store by none.
 abbrev pub IsAnswer : Access → List ℕ → Type 0
-IsAnswer (Load address count) bytes = (length bytes ≡ count) × All (λ b. b < 256) bytes
+IsAnswer (Load address count) bytes = (length bytes ≡ count) × AreBytes bytes
 IsAnswer (Store address stored) bytes = bytes ≡ []
 
 -- so many bytes from an offset on
