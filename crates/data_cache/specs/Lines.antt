@@ -1,6 +1,6 @@
 -- What is asked of a store of lines, what is told of it, and a store that is one list of lines.
 use Rattle.std.proofs.Common.{refl, ap, sym, ◌∙◌, length-set}
-use Rattle.std.specs.Prelude.{◌≡◌, ℕ, ◌<◌, List, [], Option, Some, Result, Ok, Err, All, length, slice_index_or}
+use Rattle.std.specs.Prelude.{◌≡◌, ℕ, List, [], Option, Some, Result, Ok, Err, length, slice_index_or}
 use Rattle.std.specs.Prelude.{slice_get, slice_set}
 use Rattle.asc_base.specs.Bytes.{AreBytes}
 

@@ -7,3 +7,4 @@ pub mod Told
 pub mod Courses
 pub mod Plays
 pub mod PressLaws
+pub mod DeskLaws

@@ -1,8 +1,8 @@
--- A worked example: a press that prints sheets until it jams, which is for good, and a folder over it.
+-- A worked example: a press that prints sheets until it jams, which is for good, and a folder and a desk over it.
 use Rattle.std.specs.Prelude.{◌≡◌, ◌⊎◌, ℕ, zero, suc, ◌+◌, ◌-◌, ◌*◌, ◌<◌, nat_le, Bool, true, false, if◌then◌else◌}
 use Rattle.std.specs.Prelude.{List, [], ◌∷◌, ◌++◌, Option, Some, None, Result, Ok, Err}
 use Rattle.std.specs.List.{flat_map}
-use Rattle.request_plan.specs.Plan.{Plan, Done, Ask, Ends, Stops, Reply, Refuses, Gives}
+use Rattle.request_plan.specs.Plan.{Plan, Done, Ask, Ends, Stops, Reply, Refuses, Gives, ComesTo}
 use Rattle.request_plan.specs.Play.{Turn}
 use Rattle.request_plan.specs.Course.{Source, Noted}
 use Rattle.request_plan.specs.declared.press.Halted.{Halted}
@@ -118,3 +118,45 @@ abbrev pub sheets_plan : ℕ → Plan (Unit {0}) ℕ ℕ ℕ
 sheets_plan zero = Done 0
 sheets_plan (suc zero) = Ask tt 1 (λ number. Done number)
 sheets_plan (suc (suc n)) = Ask tt (suc (suc n)) (λ number. sheets_plan (suc n))
+
+-- Such a request, one by one: it comes to what its plan comes to.
+abbrev pub HandsUpTo : ℕ → PressState → Unit {0} → Result ℕ Halted → PressState → Type 0
+HandsUpTo most old q answer new = ComesTo Prints (hand_out most q) old answer new
+
+-- A desk: its press, and how many sheets it may still hand out.
+pub record DeskState : Type 0 where
+  pub press : PressState
+  pub left : ℕ
+
+-- its press hasn't jammed
+abbrev pub HasSoundPress : DeskState → Type 0
+HasSoundPress d = IsSound d.press
+
+-- A request at a desk: it is refused where none is left to hand out; else a sheet is printed and handed out.
+abbrev pub desk_plan : ℕ → Unit {0} → Plan (Unit {0}) ℕ (Unit {0}) (Reply Halted ℕ ℕ)
+desk_plan zero q = Done (Refuses NoPaper)
+desk_plan (suc left) q = Ask tt tt (λ number. Done (Gives left number))
+
+-- A step of a desk. A sheet that was handed out is one less to hand out. Where none is left the press isn't asked.
+abbrev pub HandsOut : DeskState → Unit {0} → Result ℕ Halted → DeskState → Type 0
+HandsOut old q (Ok number) new =
+    (0 < old.left) × Prints old.press q (Ok number) new.press × (new.left ≡ old.left - 1)
+HandsOut old q (Err stop) new =
+    (new.left ≡ old.left)
+    × (((old.left ≡ 0) × (stop ≡ NoPaper) × (new.press ≡ old.press))
+    ⊎ ((0 < old.left) × Prints old.press q (Err stop) new.press))
+
+-- The plan asks for so many sheets, whatever their numbers are, and leaves as many as were still to come.
+abbrev pub AsksFor : ℕ → Plan (Unit {0}) ℕ ℕ ℕ → Type 0
+AsksFor zero (Done a) = Unit {0}
+AsksFor zero (Ask q b k) = ⊥
+AsksFor (suc n) (Done a) = ⊥
+AsksFor (suc n) (Ask q b k) = (b ≡ suc n) × ((x : ℕ) → AsksFor n (k x))
+
+-- the plan asks for as many sheets as the desk may still hand out
+abbrev pub AsksForRest : DeskState → Plan (Unit {0}) ℕ ℕ ℕ → Type 0
+AsksForRest d plan = AsksFor d.left plan
+
+-- as many are left to ask for as the desk may still hand out
+abbrev pub IsRest : DeskState → Halted → ℕ → Type 0
+IsRest d stop left = left ≡ d.left

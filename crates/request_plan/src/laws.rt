@@ -1,6 +1,6 @@
 //! The laws of chains of steps that follow plans. The calls do nothing.
 
-ghost use Rattle.std.specs.Prelude.{◌≡◌, ◌⊎◌, suc, Bool, true, false, List, [], ◌∷◌, ◌++◌, length, Option, Some};
+ghost use Rattle.std.specs.Prelude.{◌≡◌, ◌⊎◌, ℕ, suc, Bool, true, false, List, [], ◌∷◌, ◌++◌, length, Option, Some};
 ghost use Rattle.std.specs.Prelude.{Result, Ok, Err};
 ghost use Rattle.std.specs.List.{flat_map};
 ghost use Rattle.request_plan.specs.Plan.{Plan, Done, Ends, Stops, bind, through, Reply, caught, Refused, Ended, Asks};
@@ -17,6 +17,9 @@ ghost use Rattle.request_plan.specs.Press.{IsFirstPage};
 ghost use Rattle.request_plan.specs.Press.{IsJam, IsOut, shift, IsLike, IsEmpty, told_sheets, count_sheet, numbers};
 ghost use Rattle.request_plan.specs.Press.{FolderState};
 ghost use Rattle.request_plan.specs.Press.{leaflet_plan, Folds, sheets_plan, with_sheet, hand_out};
+ghost use Rattle.request_plan.specs.Press.{HandsUpTo, DeskState, HasSoundPress, desk_plan, HandsOut};
+ghost use Rattle.request_plan.specs.Press.{AsksForRest, IsRest};
+ghost use Rattle.request_plan.specs.declared.press.Halted.{Halted};
 ghost use Rattle.request_plan.specs.declared.press.Halted.TheVariants.{NoPaper, Jammed};
 
 use crate::{Follows, Guarded, Kept, Knows, Says, Stepped};
@@ -260,4 +263,50 @@ pub fn press_meets_the_laws()
         ≡ flat_map pages_of (bare ((play shift (sheets_plan 3) (0, 2)).records)) }
     ensures handed { ComesTo Prints (hand_out 1 tt) (loaded 3 2) (Ok 1) (with_sheet (loaded 3 2)) }
     ensures refused { ComesTo Prints (hand_out 0 tt) (loaded 3 2) (Err NoPaper) (with_sheet (loaded 3 2)) }
+{}
+
+/// The desk meets what the laws of a layer that may refuse ask, and what those of what is carried along ask, from
+/// where its press hasn't jammed. Two sheets of two are handed out; the third of two is refused, and the third of
+/// three jams: each is a chain of the desk, and so one of its plans over the press. Where a plan asks for as many
+/// sheets as are left, none is left at its end, and at a stop as many as the plan leaves. The same three chains, where
+/// a request is one that comes to what its plan comes to.
+pub fn desk_meets_the_laws()
+    ensures keeps { AnswersKeep HandsOut HasSoundPress }
+    ensures gives { GivesBelow Prints (Within HasSoundPress HandsOut)
+        (λ (d : DeskState). d.press) (λ (d : DeskState). d.left) desk_plan }
+    ensures refuses { RefusesBelow Prints (Within HasSoundPress HandsOut)
+        (λ (d : DeskState). d.press) (λ (d : DeskState). d.left) (λ (d : DeskState). tt)
+        (λ (stop : Halted). stop) (λ (stop : Halted). stop) desk_plan }
+    ensures carries { AnswersCarry HandsOut AsksForRest }
+    ensures stops_carry { StopsCarry HandsOut AsksForRest IsRest }
+    ensures two_handed { Ends HandsOut (sheets_plan 2) (record { press = loaded 3 9; left = 2 })
+        (record { press = record { sheets = 2; paper = 1; sound = 7; jammed = false }; left = 0 }) 2 }
+    ensures two_handed_below { Ends Prints (caught desk_plan (sheets_plan 2) 2) (loaded 3 9)
+        (record { sheets = 2; paper = 1; sound = 7; jammed = false }) (Ended 0 2) }
+    ensures third_refused { Stops HandsOut (sheets_plan 3) (record { press = loaded 3 9; left = 2 })
+        (record { press = record { sheets = 2; paper = 1; sound = 7; jammed = false }; left = 0 }) NoPaper 1 }
+    ensures third_refused_below { Ends Prints (caught desk_plan (sheets_plan 3) 2) (loaded 3 9)
+        (record { sheets = 2; paper = 1; sound = 7; jammed = false }) (Refused NoPaper 1) }
+    ensures third_jams { Stops HandsOut (sheets_plan 3) (record { press = loaded 3 2; left = 3 })
+        (record { press = record { sheets = 2; paper = 1; sound = 0; jammed = true }; left = 1 }) Jammed 1 }
+    ensures third_jams_below { Stops Prints (caught desk_plan (sheets_plan 3) 3) (loaded 3 2)
+        (record { sheets = 2; paper = 1; sound = 0; jammed = true }) Jammed (tt, 1) }
+    ensures rest_at_end { (start end : DeskState) (last : ℕ)
+        → Ends HandsOut (sheets_plan start.left) start end last → end.left ≡ 0 }
+    ensures rest_at_stop { (start end : DeskState) (stop : Halted) (left : ℕ)
+        → Stops HandsOut (sheets_plan start.left) start end stop left → left ≡ end.left }
+    ensures by_plans { Ends (HandsUpTo 2) (sheets_plan 2) (loaded 3 9)
+        (record { sheets = 2; paper = 1; sound = 7; jammed = false }) 2 }
+    ensures by_plans_below { Ends Prints (caught (λ (held : Unit {0}) (q : Unit {0}). hand_out 2 q) (sheets_plan 2) tt)
+        (loaded 3 9) (record { sheets = 2; paper = 1; sound = 7; jammed = false }) (Ended tt 2) }
+    ensures refused_by_plans { Stops (HandsUpTo 2) (sheets_plan 3) (loaded 3 9)
+        (record { sheets = 3; paper = 0; sound = 6; jammed = false }) NoPaper 1 }
+    ensures refused_by_plans_below { Ends Prints
+        (caught (λ (held : Unit {0}) (q : Unit {0}). hand_out 2 q) (sheets_plan 3) tt)
+        (loaded 3 9) (record { sheets = 3; paper = 0; sound = 6; jammed = false }) (Refused NoPaper 1) }
+    ensures jams_by_plans { Stops (HandsUpTo 9) (sheets_plan 3) (loaded 3 2)
+        (record { sheets = 2; paper = 1; sound = 0; jammed = true }) Jammed 1 }
+    ensures jams_by_plans_below { Stops Prints
+        (caught (λ (held : Unit {0}) (q : Unit {0}). hand_out 9 q) (sheets_plan 3) tt)
+        (loaded 3 2) (record { sheets = 2; paper = 1; sound = 0; jammed = true }) Jammed (tt, 1) }
 {}

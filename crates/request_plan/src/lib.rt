@@ -15,7 +15,7 @@
 //! - `specs/Course.antt` has a plan run on the answers that a value noted (`course`).
 //! - `specs/Laws.antt` says what single steps have to do for a law of whole chains.
 //! - `specs/Press.antt` and [`press`] are the worked example, which meets every law: a press that
-//!   jams for good, and a folder over it.
+//!   jams for good, and a folder and a desk over it.
 //!
 //! The functions below state the main laws, for every type whose calls are steps. Each takes an
 //! invariant `Holds` that answers keep, as 'not stopped', so that a value may answer its stop for
@@ -31,11 +31,11 @@ ghost use Rattle.std.specs.Prelude.{List, Result};
 ghost use Rattle.request_plan.specs.Plan.{Plan};
 
 pub use laws::{
-    carried_along, invariant_kept, noted_is_run, one_after_another, one_run_after_another,
-    outcomes_and_requests, play_or_cut, press_meets_the_laws, through_a_layer,
-    through_a_refusing_layer, told_is_served,
+    carried_along, desk_meets_the_laws, invariant_kept, noted_is_run, one_after_another,
+    one_run_after_another, outcomes_and_requests, play_or_cut, press_meets_the_laws,
+    through_a_layer, through_a_refusing_layer, told_is_served,
 };
-pub use press::{Folder, Halted, Press};
+pub use press::{Desk, Folder, Halted, Press};
 
 /// A value that is asked, and answers or is stopped.
 pub trait Stepped {

@@ -1,10 +1,10 @@
-//! A worked example: a press that prints sheets until it jams, which is for good, and a folder over it.
+//! A worked example: a press that prints sheets until it jams, which is for good, and a folder and a desk over it.
 
 ghost use Rattle.std.specs.Prelude.{◌≡◌, Ok, Err, IfOk, IfErr, OnErr, MatchResult};
 ghost use Rattle.request_plan.specs.Plan.{Ends, Stops};
-ghost use Rattle.request_plan.specs.Press.{Prints, loaded, leaflet_plan};
+ghost use Rattle.request_plan.specs.Press.{Prints, loaded, leaflet_plan, HandsOut};
 
-use crate::{Follows, Guarded, Kept, Stepped};
+use crate::{Follows, Guarded, Kept, Knows, Stepped};
 use std::marker::Model;
 
 /// Why no sheet was printed.
@@ -171,9 +171,74 @@ impl Stepped for Folder {
     ghost step = { Folds };
 }
 
+/// A desk over a press: it hands out so many sheets, and refuses each request after them.
+#[derive(Debug, Drop)]
+pub struct Desk {
+    press: Press,
+    left: u64,
+}
+
+impl Model for Desk {
+    ghost use Rattle.request_plan.specs.Press.{DeskState};
+
+    ghost Value = { DeskState };
+
+    ghost view = { λ d. record { press = d.press; left = d.left } };
+}
+
+impl Desk {
+    /// A desk over this press that may hand out so many sheets.
+    pub fn new(press: Press, left: u64) -> Desk
+        ensures { result ≡ record { press = press; left = left } }
+    {
+        Desk { press, left }
+    }
+
+    /// Hands out a sheet; its number. Where none is left to hand out it refuses, and doesn't ask the press. Where the
+    /// press answers a stop, that is answered, and as many are left as before.
+    pub fn hand_out(&mut self) -> Result<u64, Halted>
+        ensures { MatchResult result
+            (λ number. HandsOut self.old tt (Ok number) self.new)
+            (λ stop. HandsOut self.old tt (Err stop) self.new) }
+    {
+        if self.left == 0 {
+            return Err(Halted::NoPaper);
+        }
+        let number = self.press.print()?;
+        self.left -= 1;
+        Ok(number)
+    }
+}
+
+impl Stepped for Desk {
+    ghost use Rattle.request_plan.specs.Press.{HandsOut};
+
+    type Request = ();
+
+    type Answer = u64;
+
+    type Stop = Halted;
+
+    ghost step = { HandsOut };
+}
+
+impl Kept for Desk {
+    ghost use Rattle.request_plan.specs.Press.{HasSoundPress};
+
+    ghost holds = { HasSoundPress };
+}
+
+impl Knows<u64, u64> for Desk {
+    ghost use Rattle.request_plan.specs.Press.{AsksForRest, IsRest};
+
+    ghost known = { AsksForRest };
+
+    ghost known_left = { IsRest };
+}
+
 #[cfg(test)]
 mod tests {
-    use super::{Folder, Halted, Press};
+    use super::{Desk, Folder, Halted, Press};
 
     #[test]
     fn folds_until_it_jams(rt: HostRuntime) {
@@ -181,5 +246,13 @@ mod tests {
         assert_eq!(rt; folder.fold(), Ok(2));
         assert_eq!(rt; folder.fold(), Err(Halted::Jammed));
         assert_eq!(rt; folder.fold(), Err(Halted::Jammed));
+    }
+
+    #[test]
+    fn hands_out_what_is_left(rt: HostRuntime) {
+        let mut desk = Desk::new(Press::new(9, 9), 2);
+        assert_eq!(rt; desk.hand_out(), Ok(1));
+        assert_eq!(rt; desk.hand_out(), Ok(2));
+        assert_eq!(rt; desk.hand_out(), Err(Halted::NoPaper));
     }
 }
