@@ -130,5 +130,5 @@ first_is n (h ∷ hs) d lt e = (h, hs, refl, e)
 
 -- the line that is first already is found, and its set stays as it is
 pub first_obtained : (ways n : ℕ) (l : List Held) → StandsFirst n l → obtain ways l n ≡ Done l
-first_obtained ways n l (h, hs, e, is) = 
+first_obtained ways n l (h, hs, e, is) =
     rw (e) (rw (eq-eqb (h.line) n is) (ap (λ b. Done (h ∷ cond b hs (h ∷ without n hs))) (eq-eqb (h.line) n is)))

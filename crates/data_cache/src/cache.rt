@@ -55,7 +55,7 @@ impl Cache {
     }
 
     /// Reads bytes of a line from `offset` on, as many as `into` has. A stop is only the store's; after it the lines
-    /// are as before, but a victim that was stored is clean, and `into` is as it was.
+    /// are as before, but a victim that was stored is clean.
     #[inline(always)]
     pub fn read<S: LineStore>(
         &mut self,
