@@ -6,7 +6,7 @@ use Rattle.ascend_words.specs.declared.table.Command.TheVariants.{Gen}
 use Rattle.ascend_words.specs.declared.table.Name.TheVariants.{Key, Output, Seed, Time, Words}
 use Rattle.ascend_top.specs.Steps.{key_length}
 
--- a program of one data word, which has the cycles before the first slot starts
+-- a program of one data word, with as many cycles as there are before the first slot
 abbrev pub short_words : List (List ℕ)
 short_words =
     codes "gen" ∷ codes "seed=0" ∷ codes "words=1" ∷ codes "key=k" ∷ codes "output=o" ∷ codes "time=16384" ∷ []

@@ -1,6 +1,6 @@
 //! An outside over which every condition of `ascend` and every premise of completeness holds before a call.
 
-ghost use Rattle.std.specs.Prelude.{◌≡◌, length, Some, IfOk, IsOkUnless, IsSome};
+ghost use Rattle.std.specs.Prelude.{◌≡◌, [], length, Some, IfOk, IsOkUnless, IsSome};
 ghost use Rattle.asc_outside.specs.Host.{Files};
 ghost use Rattle.asc_outside.specs.MemHost.{told_by};
 ghost use Rattle.asc_outside.specs.Memories.{told_by_buckets};
@@ -28,6 +28,8 @@ pub fn outside_with_key(alloc: Global, key: &[u8]) -> Result<Outside, HostFault>
     ensures only_memory { IsOkUnless result HostFault.NoMemory }
     ensures files { IfOk result (λ made. (files : Files) × ((told_by made.host).files ≡ Some files)
         × HaveKey files) }
+    ensures failing { IfOk result (λ made. made.host.failing ≡ []) }
+    ensures asked { IfOk result (λ made. (told_by made.host).asked ≡ Some []) }
     ensures host_faults { IfOk result (λ made. (told_by made.host).faults ≡ 0) }
     ensures told { IfOk result (λ made. IsSome (told_by_buckets made.memory).told) }
     ensures memory_faults { IfOk result (λ made. (told_by_buckets made.memory).faults ≡ 0) }
