@@ -129,6 +129,69 @@ mod tests {
         Ok(())
     }
 
+    /// A writer that takes at most 1,000 bytes a turn, and at most `room` in all; its second turn is interrupted.
+    #[derive(Drop)]
+    struct Narrow {
+        taken: Vec<u8>,
+        room: usize,
+        turns: usize,
+        flushed: bool,
+    }
+
+    impl Narrow {
+        fn new(alloc: Global, room: usize) -> Narrow {
+            Narrow {
+                taken: Vec::new(alloc),
+                room,
+                turns: 0,
+                flushed: false,
+            }
+        }
+    }
+
+    impl Write for Narrow {
+        fn write(&mut self, buf: &[u8]) -> io::Result<usize> {
+            self.turns = self.turns.saturating_add(1);
+            if self.turns == 2 {
+                return Err(io::Error::from(io::ErrorKind::Interrupted));
+            }
+            let count = buf.len().min(self.room).min(1_000);
+            self.taken.extend_from_slice(&buf[..count])?;
+            self.room -= count;
+            Ok(count)
+        }
+
+        fn flush(&mut self) -> io::Result<()> {
+            self.flushed = true;
+            Ok(())
+        }
+    }
+
+    #[test]
+    fn a_writer_that_takes_little_gets_all(rt: HostRuntime) -> Result<(), Fail> {
+        for count in LENGTHS {
+            let bytes = bytes_of(rt.alloc(), count)?;
+            let mut narrow = Narrow::new(rt.alloc(), count);
+            write_whole(&mut narrow, bytes.as_slice())?;
+            assert!(rt;
+                narrow.taken.as_slice() == bytes.as_slice(),
+                "{count} bytes"
+            );
+            assert!(rt; narrow.flushed);
+        }
+        Ok(())
+    }
+
+    #[test]
+    fn a_writer_without_room_is_no_success(rt: HostRuntime) -> Result<(), Fail> {
+        let bytes = bytes_of(rt.alloc(), 10_000)?;
+        let mut narrow = Narrow::new(rt.alloc(), 9_999);
+        let written = write_whole(&mut narrow, bytes.as_slice());
+        assert!(rt; matches!(written, Err(error) if error.kind() == io::ErrorKind::WriteZero));
+        assert_eq!(rt; narrow.taken.len(), 9_999);
+        Ok(())
+    }
+
     #[test]
     fn longer_files_are_refused(rt: HostRuntime) -> Result<(), Fail> {
         let mut host = StdHost::new(&rt);
