@@ -1,7 +1,9 @@
 use Rattle.std.proofs.Common.{zero, suc, ◌≡◌, ℕ, ◌+◌, ◌<◌, ◌%◌, List, [], ◌∷◌, ◌++◌, length, take, drop, map, get_or}
 use Rattle.std.proofs.Common.{set, refl, sym, ap, subst, ◌∙◌, Result}
+use Rattle.std.specs.Prelude.{cond}
 use Rattle.std.specs.List.{All}
 use Rattle.std.proofs.lemmas.List.Elements.{All-set, All-append, All-take, All-drop}
+use Rattle.std.proofs.lemmas.Bool.{eq-eqb}
 use Rattle.std.proofs.lemmas.List.{length-map, map-set, get_or-map}
 use Rattle.asc_base.specs.declared.block.Line.{Line}
 use Rattle.rv32_core.specs.Access.{slice_of}
@@ -10,7 +12,9 @@ use Rattle.request_plan.specs.Plan.{Plan, Done, bind, Ends, Stops}
 use Rattle.request_plan.proofs.Chains.{Ends-bind, Stops-bind}
 use Rattle.data_cache.specs.declared.set.Held.{Held}
 use Rattle.data_cache.specs.Contents.{moved, obtain, replace, first_bytes, written, Contents, held_in, with_set}
+use Rattle.data_cache.specs.Contents.{without}
 use Rattle.data_cache.specs.Contents.{read_plan, write_plan, write_line_plan, HoldsBelow}
+use Rattle.data_cache.specs.Front.{StandsFirst}
 
 pub held_in_is : {V : Type 0} (f : V → List Held) (ways n : ℕ) (vs : List V) (k : ℕ) (d : V) → k ≡ n % length vs
     → k < length vs → held_in (record { ways = ways; sets = map f vs }) n ≡ f (get_or vs k d)
@@ -118,3 +122,13 @@ below_front lines count front l f h =
     All-take (λ (h : Held). h.line < lines) count (front ++ drop (length front) l)
     (All-append (λ (h : Held). h.line < lines) front (drop (length front) l) f
     (All-drop (λ (h : Held). h.line < lines) (length front) l h))
+
+-- a set whose first element has this number
+pub first_is : (n : ℕ) (l : List Held) (d : Held) → 0 < length l → (get_or l 0 d).line ≡ n → StandsFirst n l
+first_is n [] d lt e = elim lt [ ]
+first_is n (h ∷ hs) d lt e = (h, hs, refl, e)
+
+-- the line that is first already is found, and its set stays as it is
+pub first_obtained : (ways n : ℕ) (l : List Held) → StandsFirst n l → obtain ways l n ≡ Done l
+first_obtained ways n l (h, hs, e, is) =
+    rw (e) (rw (eq-eqb (h.line) n is) (ap (λ b. Done (h ∷ cond b hs (h ∷ without n hs))) (eq-eqb (h.line) n is)))

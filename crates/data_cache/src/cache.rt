@@ -56,6 +56,7 @@ impl Cache {
 
     /// Reads bytes of a line from `offset` on, as many as `into` has. A stop is only the store's; after it the lines
     /// are as before, but a victim that was stored is clean, and `into` is as it was.
+    #[inline(always)]
     pub fn read<S: LineStore>(
         &mut self,
         store: &mut S,
@@ -83,6 +84,7 @@ impl Cache {
 
     /// Writes bytes into a line from `offset` on, which is dirty then. A stop is only the store's; after it the lines
     /// are as before, but a victim that was stored is clean.
+    #[inline(always)]
     pub fn write<S: LineStore>(
         &mut self,
         store: &mut S,

@@ -38,6 +38,7 @@ impl<'a, S: LineStore> Bytes for CachedBytes<'a, S> {
         × (c.store.ghost_name ≡ b.store.ghost_name)
         × CachedStep S.step b.base b.cache.now b.store.now access answer c.cache.now c.store.now };
 
+    #[inline(always)]
     fn load(&mut self, address: u32, into: &mut [u8]) -> Result<(), S::Stop> {
         if into.is_empty() {
             return Ok(());
@@ -47,6 +48,7 @@ impl<'a, S: LineStore> Bytes for CachedBytes<'a, S> {
             .read(&mut *self.store, from / 64, (from % 64) as usize, into)
     }
 
+    #[inline(always)]
     fn store(&mut self, address: u32, bytes: &[u8]) -> Result<(), S::Stop> {
         if bytes.is_empty() {
             return Ok(());

@@ -1,11 +1,12 @@
 //! One set of a cache: its lines, the most recent first.
 
 ghost use Rattle.std.specs.Prelude.{◌≡◌, ◌<◌, ◌≤◌, ◌+◌, ◌-◌, ◌%◌, ◌∷◌, Some, None, MatchOption, IfOk, IfErr, OnOk};
-ghost use Rattle.std.specs.Prelude.{length, vec_len, vec_capacity, take};
+ghost use Rattle.std.specs.Prelude.{length, vec_len, vec_capacity, take, IsTrue};
 ghost use Rattle.request_plan.specs.Plan.{Ends, Stops};
 ghost use Rattle.rv32_core.specs.Access.{slice_of};
 ghost use Rattle.data_cache.specs.Contents.{find_line, StandsAt, moved, settle, obtain, replace, first_bytes, written};
 ghost use Rattle.data_cache.specs.Contents.{HoldsBelow};
+ghost use Rattle.data_cache.specs.Front.{StandsFirst};
 
 use crate::store::LineStore;
 use asc_base::Line;
@@ -23,6 +24,7 @@ pub struct Held {
 
 /// Which of the sets is a line's: by a mask and not by a division, where their number is a power of two.
 #[tactic(auto, using(crate::proofs::Masks::masked_is))]
+#[inline(always)]
 pub(crate) fn set_index(sets: &Vec<Vec<Held>>, line: u32) -> usize
     requires { 0 < vec_len sets.now }
     ensures set { result ≡ line % vec_len sets.now }
@@ -45,6 +47,14 @@ fn place(set: &[Held], line: u32) -> Option<usize>
         }
     }
     None
+}
+
+/// Whether a line is the first of a set.
+#[inline(always)]
+fn is_first(set: &[Held], line: u32) -> bool
+    ensures { IsTrue result → StandsFirst line set.now }
+{
+    !set.is_empty() && set[0].line == line
 }
 
 /// Moves the line at `i` to the front.
@@ -93,9 +103,39 @@ fn push_first(set: &mut Vec<Held>, ways: usize, held: Held)
     set.rotate_right(1);
 }
 
-/// Brings a line to the front of its set, and fetches it where it isn't held.
+/// Brings a line to the front of its set, and fetches it where it isn't held. Mostly it is at the front.
 #[inline(always)]
+#[tactic(auto, using(crate::proofs::SetLaws::first_obtained))]
 pub(crate) fn bring<S: LineStore>(
+    set: &mut Vec<Held>,
+    ways: usize,
+    store: &mut S,
+    line: u32,
+) -> Result<(), S::Stop>
+    requires ways { 0 < ways }
+    requires fits { vec_len set.old ≤ ways }
+    requires room { ways ≤ vec_capacity set.old }
+    requires line { line < S.lines store.old }
+    requires ready { S.ready store.old }
+    requires lines { HoldsBelow (S.lines store.old) set.old.items }
+    ensures ok { IfOk result (λ _. Ends S.step (obtain ways set.old.items line) store.old store.new set.new.items) }
+    ensures err { IfErr result (λ stop. Stops S.step
+        (obtain ways set.old.items line) store.old store.new stop set.new.items) }
+    ensures room { vec_capacity set.old ≤ vec_capacity set.new }
+    ensures fits { vec_len set.new ≤ ways }
+    ensures first { OnOk result (0 < vec_len set.new) }
+    ensures below { HoldsBelow (S.lines store.old) set.new.items }
+    ensures same { S.lines store.new ≡ S.lines store.old }
+{
+    if is_first(set, line) {
+        return Ok(());
+    }
+    bring_forward(set, ways, store, line)
+}
+
+/// Brings a line to the front of its set from anywhere in it, and fetches it where it isn't held.
+#[inline(never)]
+fn bring_forward<S: LineStore>(
     set: &mut Vec<Held>,
     ways: usize,
     store: &mut S,
@@ -173,6 +213,7 @@ pub(crate) fn put_whole<S: LineStore>(
 }
 
 /// Reads bytes of the first line.
+#[inline(always)]
 pub(crate) fn read_first(set: &[Held], offset: usize, into: &mut [u8])
     requires first { 0 < length set.now }
     requires range { offset + length into.old ≤ 64 }
@@ -183,6 +224,7 @@ pub(crate) fn read_first(set: &[Held], offset: usize, into: &mut [u8])
 }
 
 /// Writes bytes into the first line, which is dirty then.
+#[inline(always)]
 pub(crate) fn write_first(set: &mut Vec<Held>, offset: usize, bytes: &[u8])
     requires first { 0 < vec_len set.old }
     requires range { offset + length bytes.now ≤ 64 }

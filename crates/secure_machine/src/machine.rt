@@ -375,7 +375,7 @@ fn instruction<M: UntrustedMemory, W: Watch, L: LeafFn>(
         Err(stop) => return Err(stopped(before, start, stop)),
     };
     match done.ended {
-        Ended::No => Ok(()),
+        Ended::No => return Ok(()), // and no copy of what the other arms give
         Ended::Exit { status } => {
             let cycles = lines.clock;
             Err(ended(
