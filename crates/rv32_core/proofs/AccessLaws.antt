@@ -1,39 +1,24 @@
 -- The number that a load's bytes are, with zeros behind them.
-use Rattle.std.proofs.Common.{◌≡◌, ℕ, ◌*◌, ◌^◌, ◌<◌, List, [], ◌∷◌, ◌++◌, All, refl, arith, take, drop, length}
+use Rattle.std.proofs.Common.{◌≡◌, ℕ, ◌*◌, ◌-◌, ◌^◌, ◌<◌, List, [], ◌∷◌, ◌++◌, All, refl, arith, replicate, length}
 use Rattle.std.specs.Int.{from_le_bytes, w32}
 use Rattle.rv32_table.specs.Meaning.{load_width}
 use Rattle.rv32_table.specs.declared.instruction.LoadOp.{LoadOp}
 use Rattle.rv32_table.specs.declared.instruction.LoadOp.TheVariants.{Lb, Lh, Lw, Lbu, Lhu}
 use Rattle.rv32_core.specs.Access.{Load, IsAnswer}
 
--- four bytes that are zero
-abbrev pub no_bytes : List ℕ
-no_bytes = 0 ∷ 0 ∷ 0 ∷ 0 ∷ []
-
--- as many of them as a load has
-pub length-no_bytes : (op : LoadOp) (width : ℕ) → width ≡ load_width op → length (take width no_bytes) ≡ load_width op
-length-no_bytes op width is = rw is (of_width op)
-  where
-    of_width : (op : LoadOp) → length (take (load_width op) no_bytes) ≡ load_width op
-    of_width Lb = refl
-    of_width Lh = refl
-    of_width Lw = refl
-    of_width Lbu = refl
-    of_width Lhu = refl
-
 -- a byte, two and four are the same number with zeros behind them
-one_byte : (bytes : List ℕ) → length bytes ≡ 1 → from_le_bytes w32 (bytes ++ drop 1 no_bytes) ≡ from_le_bytes w32 bytes
+one_byte : (bytes : List ℕ) → length bytes ≡ 1 → from_le_bytes w32 (bytes ++ replicate (4 - 1) 0) ≡ from_le_bytes w32 bytes
 one_byte (a ∷ []) count = refl
 one_byte [] count = absurd (omega arith)
 one_byte (a ∷ b ∷ more) count = absurd (omega arith)
 
-two_bytes : (bytes : List ℕ) → length bytes ≡ 2 → from_le_bytes w32 (bytes ++ drop 2 no_bytes) ≡ from_le_bytes w32 bytes
+two_bytes : (bytes : List ℕ) → length bytes ≡ 2 → from_le_bytes w32 (bytes ++ replicate (4 - 2) 0) ≡ from_le_bytes w32 bytes
 two_bytes (a ∷ b ∷ []) count = refl
 two_bytes [] count = absurd (omega arith)
 two_bytes (a ∷ []) count = absurd (omega arith)
 two_bytes (a ∷ b ∷ c ∷ more) count = absurd (omega arith)
 
-four_bytes : (bytes : List ℕ) → length bytes ≡ 4 → from_le_bytes w32 (bytes ++ drop 4 no_bytes)
+four_bytes : (bytes : List ℕ) → length bytes ≡ 4 → from_le_bytes w32 (bytes ++ replicate (4 - 4) 0)
     ≡ from_le_bytes w32 bytes
 four_bytes (a ∷ b ∷ c ∷ d ∷ []) count = refl
 four_bytes [] count = absurd (omega arith)
@@ -44,17 +29,16 @@ four_bytes (a ∷ b ∷ c ∷ d ∷ e ∷ more) count = absurd (omega arith)
 
 -- the bytes of a load are the same number with zeros behind them
 padded : (op : LoadOp) (bytes : List ℕ) → length bytes ≡ load_width op
-    → from_le_bytes w32 (bytes ++ drop (load_width op) no_bytes) ≡ from_le_bytes w32 bytes
+    → from_le_bytes w32 (bytes ++ replicate (4 - load_width op) 0) ≡ from_le_bytes w32 bytes
 padded Lb bytes count = one_byte bytes count
 padded Lh bytes count = two_bytes bytes count
 padded Lw bytes count = four_bytes bytes count
 padded Lbu bytes count = one_byte bytes count
 padded Lhu bytes count = two_bytes bytes count
 
-pub loaded-is : (op : LoadOp) (width address : ℕ) (bytes : List ℕ) → width ≡ load_width op
-    → IsAnswer (Load address (load_width op)) bytes
-    → from_le_bytes w32 (bytes ++ drop width no_bytes) ≡ from_le_bytes w32 bytes
-loaded-is op width address bytes is answer = rw is (padded op bytes answer.0)
+pub loaded-is : (op : LoadOp) (address : ℕ) (bytes : List ℕ) → IsAnswer (Load address (load_width op)) bytes
+    → from_le_bytes w32 (bytes ++ replicate (4 - load_width op) 0) ≡ from_le_bytes w32 bytes
+loaded-is op address bytes answer = padded op bytes answer.0
 
 -- a byte, two and four are below what they can be
 one_below : (bytes : List ℕ) → length bytes ≡ 1 → All (λ b. b < 256) bytes → from_le_bytes w32 bytes < 2 ^ 8
