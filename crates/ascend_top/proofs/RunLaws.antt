@@ -25,7 +25,7 @@ use Rattle.secure_machine.specs.Answered.{answered_lines}
 use Rattle.secure_machine.specs.Fed.{IsFed}
 use Rattle.secure_machine.specs.Finish.{IsRightEnding, IsTimeUp}
 use Rattle.secure_machine.specs.Home.{EndsAtHome}
-use Rattle.secure_machine.specs.Judged.{EndsDone, SaysWanting, ShowsEnding, log_end}
+use Rattle.secure_machine.specs.Judged.{SaysWanting, ShowsEnding, log_end}
 use Rattle.secure_machine.specs.LastMove.{EndsWithMove}
 use Rattle.secure_machine.specs.Plays.{play_report, play_with}
 use Rattle.secure_machine.specs.Run.{DrawsLeaves, IsFlatReport, IsInBudget, IsTiedButLast, IsTiedOr, IsUnprepared}
@@ -221,14 +221,13 @@ module _ (config : Config) (image : Image) (input key : List ℕ) (lent : Lent) 
         → IfOk result (λ r. MayTellMirror lent.memory' lent.tap' ⊎ IsUnprepared r lent.tap lent.tap')
         → IfOk result (λ _. lent.memory'.count ≡ config.shape.buckets)
         → IfOk result (λ r. (at : ℕ) → r.ending ≡ TimeUp at → IsTimeUp config r.cycles lent.tap'.log at)
-        → IfOk result (λ r. EndsDone (keys_from config key) r.ending lent.tap'.log)
         → IfOk result (λ r. EndsAtHome (keys_from config key) config (play_with config image input) r.ending
         lent.tap'.log)
         → IfOk result (IsRunOf config image input key lent)
     ran_of (Err none) pace in_time real dummies tied device right choices code fetches spent flat honest refines plays
-        played fed verdict contents told count time_up done home = tt
+        played fed verdict contents told count time_up home = tt
     ran_of (Ok report) pace in_time real dummies tied device right choices code fetches spent flat honest refines plays
-        played fed verdict contents told count time_up done home = record {
+        played fed verdict contents told count time_up home = record {
           dishonest = record {
             refinement = record { flat = refines; plays = plays };
             schedule = record {
@@ -240,13 +239,7 @@ module _ (config : Config) (image : Image) (input key : List ℕ) (lent : Lent) 
               told = told;
               count = count;
             };
-            contents = record {
-              order = order;
-              done = done;
-              leaves = leaves;
-              contents = contents;
-              points = points;
-            };
+            contents = record { order = order; leaves = leaves; contents = contents; points = points };
             rates = record { choices = choices; code = code; budget = budget };
             verdicts = record { verdict = verdict };
             core = record { fetches = fetches; fed = fed; spent = spent };

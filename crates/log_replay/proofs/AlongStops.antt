@@ -26,7 +26,6 @@ module _ (keys : Keys) (lawful : AreKeys keys) (levels : ℕ) where
       let port = port_of keys levels last s h.stands in
       record {
         order = port.order;
-        done = tt;
         shows = inl (subst (λ n. verdict_on keys n s.tap.log ≡ None) h.same port.right);
         end = Whole;
         ends = inl refl;

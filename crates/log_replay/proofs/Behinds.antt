@@ -124,16 +124,13 @@ module _ (keys : Keys) (stash : ℕ) (old new : LogLists) (now : Contents) (n a 
         (x.replayed.order.noted reply (subst (λ (l : List Altered). Has reply l) altered h)));
   }
 
-  pub behind_done : AreDone keys new [] behind_order.slots
-  behind_done = done_more keys new [] x.before stood front_done last_done
-
   -- what is known of the longer log, with contents that it says, in which nothing is wrong, and of which holds what
   -- holds always
   pub behind_replayed : (after : Contents) → whole keys (first_fold keys) new ≡ after → verdict_on keys stash new ≡ None
       → Always keys new after → IsReplayedLog keys stash new after n
   behind_replayed after is right always = record {
     order = behind_order;
-    done = behind_done;
+    done = done_more keys new [] x.before stood front_done last_done;
     dummies_are =
         let none = behind_none b in
         let both = count_more is_dummy old.events (behind_events b) in

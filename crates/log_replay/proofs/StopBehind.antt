@@ -26,9 +26,9 @@ use Rattle.oram_walk.specs.Request.{Append, Answer}
 use Rattle.rate_enforcer.specs.PortStep.{PortState, Resting, HasNoted, contents}
 use Rattle.unified_tree.specs.Tree.{TreeState}
 use Rattle.log_replay.specs.Judged.{IsBeforeLast, IsFirstVerdict, ShowsStop, EndsLog, SaysMirror}
-use Rattle.log_replay.specs.Order.{Appends, IsWholeOrder}
-use Rattle.log_replay.specs.Replayed.{DoneBy, IsBehindSlot, StopsReplayed}
-use Rattle.log_replay.proofs.Behinds.{behind_done, behind_order}
+use Rattle.log_replay.specs.Order.{Appends}
+use Rattle.log_replay.specs.Replayed.{IsBehindSlot, StopsReplayed}
+use Rattle.log_replay.proofs.Behinds.{behind_order}
 use Rattle.log_replay.proofs.BlockSlots.{IsBehindBlock}
 use Rattle.log_replay.proofs.Ports.{behind_of}
 use Rattle.log_replay.proofs.StopLogs.{LogStops}
@@ -97,19 +97,12 @@ module _ (keys : Keys) where
         → LogStops keys stash stop new now.mirror
     joins_left stop wrong = by_kind (append_kinds stash m.address now.hand stop wrong)
       where
-        whole_order : IsWholeOrder keys new
-        whole_order = record {
-          order = behind_order keys stash old new now dummies a line None x (Appends m) altered events (refl, other);
-          done = behind_done keys stash old new now dummies a line None x (Appends m) altered events (refl, other);
-        }
-
-        stops : (how : Stop) → stop ≡ how → DoneBy keys how new → ShowsStop keys stash how new → EndsLog how Whole
+        stops : (how : Stop) → stop ≡ how → ShowsStop keys stash how new → EndsLog how Whole
             → LogStops keys stash stop new now.mirror
-        stops how is done shows ends =
+        stops how is shows ends =
             subst (λ h. LogStops keys stash h new now.mirror) (sym is) (record {
               order = behind_order keys stash old new now dummies a line None x (Appends m) altered events
                   (refl, other);
-              done = done;
               shows = shows;
               end = Whole;
               ends = ends;
@@ -119,8 +112,8 @@ module _ (keys : Keys) where
         by_kind : ((evidence : Evidence) × (stop ≡ Integrity evidence)) ⊎ ((held : ℕ) × (stop ≡ StashFull held))
             → LogStops keys stash stop new now.mirror
         by_kind (inl (evidence, is)) =
-            stops (Integrity evidence) is tt (shown (Integrity evidence) (wrong ∙ ap Some is)) refl
-        by_kind (inr (held, is)) = stops (StashFull held) is whole_order (shown (StashFull held) (wrong ∙ ap Some is)) refl
+            stops (Integrity evidence) is (shown (Integrity evidence) (wrong ∙ ap Some is)) refl
+        by_kind (inr (held, is)) = stops (StashFull held) is (shown (StashFull held) (wrong ∙ ap Some is)) refl
 
   module _ (levels notes a : ℕ) (line : List ℕ) (old new : PortState) (behind : IsBehindSlot keys a line None old)
       (rests : Resting (notes + 1) levels old) where

@@ -1,5 +1,5 @@
 -- What a slot leaves in the log that stops in its reads, over its block, or in its writes.
-use Rattle.std.proofs.Common.{◌≡◌, ◌<◌, ◌+◌, inl, inr, ℕ, true, false, List, ◌++◌, length, All, Option, []}
+use Rattle.std.proofs.Common.{◌≡◌, ◌<◌, ◌+◌, inl, inr, ℕ, true, false, List, ◌++◌, length, All, Option}
 use Rattle.std.proofs.Common.{None, Some, Ok, refl, sym, ◌∙◌, ap, subst, subst₂, arith, append-nil, append_assoc}
 use Rattle.asc_base.specs.declared.block.Entry.{Entry}
 use Rattle.asc_base.specs.declared.block.Message.{Message}
@@ -22,10 +22,8 @@ use Rattle.oram_contents.specs.Verdict.{read_verdict, put_entries, IsOfPoint}
 use Rattle.rate_enforcer.specs.Breaks.{Begins, IsRefused, ReadsBreak, HasWholeSlots, ReadStops, WritesBreak}
 use Rattle.rate_enforcer.specs.Breaks.{IsOverfull, WriteStops, DummyStops}
 use Rattle.log_replay.specs.Judged.{IsBeforeLast, BreaksOffReading, ShowsStop, EndsLog, SaysMirror}
-use Rattle.log_replay.specs.Order.{events_of, AreDone, IsDone, IsNextPoint, IsTaken, IsWholeOrder, LogOrder}
-use Rattle.log_replay.specs.Replayed.{DoneBy}
-use Rattle.log_replay.proofs.Orders.{all_done_kept, done_more}
-use Rattle.log_replay.proofs.ReplayedLogs.{IsReplayedLog, late, slot_done, slot_order}
+use Rattle.log_replay.specs.Order.{events_of, IsNextPoint, IsTaken, LogOrder}
+use Rattle.log_replay.proofs.ReplayedLogs.{IsReplayedLog, slot_done, slot_order}
 use Rattle.log_replay.proofs.StopMoves.{whole_says}
 use Rattle.log_replay.proofs.StopShows.{slot_of, before_last, last_events, shows_refused, shows_wrong, shows_full}
 use Rattle.log_replay.proofs.StopShows.{shows_none, says_read, says_cut}
@@ -33,7 +31,6 @@ use Rattle.log_replay.proofs.StopShows.{shows_none, says_read, says_cut}
 -- a stop leaves a log in order that shows it and says the buckets
 pub record LogStops (keys : Keys) (stash : ℕ) (stop : Stop) (log : LogLists) (mirror : List (List ℕ)) : Type 0 where
   pub order : LogOrder keys log
-  pub done : DoneBy keys stop log
   pub shows : ShowsStop keys stash stop log
   pub end : LogEnd
   pub ends : EndsLog stop end
@@ -90,7 +87,6 @@ module _ (keys : Keys) (stash : ℕ) (old : LogLists) (now : Contents) (dummies 
           → LogStops keys stash (Integrity evidence) new now.mirror
       wrong_stops evidence joined before read wrong moves = record {
         order = bare_order;
-        done = tt;
         shows = record {
           before = old;
           last = bare_before;
@@ -108,7 +104,6 @@ module _ (keys : Keys) (stash : ℕ) (old : LogLists) (now : Contents) (dummies 
         → LogStops keys stash (Integrity evidence) new after.mirror
     refused_stops evidence after r = record {
       order = bare_order r.begins;
-      done = tt;
       shows = record {
         before = old;
         last = bare_before r.begins;
@@ -149,7 +144,6 @@ module _ (keys : Keys) (stash : ℕ) (old : LogLists) (now : Contents) (dummies 
     starved after slots same kept =
         let here : LogStops keys stash NoMemory old now.mirror = record {
           order = base.order;
-          done = tt;
           shows = inl base.right;
           end = Whole;
           ends = inl refl;
@@ -165,7 +159,6 @@ module _ (keys : Keys) (stash : ℕ) (old : LogLists) (now : Contents) (dummies 
     reads_stop (TimeUp at) after r = absurd r
     reads_stop Device after r = record {
       order = bare_order r.begins;
-      done = tt;
       shows = inr (breaks_off after r);
       end = LastFailed;
       ends = refl;
@@ -174,7 +167,6 @@ module _ (keys : Keys) (stash : ℕ) (old : LogLists) (now : Contents) (dummies 
     reads_stop NoMemory after (inl (same, kept, slots)) = starved after slots same kept
     reads_stop NoMemory after (inr r) = record {
       order = bare_order r.begins;
-      done = tt;
       shows = inr (breaks_off after r);
       end = RanOut;
       ends = inr refl;
@@ -193,28 +185,11 @@ module _ (keys : Keys) (stash : ℕ) (old : LogLists) (now : Contents) (dummies 
     hand = leave p joined ++ put_entries keys put
 
     module _ (new : LogLists) (all : Adds old new (events_of keys (slot_of start asked p found put)) extra) where
-      done_last : IsDone keys new old.events (slot_of start asked p found put)
-      done_last =
-          slot_done keys stash old new now dummies (slot_of start asked p found put) base extra joined all noted read
-          taken put_of
-
       done_order : LogOrder keys new
       done_order =
           (slot_order keys stash old new now dummies (slot_of start asked p found put) base extra all noted next
-          (inl done_last)).0
-
-      done_whole : IsWholeOrder keys new
-      done_whole =
-          let o = slot_order keys stash old new now dummies (slot_of start asked p found put) base extra all noted next
-          (inl done_last) in
-          record {
-            order = o.0;
-            done = subst (AreDone keys new []) (sym o.1)
-                (done_more keys new [] base.order.slots (slot_of start asked p found put)
-                (all_done_kept keys old new extra all.altered_are [] base.order.slots
-                (late keys stash old new now dummies (slot_of start asked p found put) base extra noted) base.done)
-                (subst (λ l. IsDone keys new l (slot_of start asked p found put)) base.order.events done_last));
-          }
+          (inl (slot_done keys stash old new now dummies (slot_of start asked p found put) base extra joined all noted
+          read taken put_of))).0
 
     -- its path can't be written
     full_stops : (held : ℕ) (between after : Contents) → between ≡ record now { hand = hand } → (new : LogLists)
@@ -227,7 +202,6 @@ module _ (keys : Keys) (stash : ℕ) (old : LogLists) (now : Contents) (dummies 
         let mirror : now.mirror ≡ after.mirror = ap (λ (c : Contents). c.mirror) (sym (w.after_is ∙ is)) in
         let here : LogStops keys stash (StashFull held) mid after.mirror = record {
           order = done_order mid adds;
-          done = done_whole mid adds;
           shows = record {
             before = old;
             last = before_last keys stash old mid now base.always.past base.contents_are base.right start asked p found
@@ -285,7 +259,6 @@ module _ (keys : Keys) (stash : ℕ) (old : LogLists) (now : Contents) (dummies 
     writes_stop (TimeUp at) between after is new w = absurd w
     writes_stop Device between after is new w = record {
       order = done_order new (all_adds between after is new w);
-      done = tt;
       shows = write_shows between after is new w;
       end = LastFailed;
       ends = refl;
@@ -293,7 +266,6 @@ module _ (keys : Keys) (stash : ℕ) (old : LogLists) (now : Contents) (dummies 
     }
     writes_stop NoMemory between after is new w = record {
       order = done_order new (all_adds between after is new w);
-      done = tt;
       shows = write_shows between after is new w;
       end = RanOut;
       ends = inr refl;

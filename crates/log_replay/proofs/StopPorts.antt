@@ -31,7 +31,6 @@ pub stops_at : (keys : Keys) (stash : ℕ) (stop : Stop) (s : PortState)
     → LogStops keys stash stop s.tap.log s.tap.mirror → StopsReplayed keys stash stop s
 stops_at keys stash stop s x = record {
   order = x.order;
-  done = x.done;
   shows = x.shows;
   end = x.end;
   ends = x.ends;
@@ -102,7 +101,6 @@ module _ (keys : Keys) (lawful : AreKeys keys) (levels notes : ℕ) (old new : P
         ended_whole (public_of config) new.clock.last new.tap.log keeps.scheduled (omega (arith, up.ended)) in
         record {
           order = x.order;
-          done = record { order = x.order; done = x.done };
           shows = x.right;
           end = Whole;
           ends = refl;

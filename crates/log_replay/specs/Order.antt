@@ -129,8 +129,3 @@ pub record LogOrder (keys : Keys) (log : LogLists) : Type 0 where
   pub events : log.events ≡ flat_map (events_of keys) slots
   pub order : AreInOrder keys log [] 0 slots
   pub noted : (reply : Altered) → Has reply log.altered → IsNotedIn keys [] slots reply
-
--- The same of a log of which every slot was done, the last one too.
-pub record IsWholeOrder (keys : Keys) (log : LogLists) : Type 0 where
-  pub order : LogOrder keys log
-  pub done : AreDone keys log [] order.slots

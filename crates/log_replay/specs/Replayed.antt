@@ -5,8 +5,6 @@ use Rattle.std.specs.List.{count_by}
 use Rattle.asc_base.specs.declared.block.Counter.{Counter}
 use Rattle.asc_base.specs.declared.block.Message.{Message}
 use Rattle.asc_base.specs.declared.stop.Stop.{Stop}
-use Rattle.asc_base.specs.declared.stop.Stop.TheVariants.{Integrity, StashFull, TimeUp, Device, NoMemory}
-use Rattle.bus_watch.specs.Log.{LogLists}
 use Rattle.oram_contents.specs.Entries.{Keys, real}
 use Rattle.oram_contents.specs.Fold.{LogEnd, is_open_for, fold_events, whole}
 use Rattle.oram_contents.specs.Provenance.{Always}
@@ -18,7 +16,7 @@ use Rattle.oram_walk.specs.Front.{IsFront}
 use Rattle.rate_enforcer.specs.Counts.{is_dummy}
 use Rattle.rate_enforcer.specs.PortStep.{PortState, contents}
 use Rattle.log_replay.specs.Judged.{verdict_on, ShowsStop, EndsLog, SaysMirror}
-use Rattle.log_replay.specs.Order.{SlotNotes, Nothing, AreDone, LogOrder, IsWholeOrder}
+use Rattle.log_replay.specs.Order.{SlotNotes, Nothing, AreDone, LogOrder}
 
 -- A port between two slots: its log notes slots in order, each of which was done, it has the contents that the log
 -- says, in which nothing is wrong, and it counts the dummies.
@@ -53,20 +51,9 @@ pub record IsReplayed (keys : Keys) (o : OramState) : Type 0 where
   pub room : 1 ≤ o.front.plb
   pub port : IsReplayedPort keys o.port
 
--- How far the slots of a log were done, by the stop that ended it. Where too many blocks stay, every slot's path was
--- read and its block put back; where no time is left, every slot was done to its end. Else of the last one there may be
--- nothing but its point.
-abbrev pub DoneBy : Keys → Stop → LogLists → Type 0
-DoneBy keys (Integrity evidence) log = Unit {0}
-DoneBy keys (StashFull held) log = IsWholeOrder keys log
-DoneBy keys (TimeUp at) log = IsWholeOrder keys log
-DoneBy keys Device log = Unit {0}
-DoneBy keys NoMemory log = Unit {0}
-
 -- What a stop leaves: the log notes slots in order up to it, shows the stop, and says the buckets.
 pub record StopsReplayed (keys : Keys) (stash : ℕ) (stop : Stop) (s : PortState) : Type 0 where
   pub order : LogOrder keys s.tap.log
-  pub done : DoneBy keys stop s.tap.log
   pub shows : ShowsStop keys stash stop s.tap.log
   pub end : LogEnd
   pub ends : EndsLog stop end

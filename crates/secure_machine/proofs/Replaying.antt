@@ -11,8 +11,8 @@ use Rattle.bus_watch.specs.declared.log.Event.{Event}
 use Rattle.data_cache.specs.Lines.{LineRequest, Fetch, Store}
 use Rattle.log_replay.specs.Given.{CallsReplay}
 use Rattle.log_replay.specs.Judged.{verdict_on, ShowsStop, EndsLog, SaysMirror}
-use Rattle.log_replay.specs.Order.{LogOrder, IsWholeOrder}
-use Rattle.log_replay.specs.Replayed.{DoneBy, IsReplayed, StopsReplayed}
+use Rattle.log_replay.specs.Order.{LogOrder}
+use Rattle.log_replay.specs.Replayed.{IsReplayed, StopsReplayed}
 use Rattle.oram_contents.specs.Entries.{Keys}
 use Rattle.oram_contents.specs.Fold.{LogEnd}
 use Rattle.oram_frontend.specs.Oram.{OramState, Fetch as OramFetch, Store as OramStore}
@@ -20,7 +20,7 @@ use Rattle.play_run.specs.Timed.{TimedState, TimedStep, CanAsk}
 use Rattle.rate_enforcer.specs.PortStep.{PortState, Resting}
 use Rattle.secure_machine.specs.Finish.{IsOwnEnding}
 use Rattle.secure_machine.specs.FlatEnds.{ending_by}
-use Rattle.secure_machine.specs.Judged.{EndsDone, ShowsEnding, EndsReplayed, WantsReplayed, log_end}
+use Rattle.secure_machine.specs.Judged.{ShowsEnding, EndsReplayed, WantsReplayed, log_end}
 use Rattle.secure_machine.specs.declared.report.Ending.{Ending}
 use Rattle.secure_machine.specs.declared.report.Ending.TheVariants.{Exit, Trap, Budget, TimeUp, StashFull, Integrity}
 use Rattle.secure_machine.specs.declared.report.Ending.TheVariants.{Device}
@@ -63,35 +63,14 @@ pub own_replayed : (keys : Keys) (levels budget time instructions cycles until :
     → EndsReplayed keys o.port.tree.stash ending o.port.tap
 own_replayed keys levels budget time instructions cycles until ending o calls now rests own = by ending own
   where
-    all : IsWholeOrder keys o.port.tap.log
-    all = record { order = now.port.order; done = now.port.done }
-
     by : (ending : Ending) → IsOwnEnding budget time instructions cycles until ending
         → EndsReplayed keys o.port.tree.stash ending o.port.tap
-    by (Exit status) own = record {
-      order = now.port.order;
-      done = all;
-      shows = now.port.right;
-      mirror = calls.between o now rests;
-    }
-    by (Trap kind pc) own = record {
-      order = now.port.order;
-      done = all;
-      shows = now.port.right;
-      mirror = calls.between o now rests;
-    }
-    by Budget own = record {
-      order = now.port.order;
-      done = all;
-      shows = now.port.right;
-      mirror = calls.between o now rests;
-    }
-    by (TimeUp at) own = record {
-      order = now.port.order;
-      done = all;
-      shows = now.port.right;
-      mirror = calls.between o now rests;
-    }
+    by (Exit status) own =
+        record { order = now.port.order; shows = now.port.right; mirror = calls.between o now rests }
+    by (Trap kind pc) own =
+        record { order = now.port.order; shows = now.port.right; mirror = calls.between o now rests }
+    by Budget own = record { order = now.port.order; shows = now.port.right; mirror = calls.between o now rests }
+    by (TimeUp at) own = record { order = now.port.order; shows = now.port.right; mirror = calls.between o now rests }
     by (StashFull held) own = absurd own
     by (Integrity evidence) own = absurd own
     by Device own = absurd own
@@ -99,26 +78,23 @@ own_replayed keys levels budget time instructions cycles until ending o calls no
 -- A stop that is an ending leaves a log that shows the ending, and want of memory one that shows the want.
 stop_replayed : (keys : Keys) (stash : ℕ) (stop : Stop) (ending : Ending) (s : PortState)
     → ending_by stop ≡ Some ending → StopsReplayed keys stash stop s → EndsReplayed keys stash ending s.tap
-stop_replayed keys stash stop ending s named h = by stop h.done h.shows h.ends named
+stop_replayed keys stash stop ending s named h = by stop h.shows h.ends named
   where
-    shown : (e : Ending) → EndsDone keys e s.tap.log → ShowsEnding keys stash e s.tap.log → h.end ≡ log_end e
-        → e ≡ ending
+    shown : (e : Ending) → ShowsEnding keys stash e s.tap.log → h.end ≡ log_end e → e ≡ ending
         → EndsReplayed keys stash ending s.tap
-    shown e done shows end same = subst (λ (x : Ending). EndsReplayed keys stash x s.tap) same (record {
+    shown e shows end same = subst (λ (x : Ending). EndsReplayed keys stash x s.tap) same (record {
       order = h.order;
-      done = done;
       shows = shows;
       mirror = subst (λ (x : LogEnd). SaysMirror keys s.tap.log x s.tap.mirror) end h.mirror;
     })
 
-    by : (stop : Stop) → DoneBy keys stop s.tap.log → ShowsStop keys stash stop s.tap.log → EndsLog stop h.end
-        → ending_by stop ≡ Some ending
+    by : (stop : Stop) → ShowsStop keys stash stop s.tap.log → EndsLog stop h.end → ending_by stop ≡ Some ending
         → EndsReplayed keys stash ending s.tap
-    by (why.Integrity evidence) done shows end is = shown (Integrity evidence) done shows end cc
-    by (why.StashFull held) done shows end is = shown (StashFull held) done shows end cc
-    by (why.TimeUp at) done shows end is = shown (TimeUp at) done shows end cc
-    by why.Device done shows end is = shown Device done shows end cc
-    by why.NoMemory done shows end is = absurd cc
+    by (why.Integrity evidence) shows end is = shown (Integrity evidence) shows end cc
+    by (why.StashFull held) shows end is = shown (StashFull held) shows end cc
+    by (why.TimeUp at) shows end is = shown (TimeUp at) shows end cc
+    by why.Device shows end is = shown Device shows end cc
+    by why.NoMemory shows end is = absurd cc
 
 pub stopped_replayed : {E : Type 0} (keys : Keys) (stash : ℕ) (stop : Stop) (s : PortState)
     (result : Result (Ending × ℕ) E) → IfOk result (λ (ending, last). ending_by stop ≡ Some ending)

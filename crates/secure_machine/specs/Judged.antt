@@ -3,7 +3,7 @@ use Rattle.std.specs.Prelude.{◌≡◌, ◌⊎◌, ℕ, List, None}
 use Rattle.asc_base.specs.declared.stop.Stop.TheVariants as why
 use Rattle.bus_watch.specs.Log.{TapState, LogLists}
 use Rattle.log_replay.specs.Judged.{verdict_on, IsFirstVerdict, BreaksOffReading, ShowsStop, EndsLog, SaysMirror}
-use Rattle.log_replay.specs.Order.{LogOrder, IsWholeOrder}
+use Rattle.log_replay.specs.Order.{LogOrder}
 use Rattle.log_replay.specs.Replayed.{IsReplayed, StopsReplayed}
 use Rattle.oram_contents.specs.Entries.{Keys}
 use Rattle.oram_contents.specs.Fold.{LogEnd, Whole, LastFailed}
@@ -27,17 +27,6 @@ ShowsEnding keys stash (StashFull held) log = IsFirstVerdict keys stash log (why
 ShowsEnding keys stash (Integrity evidence) log = IsFirstVerdict keys stash log (why.Integrity evidence)
 ShowsEnding keys stash Device log = (verdict_on keys stash log ≡ None) ⊎ BreaksOffReading keys stash log
 
--- How far the slots of a log were done, by how its run ended: where no evidence and no failure ended it, every slot's
--- path was read and its block put back, the last one's too. Else of the last one there may be nothing but its point.
-abbrev pub EndsDone : Keys → Ending → LogLists → Type 0
-EndsDone keys (Exit status) log = IsWholeOrder keys log
-EndsDone keys (Trap kind pc) log = IsWholeOrder keys log
-EndsDone keys Budget log = IsWholeOrder keys log
-EndsDone keys (TimeUp at) log = IsWholeOrder keys log
-EndsDone keys (StashFull held) log = IsWholeOrder keys log
-EndsDone keys (Integrity evidence) log = Unit {0}
-EndsDone keys Device log = Unit {0}
-
 -- the last move of a log failed where its run ended by a failure of the memory, and else none did
 abbrev pub log_end : Ending → LogEnd
 log_end (Exit status) = Whole
@@ -56,7 +45,6 @@ module _ (keys : Keys) (stash : ℕ) where
   -- A run that ended so leaves a log of slots in order, which shows the ending and says the buckets.
   pub record EndsReplayed (ending : Ending) (tap : TapState) : Type 0 where
     pub order : LogOrder keys tap.log
-    pub done : EndsDone keys ending tap.log
     pub shows : ShowsEnding keys stash ending tap.log
     pub mirror : SaysMirror keys tap.log (log_end ending) tap.mirror
 

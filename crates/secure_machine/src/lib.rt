@@ -58,7 +58,7 @@ ghost use Rattle.secure_machine.specs.Plays.{play_report, play_with};
 ghost use Rattle.secure_machine.specs.Finish.{IsRightEnding, IsTimeUp};
 ghost use Rattle.secure_machine.specs.Full.{NoSlotIsFull};
 ghost use Rattle.secure_machine.specs.Home.{EndsAtHome};
-ghost use Rattle.secure_machine.specs.Judged.{EndsDone, ShowsEnding, EndsReplayed, WantsReplayed, SaysWanting, log_end};
+ghost use Rattle.secure_machine.specs.Judged.{ShowsEnding, EndsReplayed, WantsReplayed, SaysWanting, log_end};
 ghost use Rattle.secure_machine.specs.Run.{Reported, Wanting, IsFlatReport, IsUnprepared, IsTiedOr, IsTiedButLast};
 ghost use Rattle.secure_machine.specs.Run.{chip_keys, start_of, IsInBudget, DrawsLeaves};
 ghost use Rattle.secure_machine.specs.LastMove.{EndsWithMove};
@@ -351,8 +351,6 @@ pub fn run<M: UntrustedMemory, W: Watch, L: LeafFn>(
     ensures spent { IfOk result (λ report.
         IsSpentOn config.now image.now input.now report (W.state bus.new.tap.now).log) }
     ensures order { LogOrder (chip_keys config.now codec tagger (L.leaf_of leaf)) (W.state bus.new.tap.now).log }
-    ensures done { IfOk result (λ report. EndsDone (chip_keys config.now codec tagger (L.leaf_of leaf))
-        report.ending (W.state bus.new.tap.now).log) }
     ensures verdict { IfOk result (λ report. ShowsEnding (chip_keys config.now codec tagger (L.leaf_of leaf))
         config.now.stash report.ending (W.state bus.new.tap.now).log) }
     ensures verdict_err { OnErr result

@@ -41,7 +41,7 @@ use Rattle.secure_machine.proofs.PlayedLaws.{unprepared_played}
 use Rattle.play_run.proofs.Calls.{calls-play}
 use Rattle.log_replay.specs.Given.{CallsReplay}
 use Rattle.log_replay.specs.Order.{LogOrder}
-use Rattle.secure_machine.specs.Judged.{EndsDone, ShowsEnding, EndsReplayed, WantsReplayed}
+use Rattle.secure_machine.specs.Judged.{ShowsEnding, EndsReplayed, WantsReplayed}
 use Rattle.secure_machine.specs.declared.report.Ending.{Ending}
 use Rattle.secure_machine.proofs.Replaying.{start_order, start_right}
 use Rattle.secure_machine.proofs.Full.{completes}
@@ -876,14 +876,3 @@ returns-in-Ok-clause-home g c =
 pub returns-in-Err-Device-clause-home : goal.returns-in-Err-Device-clause-home
 returns-in-Err-Device-clause-home g c behind none =
     absurd (subst EndsBehind (c.unprepared.ensures (g.W.Watch.state c.args.bus.now.tap.now)).ending behind)
-
-pub returns-in-Ok-clause-done : goal.returns-in-Ok-clause-done
-returns-in-Ok-clause-done g c = IfOk-weaker c.run_prepared.result _ _ (λ report r. r.done) (replayed g c).0
-
-pub returns-in-Err-Device-clause-done : goal.returns-in-Err-Device-clause-done
-returns-in-Err-Device-clause-done g c =
-    let config = c.args.config.now in
-    let keys = chip_keys config c.args.codec c.args.tagger (g.L.LeafFn.leaf_of c.args.leaf) in
-    let log = (g.W.Watch.state c.prepare.new.self.tap.now).log in
-    subst (λ (e : Ending). EndsDone keys e log)
-    (sym (c.unprepared.ensures (g.W.Watch.state c.args.bus.now.tap.now)).ending) tt

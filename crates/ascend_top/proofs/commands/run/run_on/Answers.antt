@@ -10,7 +10,7 @@ use Rattle.pmmac_tags.specs.Tag.{tag_key}
 use Rattle.log_replay.specs.Judged.{BreaksOffReading, SaysMirror, verdict_on}
 use Rattle.log_replay.specs.Order.{LogOrder}
 use Rattle.secure_machine.specs.Home.{EndsAtHome}
-use Rattle.secure_machine.specs.Judged.{EndsDone, SaysWanting, ShowsEnding, log_end}
+use Rattle.secure_machine.specs.Judged.{SaysWanting, ShowsEnding, log_end}
 use Rattle.secure_machine.specs.Plays.{play_with}
 use Rattle.secure_machine.specs.Run.{IsUnprepared, chip_keys}
 use Rattle.ascend_top.specs.EncryptedRun.{IsRunOf, keys_from}
@@ -70,8 +70,6 @@ returns-clause-ran g c =
     (IfOk-weaker c.run.result _ _ (λ report. subst (λ (z : Keys). SaysMirror z lent.tap'.log (log_end report.ending)
     lent.tap'.mirror ⊎ IsUnprepared report lent.tap lent.tap') same) c.run.ensures.contents)
     c.run.ensures.told c.run.ensures.count c.run.ensures.time_up
-    (IfOk-weaker c.run.result _ _ (λ report. subst (λ (z : Keys). EndsDone z report.ending lent.tap'.log) same)
-    c.run.ensures.done)
     (IfOk-weaker c.run.result _ _ (λ report. subst (λ (z : Keys). EndsAtHome z program.config
     (play_with program.config program.image c.as_slice.result.now) report.ending lent.tap'.log) same)
     c.run.ensures.home))
