@@ -25,7 +25,7 @@ module _ (keys : Keys) (lawful : AreKeys keys) (levels : ℕ) where
   room_stops stash last s h =
       let port = port_of keys levels last s h.stands in
       record {
-        order = port.order;
+        slots = record { order = port.order; done = inl port.done };
         shows = inl (subst (λ n. verdict_on keys n s.tap.log ≡ None) h.same port.right);
         end = Whole;
         ends = inl refl;

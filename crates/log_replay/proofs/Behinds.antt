@@ -61,7 +61,7 @@ module _ (keys : Keys) (stash : ℕ) (old new : LogLists) (now : Contents) (n a 
     (altered : new.altered ≡ old.altered) (events : new.events ≡ old.events ++ behind_events b)
     (may : MayStand a x.last.found put b) where
   -- the last slot with what stands behind it
-  abbrev stood : SlotNotes
+  abbrev pub stood : SlotNotes
   stood = record x.last { behind = b }
 
   more : new.altered ≡ old.altered ++ []
@@ -124,13 +124,17 @@ module _ (keys : Keys) (stash : ℕ) (old new : LogLists) (now : Contents) (n a 
         (x.replayed.order.noted reply (subst (λ (l : List Altered). Has reply l) altered h)));
   }
 
+  -- each of its slots was done
+  pub behind_done : AreDone keys new [] (x.before ++ stood ∷ [])
+  behind_done = done_more keys new [] x.before stood front_done last_done
+
   -- what is known of the longer log, with contents that it says, in which nothing is wrong, and of which holds what
   -- holds always
   pub behind_replayed : (after : Contents) → whole keys (first_fold keys) new ≡ after → verdict_on keys stash new ≡ None
       → Always keys new after → IsReplayedLog keys stash new after n
   behind_replayed after is right always = record {
     order = behind_order;
-    done = done_more keys new [] x.before stood front_done last_done;
+    done = behind_done;
     dummies_are =
         let none = behind_none b in
         let both = count_more is_dummy old.events (behind_events b) in

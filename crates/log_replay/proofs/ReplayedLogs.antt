@@ -27,7 +27,7 @@ use Rattle.log_replay.specs.Judged.{verdict_on}
 use Rattle.log_replay.specs.Order.{Nothing, SlotNotes, accepted_events, chosen_events, events_of, IsNextPoint, IsTaken}
 use Rattle.log_replay.specs.Order.{IsDone, IsBare, AreDone, LogOrder}
 use Rattle.log_replay.proofs.Orders.{later_events, all_events, next_after, numbered, order_kept, all_done_kept}
-use Rattle.log_replay.proofs.Orders.{order_more, noted_more, noted_last}
+use Rattle.log_replay.proofs.Orders.{order_more, done_more, noted_more, noted_last}
 
 -- A log notes slots in order, each of which was done, and so many dummies; it says these contents, in which nothing is
 -- wrong.
@@ -115,6 +115,20 @@ module _ (keys : Keys) (stash : ℕ) (old new : LogLists) (now : Contents) (n : 
       same = ap (λ f. (settle keys f).now) (so_far keys (first_fold keys) old new s.start s.asked s.point
           (later_events s) extra x.always.past adds.events_are adds.altered_are noted) ∙ x.contents_are
 
+  -- the slots before it were done in the longer log too
+  pub earlier_done : (extra : List Altered) → new.altered ≡ old.altered ++ extra
+      → All (λ (reply : Altered). reply.before ≡ length old.events + 2) extra → AreDone keys new [] x.order.slots
+  earlier_done extra more noted =
+      all_done_kept keys old new extra more [] x.order.slots (late extra noted) x.done
+
+  -- and so was it, where it was done
+  pub slots_done : (extra : List Altered) → new.altered ≡ old.altered ++ extra
+      → All (λ (reply : Altered). reply.before ≡ length old.events + 2) extra → IsDone keys new old.events s
+      → AreDone keys new [] (x.order.slots ++ s ∷ [])
+  slots_done extra more noted d =
+      done_more keys new [] x.order.slots s (earlier_done extra more noted)
+      (subst (λ l. IsDone keys new l s) x.order.events d)
+
   -- The order of the longer log: the slot was done, or nothing is noted of it but its point.
   pub slot_order : (extra : List Altered) → Adds old new (events_of keys s) extra
       → All (λ (reply : Altered). reply.before ≡ length old.events + 2) extra → IsNextPoint n s.asked s.point
@@ -128,7 +142,7 @@ module _ (keys : Keys) (stash : ℕ) (old new : LogLists) (now : Contents) (n : 
           ∙ sym (flat_map-append (events_of keys) x.order.slots (s ∷ []));
       order = order_more keys new [] 0 x.order.slots s
           (order_kept keys old new extra adds.altered_are [] 0 x.order.slots (late extra noted) x.order.order)
-          (all_done_kept keys old new extra adds.altered_are [] x.order.slots (late extra noted) x.done)
+          (earlier_done extra adds.altered_are noted)
           (subst (λ k. IsNextPoint k s.asked s.point) (sym count) next)
           (elim is [ inl d ↦ inl (subst (λ l. IsDone keys new l s) x.order.events d) | inr b ↦ inr b ]);
       noted = λ reply h. elim (has_split reply old.altered extra

@@ -26,9 +26,10 @@ use Rattle.oram_walk.specs.Request.{Append, Answer}
 use Rattle.rate_enforcer.specs.PortStep.{PortState, Resting, HasNoted, contents}
 use Rattle.unified_tree.specs.Tree.{TreeState}
 use Rattle.log_replay.specs.Judged.{IsBeforeLast, IsFirstVerdict, ShowsStop, EndsLog, SaysMirror}
-use Rattle.log_replay.specs.Order.{Appends}
+use Rattle.log_replay.specs.LastSlot.{AreDoneToAppend, AreDoneBy}
+use Rattle.log_replay.specs.Order.{Appends, LogOrder}
 use Rattle.log_replay.specs.Replayed.{IsBehindSlot, StopsReplayed}
-use Rattle.log_replay.proofs.Behinds.{behind_order}
+use Rattle.log_replay.proofs.Behinds.{stood, behind_done, behind_order}
 use Rattle.log_replay.proofs.BlockSlots.{IsBehindBlock}
 use Rattle.log_replay.proofs.Ports.{behind_of}
 use Rattle.log_replay.proofs.StopLogs.{LogStops}
@@ -93,16 +94,29 @@ module _ (keys : Keys) where
         (written_ok Whole new.moves == keys.shape.levels + 1) (written_ok Whole new.moves)
         ∙ ap (λ (f : Fold). f.now.mirror) folded ∙ ap (λ (c : Contents). c.mirror) x.replayed.contents_are
 
+    abbrev in_order : LogOrder keys new
+    in_order = behind_order keys stash old new now dummies a line None x (Appends m) altered events (refl, other)
+
+    -- each slot was done, and the message stands behind the last one
+    appended : AreDoneToAppend keys new in_order.slots
+    appended = record {
+      before = x.before;
+      last = stood keys stash old new now dummies a line None x (Appends m) altered events (refl, other);
+      are = refl;
+      done = behind_done keys stash old new now dummies a line None x (Appends m) altered events (refl, other);
+      message = m;
+      behind = refl;
+    }
+
     joins_left : (stop : Stop) → append_verdict stash m.address now.hand ≡ Some stop
         → LogStops keys stash stop new now.mirror
     joins_left stop wrong = by_kind (append_kinds stash m.address now.hand stop wrong)
       where
-        stops : (how : Stop) → stop ≡ how → ShowsStop keys stash how new → EndsLog how Whole
-            → LogStops keys stash stop new now.mirror
-        stops how is shows ends =
+        stops : (how : Stop) → stop ≡ how → AreDoneBy keys how new in_order.slots → ShowsStop keys stash how new
+            → EndsLog how Whole → LogStops keys stash stop new now.mirror
+        stops how is done shows ends =
             subst (λ h. LogStops keys stash h new now.mirror) (sym is) (record {
-              order = behind_order keys stash old new now dummies a line None x (Appends m) altered events
-                  (refl, other);
+              slots = record { order = in_order; done = done };
               shows = shows;
               end = Whole;
               ends = ends;
@@ -112,8 +126,8 @@ module _ (keys : Keys) where
         by_kind : ((evidence : Evidence) × (stop ≡ Integrity evidence)) ⊎ ((held : ℕ) × (stop ≡ StashFull held))
             → LogStops keys stash stop new now.mirror
         by_kind (inl (evidence, is)) =
-            stops (Integrity evidence) is (shown (Integrity evidence) (wrong ∙ ap Some is)) refl
-        by_kind (inr (held, is)) = stops (StashFull held) is (shown (StashFull held) (wrong ∙ ap Some is)) refl
+            stops (Integrity evidence) is (inr appended) (shown (Integrity evidence) (wrong ∙ ap Some is)) refl
+        by_kind (inr (held, is)) = stops (StashFull held) is (inr appended) (shown (StashFull held) (wrong ∙ ap Some is)) refl
 
   module _ (levels notes a : ℕ) (line : List ℕ) (old new : PortState) (behind : IsBehindSlot keys a line None old)
       (rests : Resting (notes + 1) levels old) where

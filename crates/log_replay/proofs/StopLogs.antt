@@ -1,5 +1,5 @@
 -- What a slot leaves in the log that stops in its reads, over its block, or in its writes.
-use Rattle.std.proofs.Common.{◌≡◌, ◌<◌, ◌+◌, inl, inr, ℕ, true, false, List, ◌++◌, length, All, Option}
+use Rattle.std.proofs.Common.{◌≡◌, ◌<◌, ◌+◌, inl, inr, ℕ, true, false, List, [], ◌∷◌, ◌++◌, length, All, Option}
 use Rattle.std.proofs.Common.{None, Some, Ok, refl, sym, ◌∙◌, ap, subst, subst₂, arith, append-nil, append_assoc}
 use Rattle.asc_base.specs.declared.block.Entry.{Entry}
 use Rattle.asc_base.specs.declared.block.Message.{Message}
@@ -22,15 +22,16 @@ use Rattle.oram_contents.specs.Verdict.{read_verdict, put_entries, IsOfPoint}
 use Rattle.rate_enforcer.specs.Breaks.{Begins, IsRefused, ReadsBreak, HasWholeSlots, ReadStops, WritesBreak}
 use Rattle.rate_enforcer.specs.Breaks.{IsOverfull, WriteStops, DummyStops}
 use Rattle.log_replay.specs.Judged.{IsBeforeLast, BreaksOffReading, ShowsStop, EndsLog, SaysMirror}
-use Rattle.log_replay.specs.Order.{events_of, IsNextPoint, IsTaken, LogOrder}
-use Rattle.log_replay.proofs.ReplayedLogs.{IsReplayedLog, slot_done, slot_order}
-use Rattle.log_replay.proofs.StopMoves.{whole_says}
+use Rattle.log_replay.specs.LastSlot.{EndsInMove, AreDoneButLast, AreDoneToPut, BreaksOffMoving, StopsInOrder}
+use Rattle.log_replay.specs.Order.{events_of, IsNextPoint, IsTaken, IsDone, IsBare, AreDone, LogOrder}
+use Rattle.log_replay.proofs.ReplayedLogs.{IsReplayedLog, earlier_done, slots_done, slot_done, slot_order}
+use Rattle.log_replay.proofs.StopMoves.{whole_says, ends_in}
 use Rattle.log_replay.proofs.StopShows.{slot_of, before_last, last_events, shows_refused, shows_wrong, shows_full}
 use Rattle.log_replay.proofs.StopShows.{shows_none, says_read, says_cut}
 
 -- a stop leaves a log in order that shows it and says the buckets
 pub record LogStops (keys : Keys) (stash : ℕ) (stop : Stop) (log : LogLists) (mirror : List (List ℕ)) : Type 0 where
-  pub order : LogOrder keys log
+  pub slots : StopsInOrder keys stop log
   pub shows : ShowsStop keys stash stop log
   pub end : LogEnd
   pub ends : EndsLog stop end
@@ -54,10 +55,20 @@ module _ (keys : Keys) (stash : ℕ) (old : LogLists) (now : Contents) (dummies 
         altered_are = b.adds.altered_are;
       }
 
-      bare_order : LogOrder keys new
+      bare_order : (o : LogOrder keys new) × AreDoneButLast keys new o.slots
       bare_order =
-          (slot_order keys stash old new now dummies (slot_of start asked p None None) base b.altered bare_adds b.noted
-          next (inr (record { found = refl; put = refl; chosen = refl; behind = refl }))).0
+          let s = slot_of start asked p None None in
+          let bare : IsBare s = record { found = refl; put = refl; chosen = refl; behind = refl } in
+          let (o, are) = slot_order keys stash old new now dummies s base b.altered bare_adds b.noted next (inr bare) in (
+            o,
+            record {
+              before = base.order.slots;
+              last = s;
+              are = are;
+              done = earlier_done keys stash old new now dummies s base b.altered b.adds.altered_are b.noted;
+              bare = bare;
+            },
+          )
 
       bare_before : IsBeforeLast old new
       bare_before =
@@ -86,7 +97,7 @@ module _ (keys : Keys) (stash : ℕ) (old : LogLists) (now : Contents) (dummies 
           → new.moves ≡ before ++ reads keys.shape.levels start (keys.leaf_of p)
           → LogStops keys stash (Integrity evidence) new now.mirror
       wrong_stops evidence joined before read wrong moves = record {
-        order = bare_order;
+        slots = record { order = bare_order.0; done = inl bare_order.1 };
         shows = record {
           before = old;
           last = bare_before;
@@ -103,7 +114,7 @@ module _ (keys : Keys) (stash : ℕ) (old : LogLists) (now : Contents) (dummies 
     refused_stops : (evidence : Evidence) (after : Contents) → IsRefused keys evidence old new now after start asked p
         → LogStops keys stash (Integrity evidence) new after.mirror
     refused_stops evidence after r = record {
-      order = bare_order r.begins;
+      slots = record { order = (bare_order r.begins).0; done = inl (bare_order r.begins).1 };
       shows = record {
         before = old;
         last = bare_before r.begins;
@@ -133,6 +144,10 @@ module _ (keys : Keys) (stash : ℕ) (old : LogLists) (now : Contents) (dummies 
       moves = r.moves;
     }
 
+    -- the last of its reads failed, or memory ran out in it
+    broken_read : (after : Contents) → ReadsBreak keys old new now after start asked p → EndsInMove false new
+    broken_read after r = ends_in keys.shape.levels start (keys.leaf_of p) r.level false old.moves new r.moves
+
     broken_says : (after : Contents) (end : LogEnd) → ReadsBreak keys old new now after start asked p
         → SaysMirror keys new end after.mirror
     broken_says after end r =
@@ -143,7 +158,7 @@ module _ (keys : Keys) (stash : ℕ) (old : LogLists) (now : Contents) (dummies 
         → LogStops keys stash NoMemory new after.mirror
     starved after slots same kept =
         let here : LogStops keys stash NoMemory old now.mirror = record {
-          order = base.order;
+          slots = record { order = base.order; done = inl base.done };
           shows = inl base.right;
           end = Whole;
           ends = inl refl;
@@ -158,7 +173,10 @@ module _ (keys : Keys) (stash : ℕ) (old : LogLists) (now : Contents) (dummies 
     reads_stop (StashFull held) after r = absurd r
     reads_stop (TimeUp at) after r = absurd r
     reads_stop Device after r = record {
-      order = bare_order r.begins;
+      slots = record {
+        order = (bare_order r.begins).0;
+        done = inl ((bare_order r.begins).1, broken_read after r);
+      };
       shows = inr (breaks_off after r);
       end = LastFailed;
       ends = refl;
@@ -166,7 +184,10 @@ module _ (keys : Keys) (stash : ℕ) (old : LogLists) (now : Contents) (dummies 
     }
     reads_stop NoMemory after (inl (same, kept, slots)) = starved after slots same kept
     reads_stop NoMemory after (inr r) = record {
-      order = bare_order r.begins;
+      slots = record {
+        order = (bare_order r.begins).0;
+        done = inr (inl ((bare_order r.begins).1, broken_read after r));
+      };
       shows = inr (breaks_off after r);
       end = RanOut;
       ends = inr refl;
@@ -185,11 +206,23 @@ module _ (keys : Keys) (stash : ℕ) (old : LogLists) (now : Contents) (dummies 
     hand = leave p joined ++ put_entries keys put
 
     module _ (new : LogLists) (all : Adds old new (events_of keys (slot_of start asked p found put)) extra) where
-      done_order : LogOrder keys new
+      done_order : (o : LogOrder keys new) × AreDoneToPut keys new o.slots
       done_order =
-          (slot_order keys stash old new now dummies (slot_of start asked p found put) base extra all noted next
-          (inl (slot_done keys stash old new now dummies (slot_of start asked p found put) base extra joined all noted
-          read taken put_of))).0
+          let s = slot_of start asked p found put in
+          let is_done : IsDone keys new old.events s =
+          slot_done keys stash old new now dummies s base extra joined all noted read taken put_of in
+          let (o, are) = slot_order keys stash old new now dummies s base extra all noted next (inl is_done) in (
+            o,
+            record {
+              before = base.order.slots;
+              last = s;
+              are = are;
+              done = subst (AreDone keys new []) (sym are)
+                  (slots_done keys stash old new now dummies s base extra all.altered_are noted is_done);
+              chosen = refl;
+              behind = refl;
+            },
+          )
 
     -- its path can't be written
     full_stops : (held : ℕ) (between after : Contents) → between ≡ record now { hand = hand } → (new : LogLists)
@@ -201,7 +234,7 @@ module _ (keys : Keys) (stash : ℕ) (old : LogLists) (now : Contents) (dummies 
         let over : stash < rest_of keys.shape.levels (keys.leaf_of p) hand = omega (arith, w.over, count) in
         let mirror : now.mirror ≡ after.mirror = ap (λ (c : Contents). c.mirror) (sym (w.after_is ∙ is)) in
         let here : LogStops keys stash (StashFull held) mid after.mirror = record {
-          order = done_order mid adds;
+          slots = record { order = (done_order mid adds).0; done = inl (done_order mid adds).1 };
           shows = record {
             before = old;
             last = before_last keys stash old mid now base.always.past base.contents_are base.right start asked p found
@@ -228,6 +261,12 @@ module _ (keys : Keys) (stash : ℕ) (old : LogLists) (now : Contents) (dummies 
         events_are = w.adds.events_are ∙ append-nil mid.events ∙ adds.events_are;
         altered_are = w.adds.altered_are ∙ append-nil mid.altered ∙ adds.altered_are;
       }
+
+      write_order : (o : LogOrder keys new) × BreaksOffMoving keys new o.slots
+      write_order =
+          let (o, done) = done_order new all_adds in
+          (o, inr (done, ends_in keys.shape.levels (writes_start keys.shape.levels start) (keys.leaf_of p) w.level true
+          mid.moves new w.moves))
 
       write_shows : ShowsStop keys stash Device new
       write_shows =
@@ -258,14 +297,14 @@ module _ (keys : Keys) (stash : ℕ) (old : LogLists) (now : Contents) (dummies 
     writes_stop (StashFull held) between after is new w = full_stops held between after is new w
     writes_stop (TimeUp at) between after is new w = absurd w
     writes_stop Device between after is new w = record {
-      order = done_order new (all_adds between after is new w);
+      slots = let (o, broke) = write_order between after is new w in record { order = o; done = broke };
       shows = write_shows between after is new w;
       end = LastFailed;
       ends = refl;
       says = write_says between after is new w LastFailed tt;
     }
     writes_stop NoMemory between after is new w = record {
-      order = done_order new (all_adds between after is new w);
+      slots = let (o, broke) = write_order between after is new w in record { order = o; done = inr broke };
       shows = write_shows between after is new w;
       end = RanOut;
       ends = inr refl;

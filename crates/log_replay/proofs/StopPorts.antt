@@ -30,7 +30,7 @@ use Rattle.log_replay.proofs.StopMoves.{whole_says, ended_whole}
 pub stops_at : (keys : Keys) (stash : ℕ) (stop : Stop) (s : PortState)
     → LogStops keys stash stop s.tap.log s.tap.mirror → StopsReplayed keys stash stop s
 stops_at keys stash stop s x = record {
-  order = x.order;
+  slots = x.slots;
   shows = x.shows;
   end = x.end;
   ends = x.ends;
@@ -100,7 +100,7 @@ module _ (keys : Keys) (lawful : AreKeys keys) (levels notes : ℕ) (old new : P
         let slots : HasWholeSlots config.shape.levels new.tap.log =
         ended_whole (public_of config) new.clock.last new.tap.log keeps.scheduled (omega (arith, up.ended)) in
         record {
-          order = x.order;
+          slots = record { order = x.order; done = x.done };
           shows = x.right;
           end = Whole;
           ends = refl;

@@ -1,4 +1,5 @@
 pub mod Order
+pub mod LastSlot
 pub mod Judged
 pub mod Replayed
 pub mod Given

@@ -16,6 +16,7 @@ use Rattle.oram_walk.specs.Front.{IsFront}
 use Rattle.rate_enforcer.specs.Counts.{is_dummy}
 use Rattle.rate_enforcer.specs.PortStep.{PortState, contents}
 use Rattle.log_replay.specs.Judged.{verdict_on, ShowsStop, EndsLog, SaysMirror}
+use Rattle.log_replay.specs.LastSlot.{StopsInOrder}
 use Rattle.log_replay.specs.Order.{SlotNotes, Nothing, AreDone, LogOrder}
 
 -- A port between two slots: its log notes slots in order, each of which was done, it has the contents that the log
@@ -51,9 +52,10 @@ pub record IsReplayed (keys : Keys) (o : OramState) : Type 0 where
   pub room : 1 ≤ o.front.plb
   pub port : IsReplayedPort keys o.port
 
--- What a stop leaves: the log notes slots in order up to it, shows the stop, and says the buckets.
+-- What a stop leaves: the log notes slots in order, which were done as far as the stop says, shows the stop, and says
+-- the buckets.
 pub record StopsReplayed (keys : Keys) (stash : ℕ) (stop : Stop) (s : PortState) : Type 0 where
-  pub order : LogOrder keys s.tap.log
+  pub slots : StopsInOrder keys stop s.tap.log
   pub shows : ShowsStop keys stash stop s.tap.log
   pub end : LogEnd
   pub ends : EndsLog stop end

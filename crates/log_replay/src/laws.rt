@@ -14,7 +14,8 @@ ghost use Rattle.log_replay.specs.Replayed.{IsReplayed, StopsReplayed};
 
 /// An encrypted memory is what its log says, whatever its replies were: from the start on, and after each request that
 /// it answers. So the buckets are those that the log says. Where a request is stopped the log goes on noting slots in
-/// order, shows the stop at its last slot or its last message, and says the buckets.
+/// order, which were done as far as the stop says, shows the stop at its last slot or its last message, and says the
+/// buckets.
 pub fn logs_say_all()
     ensures start { (keys : Keys) → AreKeys keys → (levels : ℕ) (config : Config) (o : OramState) → IsConfig config
         → IsNew keys config levels o → IsReplayed keys o }
