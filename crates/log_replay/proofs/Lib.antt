@@ -23,6 +23,7 @@ pub mod Requests
 pub mod FirstReads
 pub mod SlotSplits
 pub mod OrderRows
+pub mod LastRows
 pub mod VerdictRows
 pub mod AlteredRows
 pub mod ReadBacks

@@ -34,10 +34,10 @@ no_line : (value : Line) → None ≡ Some value → ⊥
 no_line value is = cc
 
 module _ (keys : Keys) where
-  pub none : LogOrder keys empty_log
+  unfoldable pub none : LogOrder keys empty_log
   none = record { slots = []; events = refl; order = tt; noted = λ reply h. absurd h }
 
-  abbrev dummy_notes : SlotNotes
+  abbrev pub dummy_notes : SlotNotes
   dummy_notes = record {
     start = 256;
     asked = None;
@@ -48,11 +48,11 @@ module _ (keys : Keys) where
     behind = Nothing;
   }
 
-  dummy_done : (more : List Event) → IsDone keys (log_of (dummy_events keys 0 ++ more)) [] dummy_notes
+  pub dummy_done : (more : List Event) → IsDone keys (log_of (dummy_events keys 0 ++ more)) [] dummy_notes
   dummy_done more =
       record { joined = []; read = read_empty keys 256 (keys.leaf_of (Dummy 0)); taken = (refl, refl); put = tt }
 
-  pub dummy : LogOrder keys (log_of (dummy_events keys 0))
+  unfoldable pub dummy : LogOrder keys (log_of (dummy_events keys 0))
   dummy = record {
     slots = dummy_notes ∷ [];
     events = refl;
@@ -84,7 +84,7 @@ module _ (keys : Keys) where
   }
 
   module _ (a : ℕ) where
-    abbrev block_notes : Counter → Option Message → Option ℕ → Behind → SlotNotes
+    abbrev pub block_notes : Counter → Option Message → Option ℕ → Behind → SlotNotes
     block_notes c put chosen behind = record {
       start = 256;
       asked = Some 0;
@@ -95,21 +95,28 @@ module _ (keys : Keys) where
       behind = behind;
     }
 
-    -- a first slot of a block, in which nothing but its own message is put back
-    first_order : (put : Option Message) (chosen : Option ℕ) (behind : Behind) → IsOfPoint put (real a first_counter)
-        → MayStand a None put behind → LogOrder keys (log_of (block_events keys a first_counter
+    -- a first slot of a block, in which nothing but its own message is put back, was done
+    pub first_done : (events : List Event) (put : Option Message) (chosen : Option ℕ) (behind : Behind)
+        → IsOfPoint put (real a first_counter) → MayStand a None put behind
+        → IsDone keys (log_of events) [] (block_notes first_counter put chosen behind)
+    first_done events put chosen behind own stands = record {
+      joined = [];
+      read = read_empty keys 256 (keys.leaf_of (real a first_counter));
+      taken = (none_held keys a, refl, stands);
+      put = own;
+    }
+
+    unfoldable pub first_order : (put : Option Message) (chosen : Option ℕ) (behind : Behind)
+        → IsOfPoint put (real a first_counter) → MayStand a None put behind
+        → LogOrder keys (log_of (block_events keys a first_counter
         (put_events put ++ (chosen_events chosen ++ (behind_events behind ++ [])))))
     first_order put chosen behind own stands = record {
       slots = block_notes first_counter put chosen behind ∷ [];
       events = assoc put chosen;
       order = (
         (0, refl),
-        inl (record {
-          joined = [];
-          read = read_empty keys 256 (keys.leaf_of (real a first_counter));
-          taken = (none_held keys a, refl, stands);
-          put = own;
-        }),
+        inl (first_done (block_events keys a first_counter
+            (put_events put ++ (chosen_events chosen ++ (behind_events behind ++ [])))) put chosen behind own stands),
         tt,
       );
       noted = λ reply h. absurd h;
@@ -128,15 +135,15 @@ module _ (keys : Keys) where
     first c = first_order (Some (message_of a c zero_line)) None (Answers a (record { 0 = zero_line })) refl
         (refl, refl, refl)
 
-    pub stored : (c : Counter) (l : List ℕ)
+    unfoldable pub stored : (c : Counter) (l : List ℕ)
         → LogOrder keys (log_of (block_events keys a first_counter (Tagged (message_of a c l) ∷ [])))
     stored c l = first_order (Some (message_of a c l)) None Nothing refl tt
 
-    pub appended : (b : ℕ) (d : Counter) (k : List ℕ) → (b ≡ a → ⊥)
+    unfoldable pub appended : (b : ℕ) (d : Counter) (k : List ℕ) → (b ≡ a → ⊥)
         → LogOrder keys (log_of (block_events keys a first_counter (displaced (message_of b d k))))
     appended b d k other = first_order None (Some 0) (Appends (message_of b d k)) tt (refl, other)
 
-    pub bare : (c : Counter) → LogOrder keys (log_of (block_events keys a c []))
+    unfoldable pub bare : (c : Counter) → LogOrder keys (log_of (block_events keys a c []))
     bare c = record {
       slots = block_notes c None None Nothing ∷ [];
       events = refl;

@@ -54,7 +54,7 @@ pub record IsFirstSlot (keys : Keys) (log : LogLists) (start : ℕ) (asked : Opt
   pub order : AreInOrder keys log (events_of keys s) (next_dummy 0 p) later
 
 module _ (keys : Keys) where
-  begin : (slots : List SlotNotes) → Begins (all_events keys slots)
+  pub begin : (slots : List SlotNotes) → Begins (all_events keys slots)
   begin [] = tt
   begin (s ∷ later) = λ quiet. quiet
 

@@ -46,6 +46,12 @@ unfolding along
 next_move levels start leaf level =
     let one : level + 1 ≡ suc level = omega arith in ap (along levels false start leaf) one
 
+pub last_same : (x y : Move) (xs ys : List Move) → xs ++ x ∷ [] ≡ ys ++ y ∷ [] → x ≡ y
+last_same x y [] [] is = cc
+last_same x y [] (z ∷ ys) is = absurd (omega (arith, ap length is, length-append ys (y ∷ [])))
+last_same x y (z ∷ xs) [] is = absurd (omega (arith, ap length is, length-append xs (x ∷ [])))
+last_same x y (z ∷ xs) (w ∷ ys) is = let rest : xs ++ x ∷ [] ≡ ys ++ y ∷ [] = cc in last_same x y xs ys rest
+
 module _ (keys : Keys) (stash : ℕ) where
   -- what the path of a first slot is read to
   abbrev first_read : Point → Result (List Entry) Evidence
@@ -142,12 +148,6 @@ module _ (keys : Keys) (stash : ℕ) where
     within = within;
     moves = refl;
   }
-
-  last_same : (x y : Move) (xs ys : List Move) → xs ++ x ∷ [] ≡ ys ++ y ∷ [] → x ≡ y
-  last_same x y [] [] is = cc
-  last_same x y [] (z ∷ ys) is = absurd (omega (arith, ap length is, length-append ys (y ∷ [])))
-  last_same x y (z ∷ xs) [] is = absurd (omega (arith, ap length is, length-append xs (x ∷ [])))
-  last_same x y (z ∷ xs) (w ∷ ys) is = let rest : xs ++ x ∷ [] ≡ ys ++ y ∷ [] = cc in last_same x y xs ys rest
 
   -- the moves of a log that breaks off in reads end with a read
   ends_read : (log : LogLists) (b : BreaksOffReading keys stash log) → log.moves

@@ -12,4 +12,4 @@ mod laws;
 mod rows;
 
 pub use laws::logs_say_all;
-pub use rows::{altered_logs_have_rows, logs_have_rows, verdicts_have_rows};
+pub use rows::{altered_logs_have_rows, last_slots_have_rows, logs_have_rows, verdicts_have_rows};

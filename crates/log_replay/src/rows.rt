@@ -4,11 +4,12 @@ ghost use Rattle.std.specs.Prelude.{◌≡◌, ◌≤◌, ℕ, true, false, List
 ghost use Rattle.asc_base.specs.declared.block.Counter.{Counter};
 ghost use Rattle.asc_base.specs.declared.block.Message.{Message};
 ghost use Rattle.asc_base.specs.declared.block.Point.TheVariants.{Dummy};
+ghost use Rattle.asc_base.specs.declared.stop.Evidence.{Evidence};
 ghost use Rattle.asc_base.specs.declared.stop.Evidence.TheVariants.{Missing};
 ghost use Rattle.asc_base.specs.declared.stop.Stop.{Stop};
 ghost use Rattle.asc_base.specs.declared.stop.Stop.TheVariants.{Integrity, StashFull, TimeUp, Device, NoMemory};
 ghost use Rattle.asc_outside.specs.Memory.{zero_buckets};
-ghost use Rattle.bus_watch.specs.Log.{LogLists, write_move};
+ghost use Rattle.bus_watch.specs.Log.{LogLists, read_move, write_move};
 ghost use Rattle.bus_watch.specs.declared.log.Altered.{Altered};
 ghost use Rattle.bus_watch.specs.declared.log.Event.{Event};
 ghost use Rattle.bus_watch.specs.declared.log.Event.TheVariants.{Access, Drawn, Accepted, Tagged, Chosen, Answered};
@@ -22,6 +23,7 @@ ghost use Rattle.oram_contents.specs.Verdict.{is_first};
 ghost use Rattle.pmmac_tags.specs.Tag.{tag};
 ghost use Rattle.posmap_counters.specs.Counters.{first_counter, IsBefore};
 ghost use Rattle.log_replay.specs.Judged.{verdict_on, IsFirstVerdict, BreaksOffReading, EndsLog, SaysMirror};
+ghost use Rattle.log_replay.specs.LastSlot.{StopsInOrder};
 ghost use Rattle.log_replay.specs.Order.{LogOrder};
 ghost use Rattle.log_replay.specs.Rows.{log_of, moved_log, dummy_events, block_events, fetched, displaced, broken_log};
 ghost use Rattle.log_replay.specs.Rows.{CanStand, IsTopLine, found_log, again_log, found_again};
@@ -108,6 +110,47 @@ pub fn altered_logs_have_rows()
         → (m : Message) (u : List ℕ) → (u ≡ t → ⊥) → LogOrder keys (found_log keys a c l t m u) → ⊥ }
     ensures unexpected { (keys : Keys) (a : ℕ) (c : Counter) (l t : List ℕ) → CanStand keys a l t
         → (m : Message) (u : List ℕ) → is_first c ≡ true → LogOrder keys (found_log keys a c l t m u) → ⊥ }
+{}
+
+/// How far the slot of a log was done where a stop ended it. Time is up behind a dummy's slot; evidence comes in a
+/// block's slot, of which nothing is noted but its point, or over a message that is appended behind it; the stash is
+/// full for that message, or where a block was put back; a device fails in a read of a dummy's slot, or in a write; and
+/// memory runs out before the first slot. Refused are a time that is up, a full stash and want of memory without a
+/// move, where nothing is noted of a block's slot that was accessed before; a stash that is full for a slot at whose
+/// end a rate was chosen; evidence in a slot that put its block back; a failure without a move, one of a read where
+/// something was put back, and one of a write where a rate was chosen.
+pub fn last_slots_have_rows()
+    ensures in_time { (keys : Keys) (at : ℕ) → StopsInOrder keys (TimeUp at) (log_of (dummy_events keys 0)) }
+    ensures refused { (keys : Keys) (evidence : Evidence) (a : ℕ) (c : Counter) → StopsInOrder keys
+        (Integrity evidence) (log_of (block_events keys a c [])) }
+    ensures doubled { (keys : Keys) (evidence : Evidence) (a b : ℕ) (d : Counter) (k : List ℕ) → (b ≡ a → ⊥)
+        → StopsInOrder keys (Integrity evidence)
+        (log_of (block_events keys a first_counter (displaced (message_of b d k)))) }
+    ensures full_appended { (keys : Keys) (held a b : ℕ) (d : Counter) (k : List ℕ) → (b ≡ a → ⊥)
+        → StopsInOrder keys (StashFull held)
+        (log_of (block_events keys a first_counter (displaced (message_of b d k)))) }
+    ensures full_put { (keys : Keys) (held a : ℕ) (c : Counter) (l : List ℕ) → StopsInOrder keys (StashFull held)
+        (log_of (block_events keys a first_counter (Tagged (message_of a c l) ∷ []))) }
+    ensures read { (keys : Keys) (level : ℕ) → StopsInOrder keys Device (broken_log keys level) }
+    ensures written { (keys : Keys) (moves : List Move) (at bucket : ℕ) → StopsInOrder keys Device
+        (moved_log (moves ++ write_move at bucket ∷ []) (drawn_events keys 256 None (Dummy 0))) }
+    ensures starved { (keys : Keys) → StopsInOrder keys NoMemory empty_log }
+    ensures early { (keys : Keys) (at a : ℕ) (c : Counter) → is_first c ≡ false
+        → StopsInOrder keys (TimeUp at) (log_of (block_events keys a c [])) → ⊥ }
+    ensures full_unread { (keys : Keys) (held a : ℕ) (c : Counter) → is_first c ≡ false
+        → StopsInOrder keys (StashFull held) (log_of (block_events keys a c [])) → ⊥ }
+    ensures starved_unread { (keys : Keys) (a : ℕ) (c : Counter) → is_first c ≡ false
+        → StopsInOrder keys NoMemory (log_of (block_events keys a c [])) → ⊥ }
+    ensures full_chosen { (keys : Keys) (held : ℕ) → StopsInOrder keys (StashFull held)
+        (log_of (dummy_events keys 0)) → ⊥ }
+    ensures refused_put { (keys : Keys) (evidence : Evidence) (a : ℕ) (c : Counter) (l : List ℕ) → StopsInOrder keys
+        (Integrity evidence) (log_of (block_events keys a first_counter (Tagged (message_of a c l) ∷ []))) → ⊥ }
+    ensures unmoved { (keys : Keys) (events : List Event) → StopsInOrder keys Device (log_of events) → ⊥ }
+    ensures read_put { (keys : Keys) (moves : List Move) (at bucket a : ℕ) (c : Counter) (l : List ℕ)
+        → StopsInOrder keys Device (moved_log (moves ++ read_move at bucket ∷ [])
+        (block_events keys a first_counter (Tagged (message_of a c l) ∷ []))) → ⊥ }
+    ensures written_chosen { (keys : Keys) (moves : List Move) (at bucket : ℕ) → StopsInOrder keys Device
+        (moved_log (moves ++ write_move at bucket ∷ []) (dummy_events keys 0)) → ⊥ }
 {}
 
 /// What logs show to be wrong. Nothing is wrong in the slot of the first dummy, so no stop is its first verdict, nor
