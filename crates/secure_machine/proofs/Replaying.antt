@@ -1,5 +1,6 @@
 -- What a log says along a run: one request, and how the run ended.
-use Rattle.std.proofs.Common.{◌≡◌, ◌∙◌, ℕ, List, [], None, Some, Result, Ok, Err, IfOk, OnErr, sym, ap, subst, arith}
+use Rattle.std.proofs.Common.{◌≡◌, ◌∙◌, inl, ℕ, List, [], None, Some, Result, Ok, Err, IfOk, OnErr, refl, sym, ap}
+use Rattle.std.proofs.Common.{subst, arith}
 use Rattle.std.specs.Prelude.{MatchResult}
 use Rattle.asc_base.specs.Has.{Has}
 use Rattle.asc_base.specs.declared.shape.Shape.{Shape}
@@ -11,16 +12,17 @@ use Rattle.bus_watch.specs.declared.log.Event.{Event}
 use Rattle.data_cache.specs.Lines.{LineRequest, Fetch, Store}
 use Rattle.log_replay.specs.Given.{CallsReplay}
 use Rattle.log_replay.specs.Judged.{verdict_on, ShowsStop, EndsLog, SaysMirror}
+use Rattle.log_replay.specs.LastSlot.{StopsInOrder}
 use Rattle.log_replay.specs.Order.{LogOrder}
 use Rattle.log_replay.specs.Replayed.{IsReplayed, StopsReplayed}
 use Rattle.oram_contents.specs.Entries.{Keys}
-use Rattle.oram_contents.specs.Fold.{LogEnd}
+use Rattle.oram_contents.specs.Fold.{LogEnd, Whole}
 use Rattle.oram_frontend.specs.Oram.{OramState, Fetch as OramFetch, Store as OramStore}
 use Rattle.play_run.specs.Timed.{TimedState, TimedStep, CanAsk}
 use Rattle.rate_enforcer.specs.PortStep.{PortState, Resting}
 use Rattle.secure_machine.specs.Finish.{IsOwnEnding}
 use Rattle.secure_machine.specs.FlatEnds.{ending_by}
-use Rattle.secure_machine.specs.Judged.{ShowsEnding, EndsReplayed, WantsReplayed, log_end}
+use Rattle.secure_machine.specs.Judged.{ShowsEnding, AreDoneAt, EndsInOrder, EndsReplayed, WantsReplayed, log_end}
 use Rattle.secure_machine.specs.declared.report.Ending.{Ending}
 use Rattle.secure_machine.specs.declared.report.Ending.TheVariants.{Exit, Trap, Budget, TimeUp, StashFull, Integrity}
 use Rattle.secure_machine.specs.declared.report.Ending.TheVariants.{Device}
@@ -63,14 +65,23 @@ pub own_replayed : (keys : Keys) (levels budget time instructions cycles until :
     → EndsReplayed keys o.port.tree.stash ending o.port.tap
 own_replayed keys levels budget time instructions cycles until ending o calls now rests own = by ending own
   where
+    -- where all slots were done as far as the ending says
+    ends : (ending : Ending) → AreDoneAt keys ending o.port.tap.log now.port.order.slots
+        → ShowsEnding keys o.port.tree.stash ending o.port.tap.log → log_end ending ≡ Whole
+        → EndsReplayed keys o.port.tree.stash ending o.port.tap
+    ends ending done shows end = record {
+      slots = record { order = now.port.order; done = done };
+      shows = shows;
+      mirror = subst (λ (x : LogEnd). SaysMirror keys o.port.tap.log x o.port.tap.mirror) (sym end)
+          (calls.between o now rests);
+    }
+
     by : (ending : Ending) → IsOwnEnding budget time instructions cycles until ending
         → EndsReplayed keys o.port.tree.stash ending o.port.tap
-    by (Exit status) own =
-        record { order = now.port.order; shows = now.port.right; mirror = calls.between o now rests }
-    by (Trap kind pc) own =
-        record { order = now.port.order; shows = now.port.right; mirror = calls.between o now rests }
-    by Budget own = record { order = now.port.order; shows = now.port.right; mirror = calls.between o now rests }
-    by (TimeUp at) own = record { order = now.port.order; shows = now.port.right; mirror = calls.between o now rests }
+    by (Exit status) own = ends (Exit status) now.port.done now.port.right refl
+    by (Trap kind pc) own = ends (Trap kind pc) now.port.done now.port.right refl
+    by Budget own = ends Budget now.port.done now.port.right refl
+    by (TimeUp at) own = ends (TimeUp at) now.port.done now.port.right refl
     by (StashFull held) own = absurd own
     by (Integrity evidence) own = absurd own
     by Device own = absurd own
@@ -78,23 +89,27 @@ own_replayed keys levels budget time instructions cycles until ending o calls no
 -- A stop that is an ending leaves a log that shows the ending, and want of memory one that shows the want.
 stop_replayed : (keys : Keys) (stash : ℕ) (stop : Stop) (ending : Ending) (s : PortState)
     → ending_by stop ≡ Some ending → StopsReplayed keys stash stop s → EndsReplayed keys stash ending s.tap
-stop_replayed keys stash stop ending s named h = by stop h.shows h.ends named
+stop_replayed keys stash stop ending s named h = by stop h.slots h.shows h.ends named
   where
-    shown : (e : Ending) → ShowsEnding keys stash e s.tap.log → h.end ≡ log_end e → e ≡ ending
-        → EndsReplayed keys stash ending s.tap
-    shown e shows end same = subst (λ (x : Ending). EndsReplayed keys stash x s.tap) same (record {
-      order = h.order;
+    shown : (e : Ending) → EndsInOrder keys e s.tap.log → ShowsEnding keys stash e s.tap.log → h.end ≡ log_end e
+        → e ≡ ending → EndsReplayed keys stash ending s.tap
+    shown e slots shows end same = subst (λ (x : Ending). EndsReplayed keys stash x s.tap) same (record {
+      slots = slots;
       shows = shows;
       mirror = subst (λ (x : LogEnd). SaysMirror keys s.tap.log x s.tap.mirror) end h.mirror;
     })
 
-    by : (stop : Stop) → ShowsStop keys stash stop s.tap.log → EndsLog stop h.end → ending_by stop ≡ Some ending
-        → EndsReplayed keys stash ending s.tap
-    by (why.Integrity evidence) shows end is = shown (Integrity evidence) shows end cc
-    by (why.StashFull held) shows end is = shown (StashFull held) shows end cc
-    by (why.TimeUp at) shows end is = shown (TimeUp at) shows end cc
-    by why.Device shows end is = shown Device shows end cc
-    by why.NoMemory shows end is = absurd cc
+    by : (stop : Stop) → StopsInOrder keys stop s.tap.log → ShowsStop keys stash stop s.tap.log → EndsLog stop h.end
+        → ending_by stop ≡ Some ending → EndsReplayed keys stash ending s.tap
+    by (why.Integrity evidence) slots shows end is =
+        shown (Integrity evidence) (record { order = slots.order; done = slots.done }) shows end cc
+    by (why.StashFull held) slots shows end is =
+        shown (StashFull held) (record { order = slots.order; done = slots.done }) shows end cc
+    by (why.TimeUp at) slots shows end is =
+        shown (TimeUp at) (record { order = slots.order; done = slots.done }) shows end cc
+    by why.Device slots shows end is =
+        shown Device (record { order = slots.order; done = slots.done }) shows end cc
+    by why.NoMemory slots shows end is = absurd cc
 
 pub stopped_replayed : {E : Type 0} (keys : Keys) (stash : ℕ) (stop : Stop) (s : PortState)
     (result : Result (Ending × ℕ) E) → IfOk result (λ (ending, last). ending_by stop ≡ Some ending)
@@ -104,7 +119,7 @@ pub stopped_replayed : {E : Type 0} (keys : Keys) (stash : ℕ) (stop : Stop) (s
 stopped_replayed keys stash stop s (Ok (ending, last)) named wants h = stop_replayed keys stash stop ending s named h
 stopped_replayed keys stash stop s (Err e) named wants h =
     let now = subst (λ (x : Stop). StopsReplayed keys stash x s) wants h in
-    record { order = now.order; shows = now.shows; mirror = (now.end, now.ends, now.mirror) }
+    record { slots = now.slots; shows = now.shows; mirror = (now.end, now.ends, now.mirror) }
 
 -- ---- before the first slot
 pub start_order : (keys : Keys) (log : LogLists) → log.events ≡ [] → log.altered ≡ [] → LogOrder keys log
@@ -114,6 +129,12 @@ start_order keys log none unaltered = record {
   order = tt;
   noted = λ reply h. absurd (subst (λ (l : List Altered). Has reply l) unaltered h);
 }
+
+-- no slot is noted, and so none that wasn't done
+pub start_done : (keys : Keys) (log : LogLists) → log.events ≡ [] → log.altered ≡ []
+    → StopsInOrder keys why.NoMemory log
+unfolding start_order
+start_done keys log none unaltered = record { order = start_order keys log none unaltered; done = inl tt }
 
 pub start_right : (keys : Keys) (stash : ℕ) (log : LogLists) → log.events ≡ [] → verdict_on keys stash log ≡ None
 start_right keys stash log none =

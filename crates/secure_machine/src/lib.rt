@@ -26,6 +26,7 @@ ghost use Rattle.std.specs.List.{count_by};
 ghost use Rattle.asc_base.specs.Settings.{IsConfig};
 ghost use Rattle.asc_base.specs.TreeShape.{olat_of};
 ghost use Rattle.asc_base.specs.declared.stop.Evidence.{Evidence};
+ghost use Rattle.asc_base.specs.declared.stop.Stop.TheVariants as why;
 ghost use Rattle.asc_outside.specs.Memory.{MemoryState, zero_buckets};
 ghost use Rattle.asc_outside.specs.Rose.{Rose};
 ghost use Rattle.bus_schedule.specs.Scheduled.{log_code};
@@ -52,12 +53,14 @@ ghost use Rattle.secure_machine.specs.Answered.{answered_lines};
 ghost use Rattle.secure_machine.specs.Fed.{IsFed};
 ghost use Rattle.log_replay.specs.Given.{CallsReplay};
 ghost use Rattle.log_replay.specs.Judged.{verdict_on, BreaksOffReading, SaysMirror};
+ghost use Rattle.log_replay.specs.LastSlot.{StopsInOrder};
 ghost use Rattle.log_replay.specs.Order.{LogOrder};
 ghost use Rattle.play_run.specs.Given.{CallsPlay};
 ghost use Rattle.play_run.specs.Shows.{IsPlayed};
 ghost use Rattle.secure_machine.specs.Plays.{play_report, play_with};
 ghost use Rattle.secure_machine.specs.Finish.{IsRightEnding, IsTimeUp};
-ghost use Rattle.secure_machine.specs.Judged.{ShowsEnding, EndsReplayed, WantsReplayed, SaysWanting, log_end};
+ghost use Rattle.secure_machine.specs.Judged.{ShowsEnding, EndsInOrder, EndsReplayed, WantsReplayed, SaysWanting};
+ghost use Rattle.secure_machine.specs.Judged.{log_end};
 ghost use Rattle.secure_machine.specs.Run.{Reported, Wanting, IsFlatReport, IsUnprepared, IsTiedOr, IsTiedButLast};
 ghost use Rattle.secure_machine.specs.Run.{chip_keys, start_of, IsInBudget, DrawsLeaves};
 ghost use Rattle.secure_machine.specs.LastMove.{EndsWithMove};
@@ -250,11 +253,11 @@ fn run_prepared<M: UntrustedMemory, W: Watch, L: LeafFn>(
 /// before the first slot the ending is `Device`, and all numbers are 0. The run's schedule ends less than a slot's
 /// cycles after the time of the settings.
 ///
-/// Whatever the memory replies, the log tells how the run ended: it notes slots in order, the verdict on them is the
-/// ending, and the buckets are those that it says. For each point a leaf is drawn at most once, however the run ends,
-/// or the log shows a forgery. Where the bus was prepared and the memory tells its buckets afterwards, they are the
-/// mirror's. After a report as many buckets count as prepared as the shape has, and after want of memory so many, or
-/// none.
+/// Whatever the memory replies, the log tells how the run ended: it notes slots in order, each of which was done, the
+/// last one as far as the ending says, the verdict on them is the ending, and the buckets are those that it says. For
+/// each point a leaf is drawn at most once, however the run ends, or the log shows a forgery. Where the bus was
+/// prepared and the memory tells its buckets afterwards, they are the mirror's. After a report as many buckets count as
+/// prepared as the shape has, and after want of memory so many, or none.
 pub fn run<M: UntrustedMemory, W: Watch, L: LeafFn>(
     alloc: Global,
     config: &Config,
@@ -334,6 +337,11 @@ pub fn run<M: UntrustedMemory, W: Watch, L: LeafFn>(
     ensures spent { IfOk result (λ report.
         IsSpentOn config.now image.now input.now report (W.state bus.new.tap.now).log) }
     ensures order { LogOrder (chip_keys config.now codec tagger (L.leaf_of leaf)) (W.state bus.new.tap.now).log }
+    ensures done { IfOk result (λ report. EndsInOrder (chip_keys config.now codec tagger (L.leaf_of leaf))
+        report.ending (W.state bus.new.tap.now).log
+        ⊎ IsUnprepared report (W.state bus.old.tap.now) (W.state bus.new.tap.now)) }
+    ensures done_err { OnErr result (StopsInOrder (chip_keys config.now codec tagger (L.leaf_of leaf)) why.NoMemory
+        (W.state bus.new.tap.now).log) }
     ensures verdict { IfOk result (λ report. ShowsEnding (chip_keys config.now codec tagger (L.leaf_of leaf))
         config.now.stash report.ending (W.state bus.new.tap.now).log) }
     ensures verdict_err { OnErr result
