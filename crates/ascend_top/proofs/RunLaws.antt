@@ -8,6 +8,7 @@ use Rattle.asc_base.specs.TreeShape.{olat_of}
 use Rattle.asc_base.specs.declared.settings.Config.{Config}
 use Rattle.asc_base.specs.declared.settings.Settings.{Settings}
 use Rattle.asc_base.specs.declared.stop.Evidence.{Evidence}
+use Rattle.asc_base.specs.declared.stop.Stop.TheVariants as why
 use Rattle.asc_outside.specs.Host.{Files, HostState}
 use Rattle.asc_outside.specs.Rose.{Rose}
 use Rattle.bus_schedule.specs.Scheduled.{log_code}
@@ -16,6 +17,7 @@ use Rattle.bus_schedule.specs.Timetable.{public_of}
 use Rattle.bus_watch.specs.Honest.{MayTellMirror}
 use Rattle.epoch_learner.specs.Stands.{KeepsPace}
 use Rattle.log_replay.specs.Judged.{BreaksOffReading, SaysMirror, verdict_on}
+use Rattle.log_replay.specs.LastSlot.{StopsInOrder}
 use Rattle.log_replay.specs.Order.{LogOrder}
 use Rattle.oram_contents.specs.Forgery.{Forgery}
 use Rattle.oram_lines.specs.Standing.{DrawnOnce}
@@ -24,7 +26,7 @@ use Rattle.play_run.specs.Shows.{IsPlayed}
 use Rattle.secure_machine.specs.Answered.{answered_lines}
 use Rattle.secure_machine.specs.Fed.{IsFed}
 use Rattle.secure_machine.specs.Finish.{IsRightEnding, IsTimeUp}
-use Rattle.secure_machine.specs.Judged.{SaysWanting, ShowsEnding, log_end}
+use Rattle.secure_machine.specs.Judged.{EndsInOrder, SaysWanting, ShowsEnding, log_end}
 use Rattle.secure_machine.specs.LastMove.{EndsWithMove}
 use Rattle.secure_machine.specs.Plays.{play_report, play_with}
 use Rattle.secure_machine.specs.Run.{DrawsLeaves, IsFlatReport, IsInBudget, IsTiedButLast, IsTiedOr, IsUnprepared}
@@ -213,6 +215,8 @@ module _ (config : Config) (image : Image) (input key : List ℕ) (lent : Lent) 
         → (lent.tap'.log.altered ≡ []
         → IfOk result (λ r. IsPlayed config (play_with config image input) (play_report r) lent.tap'.log))
         → IfOk result (λ r. IsFed config image input r (answered_lines lent.tap'.log.events))
+        → IfOk result (λ r. EndsInOrder (keys_from config key) r.ending lent.tap'.log
+        ⊎ IsUnprepared r lent.tap lent.tap')
         → IfOk result (λ r. ShowsEnding (keys_from config key) config.stash r.ending lent.tap'.log)
         → IfOk result (λ r. SaysMirror (keys_from config key) lent.tap'.log (log_end r.ending) lent.tap'.mirror
         ⊎ IsUnprepared r lent.tap lent.tap')
@@ -221,9 +225,9 @@ module _ (config : Config) (image : Image) (input key : List ℕ) (lent : Lent) 
         → IfOk result (λ r. (at : ℕ) → r.ending ≡ TimeUp at → IsTimeUp config r.cycles lent.tap'.log at)
         → IfOk result (IsRunOf config image input key lent)
     ran_of (Err none) pace in_time real dummies tied device right choices code fetches spent flat honest refines plays
-        played fed verdict contents told count time_up = tt
+        played fed done verdict contents told count time_up = tt
     ran_of (Ok report) pace in_time real dummies tied device right choices code fetches spent flat honest refines plays
-        played fed verdict contents told count time_up = record {
+        played fed done verdict contents told count time_up = record {
           pace = pace;
           in_time = in_time;
           leaves = leaves;
@@ -250,6 +254,7 @@ module _ (config : Config) (image : Image) (input key : List ℕ) (lent : Lent) 
           points = points;
           fed = fed;
           order = order;
+          done = done;
           verdict = verdict;
           contents = contents;
           told = told;
@@ -261,13 +266,14 @@ module _ (config : Config) (image : Image) (input key : List ℕ) (lent : Lent) 
         → OnErr result ((end : ℕ) × KeepsPace config end lent.tap'.log)
         → OnErr result (EndsWithMove config lent.tap'.log)
         → OnErr result (IsTiedButLast config lent.memory lent.memory' lent.tap lent.tap')
+        → OnErr result (StopsInOrder (keys_from config key) why.NoMemory lent.tap'.log)
         → OnErr result ((verdict_on (keys_from config key) config.stash lent.tap'.log ≡ None)
         ⊎ BreaksOffReading (keys_from config key) config.stash lent.tap'.log)
         → OnErr result (SaysWanting (keys_from config key) lent.tap'.log lent.tap'.mirror ⊎ (lent.tap' ≡ lent.tap))
         → OnErr result ((lent.memory'.count ≡ 0) ⊎ (lent.memory'.count ≡ config.shape.buckets))
         → OnErr result (IsWantOf config image input key lent)
-    wants_of (Ok report) pace last_move tied verdict contents count = tt
-    wants_of (Err none) (end, pace) last_move tied verdict contents count = record {
+    wants_of (Ok report) pace last_move tied done verdict contents count = tt
+    wants_of (Err none) (end, pace) last_move tied done verdict contents count = record {
       end = end;
       pace = pace;
       leaves = leaves;
@@ -279,6 +285,7 @@ module _ (config : Config) (image : Image) (input key : List ℕ) (lent : Lent) 
       asked = asked;
       unaltered = unaltered;
       order = order;
+      done = done;
       verdict = verdict;
       contents = contents;
       points = points;

@@ -4,6 +4,7 @@ use Rattle.std.specs.List.{count_by}
 use Rattle.asc_base.specs.TreeShape.{olat_of}
 use Rattle.asc_base.specs.declared.settings.Config.{Config}
 use Rattle.asc_base.specs.declared.stop.Evidence.{Evidence}
+use Rattle.asc_base.specs.declared.stop.Stop.TheVariants as why
 use Rattle.asc_outside.specs.Memory.{MemoryState}
 use Rattle.asc_outside.specs.Rose.{Rose}
 use Rattle.bucket_codec.specs.Pad.{pad_key}
@@ -16,6 +17,7 @@ use Rattle.elf_loader.specs.declared.image.Image.{Image}
 use Rattle.epoch_learner.specs.Stands.{KeepsPace}
 use Rattle.leaf_function.specs.Leaf.{leaf, leaf_key}
 use Rattle.log_replay.specs.Judged.{BreaksOffReading, SaysMirror, verdict_on}
+use Rattle.log_replay.specs.LastSlot.{StopsInOrder}
 use Rattle.log_replay.specs.Order.{LogOrder}
 use Rattle.oram_contents.specs.Entries.{Keys}
 use Rattle.oram_contents.specs.Forgery.{Forgery}
@@ -26,7 +28,7 @@ use Rattle.play_run.specs.Shows.{IsPlayed}
 use Rattle.secure_machine.specs.Answered.{answered_lines}
 use Rattle.secure_machine.specs.Fed.{IsFed}
 use Rattle.secure_machine.specs.Finish.{IsRightEnding, IsTimeUp}
-use Rattle.secure_machine.specs.Judged.{SaysWanting, ShowsEnding, log_end}
+use Rattle.secure_machine.specs.Judged.{EndsInOrder, SaysWanting, ShowsEnding, log_end}
 use Rattle.secure_machine.specs.Plays.{play_report, play_with}
 use Rattle.secure_machine.specs.LastMove.{EndsWithMove}
 use Rattle.secure_machine.specs.Run.{DrawsLeaves, IsFlatReport, IsInBudget, IsTiedButLast, IsTiedOr, IsUnprepared}
@@ -64,9 +66,9 @@ keys_from config master =
 -- the program's Play, or of the Play cut by a stop, or the log shows a forgery; and no point was drawn twice, or it
 -- does. And whatever was answered, the report is that of the machine that is fed with the answered lines, its clock is
 -- no further than what its cycles were spent on, the log notes slots in order, the verdict on it is the ending, and
--- where the bus was prepared the buckets are those that it says, and any that the memory tells afterwards are the
--- mirror's. As many buckets count as prepared as the shape has. Where time is up, it is so at the clock, or at the
--- timetable's first start that isn't before the time of the settings.
+-- where the bus was prepared the slots were done as far as the ending says, the buckets are those that the log says,
+-- and any that the memory tells afterwards are the mirror's. As many buckets count as prepared as the shape has. Where
+-- time is up, it is so at the clock, or at the timetable's first start that isn't before the time of the settings.
 pub record IsRunOf (config : Config) (image : Image) (input key : List ℕ) (lent : Lent) (report : Report)
     : Type 0 where
   pub pace : KeepsPace config report.last lent.tap'.log
@@ -97,6 +99,7 @@ pub record IsRunOf (config : Config) (image : Image) (input key : List ℕ) (len
   pub points : Forgery (keys_from config key) lent.tap'.log ⊎ DrawnOnce lent.tap'.log.events
   pub fed : IsFed config image input report (answered_lines lent.tap'.log.events)
   pub order : LogOrder (keys_from config key) lent.tap'.log
+  pub done : EndsInOrder (keys_from config key) report.ending lent.tap'.log ⊎ IsUnprepared report lent.tap lent.tap'
   pub verdict : ShowsEnding (keys_from config key) config.stash report.ending lent.tap'.log
   pub contents : SaysMirror (keys_from config key) lent.tap'.log (log_end report.ending) lent.tap'.mirror
       ⊎ IsUnprepared report lent.tap lent.tap'
@@ -104,9 +107,9 @@ pub record IsRunOf (config : Config) (image : Image) (input key : List ℕ) (len
   pub count : lent.memory'.count ≡ config.shape.buckets
 
 -- The same of a run that found no memory: up to some time the log keeps the pace, and it is on time up to the cycle
--- after its last move. It notes slots in order; no point was drawn twice, or it shows a forgery; nothing is wrong in
--- it, or its reading broke off; and where the bus was prepared the buckets are those that it says. No bucket counts as
--- prepared, or as many as the shape has.
+-- after its last move. It notes slots in order, which were done, the last one as far as a move that found no memory;
+-- no point was drawn twice, or it shows a forgery; nothing is wrong in it, or its reading broke off; and where the bus
+-- was prepared the buckets are those that it says. No bucket counts as prepared, or as many as the shape has.
 pub record IsWantOf (config : Config) (image : Image) (input key : List ℕ) (lent : Lent) : Type 0 where
   pub end : ℕ
   pub pace : KeepsPace config end lent.tap'.log
@@ -119,6 +122,7 @@ pub record IsWantOf (config : Config) (image : Image) (input key : List ℕ) (le
   pub asked : lent.memory'.moved ≡ lent.memory.moved + length lent.tap'.log.moves
   pub unaltered : IsSome lent.memory.told → lent.tap'.log.altered ≡ []
   pub order : LogOrder (keys_from config key) lent.tap'.log
+  pub done : StopsInOrder (keys_from config key) why.NoMemory lent.tap'.log
   pub verdict : (verdict_on (keys_from config key) config.stash lent.tap'.log ≡ None)
       ⊎ BreaksOffReading (keys_from config key) config.stash lent.tap'.log
   pub contents : SaysWanting (keys_from config key) lent.tap'.log lent.tap'.mirror ⊎ (lent.tap' ≡ lent.tap)

@@ -1,5 +1,6 @@
 use Rattle.std.proofs.Common.{◌≡◌, ◌⊎◌, ℕ, List, None, IfOk, OnErr, inl, inr, ap, subst}
 use Rattle.asc_base.specs.declared.settings.Config.{Config}
+use Rattle.asc_base.specs.declared.stop.Stop.TheVariants as why
 use Rattle.bucket_codec.specs.Pad.{pad_key}
 use Rattle.std.proofs.lemmas.Result.{IfOk-weaker}
 use Rattle.leaf_function.specs.Leaf.{Keyed, leaf, leaf_key}
@@ -8,8 +9,9 @@ use Rattle.oram_contents.specs.Forgery.{Forgery}
 use Rattle.oram_lines.specs.Standing.{DrawnOnce}
 use Rattle.pmmac_tags.specs.Tag.{tag_key}
 use Rattle.log_replay.specs.Judged.{BreaksOffReading, SaysMirror, verdict_on}
+use Rattle.log_replay.specs.LastSlot.{StopsInOrder}
 use Rattle.log_replay.specs.Order.{LogOrder}
-use Rattle.secure_machine.specs.Judged.{SaysWanting, ShowsEnding, log_end}
+use Rattle.secure_machine.specs.Judged.{EndsInOrder, SaysWanting, ShowsEnding, log_end}
 use Rattle.secure_machine.specs.Run.{IsUnprepared, chip_keys}
 use Rattle.ascend_top.specs.EncryptedRun.{IsRunOf, keys_from, lent_as}
 use Rattle.ascend_top.proofs.RunLaws.{ran_of, wants_of}
@@ -62,6 +64,8 @@ returns-clause-ran g c =
       | inr played ↦ inr played
     ]) c.run.ensures.plays)
     c.run.ensures.plays_unaltered c.run.ensures.fed
+    (IfOk-weaker c.run.result _ _ (λ report. subst (λ (z : Keys). EndsInOrder z report.ending lent.tap'.log
+    ⊎ IsUnprepared report lent.tap lent.tap') same) c.run.ensures.done)
     (IfOk-weaker c.run.result _ _ (λ report. subst (λ (z : Keys). ShowsEnding z program.config.stash report.ending
     lent.tap'.log) same) c.run.ensures.verdict)
     (IfOk-weaker c.run.result _ _ (λ report. subst (λ (z : Keys). SaysMirror z lent.tap'.log (log_end report.ending)
@@ -82,6 +86,7 @@ returns-clause-wanting g c =
     (subst (λ (z : Keys). Forgery z lent.tap'.log ⊎ DrawnOnce lent.tap'.log.events) same c.run.ensures.points)
     c.run.result c.run.ensures.pace_err
     c.run.ensures.end_err c.run.ensures.tied_err
+    (subst (λ (z : Keys). OnErr c.run.result (StopsInOrder z why.NoMemory lent.tap'.log)) same c.run.ensures.done_err)
     (subst (λ (z : Keys). OnErr c.run.result ((verdict_on z program.config.stash lent.tap'.log ≡ None)
     ⊎ BreaksOffReading z program.config.stash lent.tap'.log)) same c.run.ensures.verdict_err)
     (subst (λ (z : Keys). OnErr c.run.result (SaysWanting z lent.tap'.log lent.tap'.mirror ⊎ (lent.tap' ≡ lent.tap)))
