@@ -2,7 +2,6 @@
 use Rattle.std.proofs.Common.{◌≡◌, ◌+◌, inl, inr, ℕ, Bool, true, false, if◌then◌else◌, List, [], ◌∷◌, ◌++◌, length}
 use Rattle.std.proofs.Common.{Option, None, Some, refl, sym, ◌∙◌, ap, subst, arith, append-nil, length-append}
 use Rattle.asc_base.specs.declared.block.Counter.{Counter}
-use Rattle.asc_base.specs.declared.block.Entry.{Entry}
 use Rattle.asc_base.specs.declared.block.Leaf.{Leaf}
 use Rattle.asc_base.specs.declared.block.Message.{Message}
 use Rattle.asc_base.specs.declared.block.Point.{Point}
@@ -27,8 +26,8 @@ use Rattle.log_replay.specs.Order.{behind_events, IsTaken, MayStand, IsDone, IsB
 use Rattle.log_replay.specs.Rows.{log_of, moved_log, dummy_events, block_events, displaced, broken_log}
 use Rattle.log_replay.proofs.FirstReads.{read_empty, reads_only_empty}
 use Rattle.log_replay.proofs.OpenPaths.{AreQuiet, quiet_later}
-use Rattle.log_replay.proofs.OrderRows.{none, dummy_notes, dummy_done, dummy, block_notes, first_done, first_order, bare}
-use Rattle.log_replay.proofs.OrderRows.{stored, appended}
+use Rattle.log_replay.proofs.OrderRows.{none, dummy_notes, dummy_done, dummy, block_notes, first_done, first_order}
+use Rattle.log_replay.proofs.OrderRows.{stored, appended, bare}
 use Rattle.log_replay.proofs.Orders.{later_events, all_events}
 use Rattle.log_replay.proofs.SlotSplits.{begin, split, none_held}
 use Rattle.log_replay.proofs.StopMoves.{ends_in}

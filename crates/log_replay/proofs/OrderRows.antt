@@ -106,8 +106,9 @@ module _ (keys : Keys) where
       put = own;
     }
 
-    unfoldable pub first_order : (put : Option Message) (chosen : Option ℕ) (behind : Behind) → IsOfPoint put (real a first_counter)
-        → MayStand a None put behind → LogOrder keys (log_of (block_events keys a first_counter
+    unfoldable pub first_order : (put : Option Message) (chosen : Option ℕ) (behind : Behind)
+        → IsOfPoint put (real a first_counter) → MayStand a None put behind
+        → LogOrder keys (log_of (block_events keys a first_counter
         (put_events put ++ (chosen_events chosen ++ (behind_events behind ++ [])))))
     first_order put chosen behind own stands = record {
       slots = block_notes first_counter put chosen behind ∷ [];

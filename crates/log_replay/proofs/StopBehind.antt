@@ -127,7 +127,8 @@ module _ (keys : Keys) where
             → LogStops keys stash stop new now.mirror
         by_kind (inl (evidence, is)) =
             stops (Integrity evidence) is (inr appended) (shown (Integrity evidence) (wrong ∙ ap Some is)) refl
-        by_kind (inr (held, is)) = stops (StashFull held) is (inr appended) (shown (StashFull held) (wrong ∙ ap Some is)) refl
+        by_kind (inr (held, is)) =
+            stops (StashFull held) is (inr appended) (shown (StashFull held) (wrong ∙ ap Some is)) refl
 
   module _ (levels notes a : ℕ) (line : List ℕ) (old new : PortState) (behind : IsBehindSlot keys a line None old)
       (rests : Resting (notes + 1) levels old) where

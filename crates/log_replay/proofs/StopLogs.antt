@@ -1,5 +1,5 @@
 -- What a slot leaves in the log that stops in its reads, over its block, or in its writes.
-use Rattle.std.proofs.Common.{◌≡◌, ◌<◌, ◌+◌, inl, inr, ℕ, true, false, List, [], ◌∷◌, ◌++◌, length, All, Option}
+use Rattle.std.proofs.Common.{◌≡◌, ◌<◌, ◌+◌, inl, inr, ℕ, true, false, List, [], ◌++◌, length, All, Option}
 use Rattle.std.proofs.Common.{None, Some, Ok, refl, sym, ◌∙◌, ap, subst, subst₂, arith, append-nil, append_assoc}
 use Rattle.asc_base.specs.declared.block.Entry.{Entry}
 use Rattle.asc_base.specs.declared.block.Message.{Message}
@@ -59,7 +59,8 @@ module _ (keys : Keys) (stash : ℕ) (old : LogLists) (now : Contents) (dummies 
       bare_order =
           let s = slot_of start asked p None None in
           let bare : IsBare s = record { found = refl; put = refl; chosen = refl; behind = refl } in
-          let (o, are) = slot_order keys stash old new now dummies s base b.altered bare_adds b.noted next (inr bare) in (
+          let (o, are) =
+          slot_order keys stash old new now dummies s base b.altered bare_adds b.noted next (inr bare) in (
             o,
             record {
               before = base.order.slots;
@@ -264,9 +265,14 @@ module _ (keys : Keys) (stash : ℕ) (old : LogLists) (now : Contents) (dummies 
 
       write_order : (o : LogOrder keys new) × BreaksOffMoving keys new o.slots
       write_order =
-          let (o, done) = done_order new all_adds in
-          (o, inr (done, ends_in keys.shape.levels (writes_start keys.shape.levels start) (keys.leaf_of p) w.level true
-          mid.moves new w.moves))
+          let (o, done) = done_order new all_adds in (
+            o,
+            inr (
+              done,
+              ends_in keys.shape.levels (writes_start keys.shape.levels start) (keys.leaf_of p) w.level true
+                  mid.moves new w.moves,
+            ),
+          )
 
       write_shows : ShowsStop keys stash Device new
       write_shows =

@@ -1,5 +1,6 @@
 -- What a log says along a run: one request, and how the run ended.
-use Rattle.std.proofs.Common.{◌≡◌, ◌∙◌, inl, ℕ, List, [], None, Some, Result, Ok, Err, IfOk, OnErr, sym, ap, subst, arith}
+use Rattle.std.proofs.Common.{◌≡◌, ◌∙◌, inl, ℕ, List, [], None, Some, Result, Ok, Err, IfOk, OnErr, refl, sym, ap}
+use Rattle.std.proofs.Common.{subst, arith}
 use Rattle.std.specs.Prelude.{MatchResult}
 use Rattle.asc_base.specs.Has.{Has}
 use Rattle.asc_base.specs.declared.shape.Shape.{Shape}
@@ -15,7 +16,7 @@ use Rattle.log_replay.specs.LastSlot.{StopsInOrder}
 use Rattle.log_replay.specs.Order.{LogOrder}
 use Rattle.log_replay.specs.Replayed.{IsReplayed, StopsReplayed}
 use Rattle.oram_contents.specs.Entries.{Keys}
-use Rattle.oram_contents.specs.Fold.{LogEnd}
+use Rattle.oram_contents.specs.Fold.{LogEnd, Whole}
 use Rattle.oram_frontend.specs.Oram.{OramState, Fetch as OramFetch, Store as OramStore}
 use Rattle.play_run.specs.Timed.{TimedState, TimedStep, CanAsk}
 use Rattle.rate_enforcer.specs.PortStep.{PortState, Resting}
@@ -64,16 +65,23 @@ pub own_replayed : (keys : Keys) (levels budget time instructions cycles until :
     → EndsReplayed keys o.port.tree.stash ending o.port.tap
 own_replayed keys levels budget time instructions cycles until ending o calls now rests own = by ending own
   where
-    all_done : (ending : Ending) → AreDoneAt keys ending o.port.tap.log now.port.order.slots
-        → EndsInOrder keys ending o.port.tap.log
-    all_done ending done = record { order = now.port.order; done = done }
+    -- where all slots were done as far as the ending says
+    ends : (ending : Ending) → AreDoneAt keys ending o.port.tap.log now.port.order.slots
+        → ShowsEnding keys o.port.tree.stash ending o.port.tap.log → log_end ending ≡ Whole
+        → EndsReplayed keys o.port.tree.stash ending o.port.tap
+    ends ending done shows end = record {
+      slots = record { order = now.port.order; done = done };
+      shows = shows;
+      mirror = subst (λ (x : LogEnd). SaysMirror keys o.port.tap.log x o.port.tap.mirror) (sym end)
+          (calls.between o now rests);
+    }
 
     by : (ending : Ending) → IsOwnEnding budget time instructions cycles until ending
         → EndsReplayed keys o.port.tree.stash ending o.port.tap
-    by (Exit status) own = record { slots = all_done (Exit status) now.port.done; shows = now.port.right; mirror = calls.between o now rests }
-    by (Trap kind pc) own = record { slots = all_done (Trap kind pc) now.port.done; shows = now.port.right; mirror = calls.between o now rests }
-    by Budget own = record { slots = all_done Budget now.port.done; shows = now.port.right; mirror = calls.between o now rests }
-    by (TimeUp at) own = record { slots = all_done (TimeUp at) now.port.done; shows = now.port.right; mirror = calls.between o now rests }
+    by (Exit status) own = ends (Exit status) now.port.done now.port.right refl
+    by (Trap kind pc) own = ends (Trap kind pc) now.port.done now.port.right refl
+    by Budget own = ends Budget now.port.done now.port.right refl
+    by (TimeUp at) own = ends (TimeUp at) now.port.done now.port.right refl
     by (StashFull held) own = absurd own
     by (Integrity evidence) own = absurd own
     by Device own = absurd own

@@ -29,7 +29,8 @@ ShowsEnding keys stash (Integrity evidence) log = IsFirstVerdict keys stash log 
 ShowsEnding keys stash Device log = (verdict_on keys stash log ≡ None) ⊎ BreaksOffReading keys stash log
 
 -- How far the slots of a log were done, by how its run ended. A run that ended by itself, or by the time, leaves slots
--- that were done. Where the stash was full, evidence came or the memory failed, they were done as far as that stop says.
+-- that were done. Where the stash was full, evidence came or the memory failed, they were done as far as this stop
+-- says.
 abbrev pub AreDoneAt : Keys → Ending → LogLists → List SlotNotes → Type 0
 AreDoneAt keys (Exit status) log slots = AreDone keys log [] slots
 AreDoneAt keys (Trap kind pc) log slots = AreDone keys log [] slots

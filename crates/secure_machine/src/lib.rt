@@ -262,10 +262,10 @@ fn run_prepared<M: UntrustedMemory, W: Watch, L: LeafFn>(
 ///
 /// Whatever the memory replies, the log tells how the run ended: it notes slots in order, each of which was done, the
 /// last one as far as the ending says, the verdict on them is the ending, and the buckets are those that it says. For
-/// each point a leaf is drawn at most once, however the run ends, or the log shows a forgery. Where the bus was prepared
-/// and the memory tells its buckets afterwards, they are the mirror's. After a report as many buckets count as prepared as the shape has, and after want of memory so many, or
-/// none. Over a memory that tells its buckets and doesn't fail, where no slot of the program's Play is too full, what is
-/// reported is the whole Play.
+/// each point a leaf is drawn at most once, however the run ends, or the log shows a forgery. Where the bus was
+/// prepared and the memory tells its buckets afterwards, they are the mirror's. After a report as many buckets count as
+/// prepared as the shape has, and after want of memory so many, or none. Over a memory that tells its buckets and
+/// doesn't fail, where no slot of the program's Play is too full, what is reported is the whole Play.
 pub fn run<M: UntrustedMemory, W: Watch, L: LeafFn>(
     alloc: Global,
     config: &Config,

@@ -1,5 +1,5 @@
-use Rattle.log_replay.proofs.LastRows.{in_time, refused, doubled, full_appended, full_put, read, written, starved, early}
-use Rattle.log_replay.proofs.LastRows.{full_unread, starved_unread, full_chosen, refused_put, unmoved, read_put}
+use Rattle.log_replay.proofs.LastRows.{in_time, refused, doubled, full_appended, full_put, read, written, starved}
+use Rattle.log_replay.proofs.LastRows.{early, full_unread, starved_unread, full_chosen, refused_put, unmoved, read_put}
 use Rattle.log_replay.proofs.LastRows.{written_chosen}
 use Rattle.log_replay.proofs.rows.last_slots_have_rows.Goals as goal
 
