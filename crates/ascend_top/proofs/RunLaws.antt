@@ -8,6 +8,7 @@ use Rattle.asc_base.specs.TreeShape.{olat_of}
 use Rattle.asc_base.specs.declared.settings.Config.{Config}
 use Rattle.asc_base.specs.declared.settings.Settings.{Settings}
 use Rattle.asc_base.specs.declared.stop.Evidence.{Evidence}
+use Rattle.asc_base.specs.declared.stop.Stop.TheVariants as why
 use Rattle.asc_outside.specs.Host.{Files, HostState}
 use Rattle.bus_schedule.specs.Scheduled.{log_code}
 use Rattle.bus_schedule.specs.Shown.{indices_of}
@@ -15,6 +16,7 @@ use Rattle.bus_schedule.specs.Timetable.{public_of}
 use Rattle.bus_watch.specs.Honest.{MayTellMirror}
 use Rattle.epoch_learner.specs.Stands.{KeepsPace}
 use Rattle.log_replay.specs.Judged.{BreaksOffReading, SaysMirror, verdict_on}
+use Rattle.log_replay.specs.LastSlot.{StopsInOrder}
 use Rattle.log_replay.specs.Order.{LogOrder}
 use Rattle.oram_contents.specs.Forgery.{Forgery}
 use Rattle.oram_lines.specs.Standing.{DrawnOnce}
@@ -25,7 +27,7 @@ use Rattle.secure_machine.specs.Answered.{answered_lines}
 use Rattle.secure_machine.specs.Fed.{IsFed}
 use Rattle.secure_machine.specs.Finish.{IsRightEnding, IsTimeUp}
 use Rattle.secure_machine.specs.Home.{EndsAtHome}
-use Rattle.secure_machine.specs.Judged.{SaysWanting, ShowsEnding, log_end}
+use Rattle.secure_machine.specs.Judged.{EndsInOrder, SaysWanting, ShowsEnding, log_end}
 use Rattle.secure_machine.specs.LastMove.{EndsWithMove}
 use Rattle.secure_machine.specs.Plays.{play_report, play_with}
 use Rattle.secure_machine.specs.Run.{DrawsLeaves, IsFlatReport, IsInBudget, IsTiedButLast, IsTiedOr, IsUnprepared}
@@ -221,13 +223,15 @@ module _ (config : Config) (image : Image) (input key : List ℕ) (lent : Lent) 
         → IfOk result (λ r. MayTellMirror lent.memory' lent.tap' ⊎ IsUnprepared r lent.tap lent.tap')
         → IfOk result (λ _. lent.memory'.count ≡ config.shape.buckets)
         → IfOk result (λ r. (at : ℕ) → r.ending ≡ TimeUp at → IsTimeUp config r.cycles lent.tap'.log at)
+        → IfOk result (λ r. EndsInOrder (keys_from config key) r.ending lent.tap'.log
+        ⊎ IsUnprepared r lent.tap lent.tap')
         → IfOk result (λ r. EndsAtHome (keys_from config key) config (play_with config image input) r.ending
         lent.tap'.log)
         → IfOk result (IsRunOf config image input key lent)
     ran_of (Err none) pace in_time real dummies tied device right choices code fetches spent flat honest refines plays
-        played fed verdict contents told count time_up home = tt
+        played fed verdict contents told count time_up done home = tt
     ran_of (Ok report) pace in_time real dummies tied device right choices code fetches spent flat honest refines plays
-        played fed verdict contents told count time_up home = record {
+        played fed verdict contents told count time_up done home = record {
           dishonest = record {
             refinement = record { flat = refines; plays = plays };
             schedule = record {
@@ -239,7 +243,13 @@ module _ (config : Config) (image : Image) (input key : List ℕ) (lent : Lent) 
               told = told;
               count = count;
             };
-            contents = record { order = order; leaves = leaves; contents = contents; points = points };
+            contents = record {
+              order = order;
+              done = done;
+              leaves = leaves;
+              contents = contents;
+              points = points;
+            };
             rates = record { choices = choices; code = code; budget = budget };
             verdicts = record { verdict = verdict };
             core = record { fetches = fetches; fed = fed; spent = spent };
@@ -271,9 +281,10 @@ module _ (config : Config) (image : Image) (input key : List ℕ) (lent : Lent) 
         ⊎ BreaksOffReading (keys_from config key) config.stash lent.tap'.log)
         → OnErr result (SaysWanting (keys_from config key) lent.tap'.log lent.tap'.mirror ⊎ (lent.tap' ≡ lent.tap))
         → OnErr result ((lent.memory'.count ≡ 0) ⊎ (lent.memory'.count ≡ config.shape.buckets))
+        → OnErr result (StopsInOrder (keys_from config key) why.NoMemory lent.tap'.log)
         → OnErr result (IsWantOf config image input key lent)
-    wants_of (Ok report) pace last_move tied verdict contents count = tt
-    wants_of (Err none) (end, pace) last_move tied verdict contents count = record {
+    wants_of (Ok report) pace last_move tied verdict contents count done = tt
+    wants_of (Err none) (end, pace) last_move tied verdict contents count done = record {
       end = end;
       pace = pace;
       leaves = leaves;
@@ -285,6 +296,7 @@ module _ (config : Config) (image : Image) (input key : List ℕ) (lent : Lent) 
       asked = asked;
       unaltered = unaltered;
       order = order;
+      done = done;
       verdict = verdict;
       contents = contents;
       points = points;

@@ -20,7 +20,7 @@ use Rattle.rate_enforcer.specs.Counts.{is_answered}
 use Rattle.secure_machine.specs.Answered.{answered_lines}
 use Rattle.secure_machine.specs.Fed.{IsFed}
 use Rattle.secure_machine.specs.Home.{EndsAtHome}
-use Rattle.secure_machine.specs.Judged.{ShowsEnding, log_end}
+use Rattle.secure_machine.specs.Judged.{EndsInOrder, ShowsEnding, log_end}
 use Rattle.secure_machine.specs.Plays.{play_report, play_with}
 use Rattle.secure_machine.specs.Run.{DrawsLeaves, IsFlatReport, IsInBudget, IsTiedOr, IsUnprepared}
 use Rattle.secure_machine.specs.Spent.{IsSpentOn}
@@ -50,11 +50,13 @@ module _ (config : Config) (image : Image) (input : List ℕ) (keys : Keys) (len
     pub told : MayTellMirror lent.memory' lent.tap' ⊎ IsUnprepared report lent.tap lent.tap'
     pub count : lent.memory'.count ≡ config.shape.buckets
 
-  -- 3. Points, seeds, contents: the log notes slots in order, each leaf that of its point, and of the tree; where the
-  -- bus was prepared, each bucket is as it was sealed last, of the slots that the log says, under the number of its
-  -- write; and no point was drawn twice, or the log shows a forgery.
+  -- 3. Points, seeds, contents: the log notes slots in order, each leaf that of its point, and of the tree, and each
+  -- was done, the last one as far as the ending says; where the bus was prepared, each bucket is as it was sealed last,
+  -- of the slots that the log says, under the number of its write; and no point was drawn twice, or the log shows a
+  -- forgery.
   pub record HasContents : Type 0 where
     pub order : LogOrder keys lent.tap'.log
+    pub done : EndsInOrder keys report.ending lent.tap'.log ⊎ IsUnprepared report lent.tap lent.tap'
     pub leaves : DrawsLeaves config lent.tap'.log
     pub contents : SaysMirror keys lent.tap'.log (log_end report.ending) lent.tap'.mirror
         ⊎ IsUnprepared report lent.tap lent.tap'

@@ -2,6 +2,7 @@
 use Rattle.std.specs.Prelude.{◌≡◌, ◌<◌, ◌≤◌, ◌+◌, ◌^◌, ◌⊎◌, ℕ, List, [], None, IsSome, length}
 use Rattle.std.specs.List.{count_by}
 use Rattle.asc_base.specs.declared.settings.Config.{Config}
+use Rattle.asc_base.specs.declared.stop.Stop.TheVariants as why
 use Rattle.bucket_codec.specs.Pad.{pad_key}
 use Rattle.bus_schedule.specs.Scheduled.{log_code}
 use Rattle.bus_schedule.specs.Timetable.{public_of}
@@ -9,6 +10,7 @@ use Rattle.elf_loader.specs.declared.image.Image.{Image}
 use Rattle.epoch_learner.specs.Stands.{KeepsPace}
 use Rattle.leaf_function.specs.Leaf.{leaf, leaf_key}
 use Rattle.log_replay.specs.Judged.{BreaksOffReading, verdict_on}
+use Rattle.log_replay.specs.LastSlot.{StopsInOrder}
 use Rattle.log_replay.specs.Order.{LogOrder}
 use Rattle.oram_contents.specs.Entries.{Keys}
 use Rattle.oram_contents.specs.Forgery.{Forgery}
@@ -49,9 +51,9 @@ pub record IsRunOf (config : Config) (image : Image) (input key : List ℕ) (len
   pub causes : HasCauses config lent report
 
 -- The same of a run that found no memory: up to some time the log keeps the pace, and it is on time up to the cycle
--- after its last move. It notes slots in order; no point was drawn twice, or it shows a forgery; nothing is wrong in
--- it, or its reading broke off; and where the bus was prepared the buckets are those that it says. No bucket counts as
--- prepared, or as many as the shape has.
+-- after its last move. It notes slots in order, which were done as far as the last move; no point was drawn twice, or
+-- it shows a forgery; nothing is wrong in it, or its reading broke off; and where the bus was prepared the buckets are
+-- those that it says. No bucket counts as prepared, or as many as the shape has.
 pub record IsWantOf (config : Config) (image : Image) (input key : List ℕ) (lent : Lent) : Type 0 where
   pub end : ℕ
   pub pace : KeepsPace config end lent.tap'.log
@@ -64,6 +66,7 @@ pub record IsWantOf (config : Config) (image : Image) (input key : List ℕ) (le
   pub asked : lent.memory'.moved ≡ lent.memory.moved + length lent.tap'.log.moves
   pub unaltered : IsSome lent.memory.told → lent.tap'.log.altered ≡ []
   pub order : LogOrder (keys_from config key) lent.tap'.log
+  pub done : StopsInOrder (keys_from config key) why.NoMemory lent.tap'.log
   pub verdict : (verdict_on (keys_from config key) config.stash lent.tap'.log ≡ None)
       ⊎ BreaksOffReading (keys_from config key) config.stash lent.tap'.log
   pub contents : SaysWanting (keys_from config key) lent.tap'.log lent.tap'.mirror ⊎ (lent.tap' ≡ lent.tap)

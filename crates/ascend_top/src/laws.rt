@@ -71,8 +71,8 @@ pub fn reported_runs_leave_their_files()
 {}
 
 /// The premises of completeness can be met. Where the first slot of a run would start at or after the time of its
-/// settings, no slot finds too many blocks. The words `gen seed=0 words=1 key=k output=o time=16384` are read, and are a
-/// command that runs over encrypted memory; over any files of which `k` has the length of a key nothing is refused
+/// settings, no slot finds too many blocks. The words `gen seed=0 words=1 key=k output=o time=16384` are read, and are
+/// a command that runs over encrypted memory; over any files of which `k` has the length of a key nothing is refused
 /// before the run; and no slot of its Play finds too many blocks. [`crate::outside_with_key`] makes such files, with a
 /// memory and a tap.
 pub fn completeness_can_be_met()

@@ -29,8 +29,8 @@ pub data PlayEnding : Type 0 where
   Integrity : Evidence → PlayEnding
   Device : PlayEnding
 
--- The slots of a run, how it ended, how far it came, and its end time; and, where no stop cut it, what stands behind its
--- last request, before the slots up to its end pass.
+-- The slots of a run, how it ended, how far it came, and its end time; and, where no stop cut it, what stands behind
+-- its last request, before the slots up to its end pass.
 pub record Play : Type 0 where
   pub slots : List Slot
   pub ending : PlayEnding

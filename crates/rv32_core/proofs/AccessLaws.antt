@@ -7,12 +7,14 @@ use Rattle.rv32_table.specs.declared.instruction.LoadOp.TheVariants.{Lb, Lh, Lw,
 use Rattle.rv32_core.specs.Access.{Load, IsAnswer}
 
 -- a byte, two and four are the same number with zeros behind them
-one_byte : (bytes : List ℕ) → length bytes ≡ 1 → from_le_bytes w32 (bytes ++ replicate (4 - 1) 0) ≡ from_le_bytes w32 bytes
+one_byte : (bytes : List ℕ) → length bytes ≡ 1
+    → from_le_bytes w32 (bytes ++ replicate (4 - 1) 0) ≡ from_le_bytes w32 bytes
 one_byte (a ∷ []) count = refl
 one_byte [] count = absurd (omega arith)
 one_byte (a ∷ b ∷ more) count = absurd (omega arith)
 
-two_bytes : (bytes : List ℕ) → length bytes ≡ 2 → from_le_bytes w32 (bytes ++ replicate (4 - 2) 0) ≡ from_le_bytes w32 bytes
+two_bytes : (bytes : List ℕ) → length bytes ≡ 2
+    → from_le_bytes w32 (bytes ++ replicate (4 - 2) 0) ≡ from_le_bytes w32 bytes
 two_bytes (a ∷ b ∷ []) count = refl
 two_bytes [] count = absurd (omega arith)
 two_bytes (a ∷ []) count = absurd (omega arith)

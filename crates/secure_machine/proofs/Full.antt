@@ -1,7 +1,7 @@
 -- What is accepted and answered changes no verdict on a log; so a full stash that a run's log shows, where no reply was
 -- altered, is one of its play.
-use Rattle.std.proofs.Common.{◌≡◌, ◌+◌, ◌⊎◌, inl, inr, ℕ, suc, List, [], ◌∷◌, ◌++◌, length, map, Option, None, Some, take}
-use Rattle.std.proofs.Common.{refl, sym, ◌∙◌, ap, ap₂, subst, append_assoc}
+use Rattle.std.proofs.Common.{◌≡◌, ◌+◌, ◌⊎◌, inl, inr, ℕ, suc, List, [], ◌∷◌, ◌++◌, length, map, Option, None, Some}
+use Rattle.std.proofs.Common.{take, refl, sym, ◌∙◌, ap, ap₂, subst, append_assoc}
 use Rattle.std.specs.Prelude.{slice_get}
 use Rattle.std.specs.List.{flat_map}
 use Rattle.std.specs.Option.{option_map_or}

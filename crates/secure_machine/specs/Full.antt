@@ -1,4 +1,4 @@
--- Which slots of a play find too many blocks to keep: what the log of the play shows, over a memory that alters nothing.
+-- Which slots of a play find too many blocks to keep: what the play's log shows, over a memory that alters nothing.
 use Rattle.std.specs.Prelude.{◌≡◌, ℕ, [], map, Some}
 use Rattle.asc_base.specs.declared.stop.Stop.TheVariants as why
 use Rattle.bus_watch.specs.Log.{LogLists}

@@ -56,8 +56,8 @@ returns-in-Ok-clause-complete g c read files is told right safe =
 
 pub returns-in-Ok-clause-complete_play : goal.returns-in-Ok-clause-complete_play
 returns-in-Ok-clause-complete_play g c read files is runs told right safe some sound room =
-    completes_play read files _ c.finish.result _ _ runs (returns-in-Ok-clause-complete g c read files is told right safe)
-    some sound room
+    completes_play read files _ c.finish.result _ _ runs
+    (returns-in-Ok-clause-complete g c read files is told right safe) some sound room
 
 pub returns-in-Err-Usage-clause-usage : goal.returns-in-Err-Usage-clause-usage
 returns-in-Err-Usage-clause-usage g c word fault =

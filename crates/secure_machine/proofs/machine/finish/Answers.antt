@@ -343,7 +343,8 @@ returns-in-Ok-clause-home g c config whole lawful known calls cause =
     let rests = by.1.serves.rests in
     let now = subst (λ (cause : Cause). CauseReplayed keys old.port.tree.stash cause old) c.in-Ends.is cause in
     let later = calls.request old new (Wait c.in-Ends.until) _ now rests tt c.in-Ok.ensures.step in
-    λ behind none. home_behind keys lawful levels config whole (play_ending c.in-Ends.ending) _ c.in-Ends.until _ old new
+    λ behind none. home_behind keys lawful levels config whole (play_ending c.in-Ends.ending) _ c.in-Ends.until _ old
+    new
     (subst (λ (cause : Cause). CauseInPlay g.M.UntrustedMemory.state g.W.Watch.state g.L.LeafFn.leaf_of
     g.L.LeafFn.levels
     config whole c.args.halted.instructions c.args.halted.cycles cause c.args.lines.now) c.in-Ends.is known)
@@ -356,5 +357,5 @@ returns-in-Err-clause-home g c config whole lawful known calls cause =
 
 pub returns-in-Stops-clause-home : goal.returns-in-Stops-clause-home
 returns-in-Stops-clause-home g c config whole lawful known calls cause =
-    stopped_home (keys_in g.L.LeafFn.leaf_of c.args.lines.now) config whole _ c.in-Stops.stop c.ending_of-in-Stops.result
-    c.ending_of-in-Stops.ensures.named
+    stopped_home (keys_in g.L.LeafFn.leaf_of c.args.lines.now) config whole _ c.in-Stops.stop
+    c.ending_of-in-Stops.result c.ending_of-in-Stops.ensures.named

@@ -8,9 +8,11 @@ use Rattle.oram_contents.specs.Forgery.{Forgery}
 use Rattle.oram_lines.specs.Standing.{DrawnOnce}
 use Rattle.pmmac_tags.specs.Tag.{tag_key}
 use Rattle.log_replay.specs.Judged.{BreaksOffReading, SaysMirror, verdict_on}
+use Rattle.log_replay.specs.LastSlot.{StopsInOrder}
 use Rattle.log_replay.specs.Order.{LogOrder}
+use Rattle.asc_base.specs.declared.stop.Stop.TheVariants as why
 use Rattle.secure_machine.specs.Home.{EndsAtHome}
-use Rattle.secure_machine.specs.Judged.{SaysWanting, ShowsEnding, log_end}
+use Rattle.secure_machine.specs.Judged.{EndsInOrder, SaysWanting, ShowsEnding, log_end}
 use Rattle.secure_machine.specs.Plays.{play_with}
 use Rattle.secure_machine.specs.Run.{IsUnprepared, chip_keys}
 use Rattle.ascend_top.specs.EncryptedRun.{IsRunOf, keys_from}
@@ -70,6 +72,8 @@ returns-clause-ran g c =
     (IfOk-weaker c.run.result _ _ (λ report. subst (λ (z : Keys). SaysMirror z lent.tap'.log (log_end report.ending)
     lent.tap'.mirror ⊎ IsUnprepared report lent.tap lent.tap') same) c.run.ensures.contents)
     c.run.ensures.told c.run.ensures.count c.run.ensures.time_up
+    (IfOk-weaker c.run.result _ _ (λ report. subst (λ (z : Keys). EndsInOrder z report.ending lent.tap'.log
+    ⊎ IsUnprepared report lent.tap lent.tap') same) c.run.ensures.done)
     (IfOk-weaker c.run.result _ _ (λ report. subst (λ (z : Keys). EndsAtHome z program.config
     (play_with program.config program.image c.as_slice.result.now) report.ending lent.tap'.log) same)
     c.run.ensures.home))
@@ -92,3 +96,4 @@ returns-clause-wanting g c =
     ⊎ BreaksOffReading z program.config.stash lent.tap'.log)) same c.run.ensures.verdict_err)
     (subst (λ (z : Keys). OnErr c.run.result (SaysWanting z lent.tap'.log lent.tap'.mirror ⊎ (lent.tap' ≡ lent.tap)))
     same c.run.ensures.contents_err) c.run.ensures.count_err
+    (subst (λ (z : Keys). OnErr c.run.result (StopsInOrder z why.NoMemory lent.tap'.log)) same c.run.ensures.done_err)
