@@ -1,10 +1,11 @@
--- A path's read and its write note no event, however they end.
+-- A path's read and its write note no event, however they end; and what a refused write says.
 use Rattle.std.proofs.Common.{◌≡◌, [], List, ℕ, Result, Ok, Err, ap}
 use Rattle.asc_outside.specs.Memory.{MemoryState}
 use Rattle.bus_watch.specs.Log.{TapState}
 use Rattle.bus_watch.specs.Made.{Ran}
 use Rattle.bus_watch.specs.RunEnd.{Whole, end_at}
 use Rattle.bus_watch.specs.declared.bus.Bus.{Bus}
+use Rattle.bus_watch.specs.declared.bus.BusStop.{BusStop}
 use Rattle.bus_watch.specs.declared.log.Event.{Event}
 use Rattle.bus_watch.specs.declared.log.Move.{Move}
 use Rattle.bus_watch.proofs.MadeLaws.{silent_events}
@@ -40,3 +41,13 @@ module _ {M W : Type 0} (memory_of : M → MemoryState) (tap_of : W → TapState
   write_silent (Err (Full held)) h = ap (λ (b : Bus M W). (tap_of b.tap.now).log.events) h
   write_silent (Err Device) h = silent_events h.ran.made
   write_silent (Err NoMemory) h = silent_events h.ran.made
+
+-- What a refused write says, without what an Ok would say.
+pub refused_write : (P : Type 0) (F : ℕ → Type 0) (Q : BusStop → Type 0) (stop : TreeStop) → IfWritten (Err stop) P F Q
+    → IfWritten (Err stop) ⊥ F Q
+refused_write P F Q (BadSlot bucket slot) h = h
+refused_write P F Q (OffPath bucket slot) h = h
+refused_write P F Q (Doubled address) h = h
+refused_write P F Q (Full held) h = h
+refused_write P F Q Device h = h
+refused_write P F Q NoMemory h = h

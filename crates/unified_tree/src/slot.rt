@@ -1,6 +1,6 @@
 //! A whole slot made of a path's read and its write: how the contracts of the two compose.
 
-ghost use Rattle.std.specs.Prelude.{◌≡◌, ◌<◌, ◌≤◌, ◌+◌, ◌*◌, ◌^◌, ◌∷◌, [], None, length, OnOk, ◌++◌};
+ghost use Rattle.std.specs.Prelude.{◌≡◌, ◌<◌, ◌≤◌, ◌+◌, ◌*◌, ◌^◌, ◌∷◌, [], None, length, IfErr, IsErrOf, OnOk, ◌++◌};
 ghost use Rattle.asc_base.specs.declared.block.Point.TheVariants.{Dummy};
 ghost use Rattle.bus_watch.specs.Made.{Ran};
 ghost use Rattle.bus_watch.specs.Path.{slot_moves};
@@ -12,6 +12,7 @@ ghost use Rattle.oram_contents.specs.Entries.{Keys, AreKeys};
 ghost use Rattle.oram_contents.specs.Provenance.{Always, Sound};
 ghost use Rattle.oram_contents.specs.Slots.{IsPass, passed};
 ghost use Rattle.unified_tree.specs.Slot.{contents_of};
+ghost use Rattle.unified_tree.specs.Stopped.{StopsSlot};
 ghost use Rattle.unified_tree.specs.Tree.{IsSameTree};
 
 use crate::stop::TreeStop;
@@ -53,6 +54,10 @@ pub fn pass_by<M: UntrustedMemory, W: Watch>(
         × Sound keys (W.state bus.new.tap.now).log (passed g) (contents_of tree.new (W.state bus.new.tap.now))) }
     ensures noted { (W.state bus.new.tap.now).log.events
         ≡ (W.state bus.old.tap.now).log.events ++ (Access start None ∷ Drawn (Dummy number) leaf ∷ []) }
+    ensures stopped { IfErr result (λ stop. StopsSlot M.state W.state start number leaf.0 stop tree.old tree.new bus.old
+        bus.new) }
+    ensures cause { IsErrOf result TreeStop.Device
+        → (M.state bus.old.memory.now).faults < (M.state bus.new.memory.now).faults }
     ensures kept { IsSameTree tree.old tree.new }
     ensures path { OnOk result (tree.new.path ≡ None) }
 {
