@@ -49,7 +49,7 @@ use Rattle.oram_stash.proofs.Apart.{AreApart-append, AreApart-without, AreApart-
 use Rattle.oram_stash.proofs.Held.{held-no_one}
 use Rattle.path_evict.proofs.Placed.{where_placed-has, All-where_placed}
 use Rattle.oram_contents.proofs.Found.{held_has, nothing_wrong, valid_tag}
-use Rattle.oram_contents.proofs.Placing.{written_from}
+use Rattle.oram_contents.proofs.Placing.{written_to, written_from}
 use Rattle.oram_contents.proofs.Steps.{came_more, AreUntagged, IsPast, sound_log, sound_read, sound_fewer, sound_raised}
 use Rattle.oram_contents.proofs.Steps.{counter_raised, sound_put, sound_write}
 
@@ -522,3 +522,23 @@ module _ (keys : Keys) where
           (sealed-off keys.pads keys.shape.levels leaf now.seed now.hand now.mirror n b
           (λ level less is. away (level, omega (arith, less, within), sym is)))
           ∙ unwrap_or-slice_get now.mirror b []
+
+  -- the same of what holds always, however many seeds are used up
+  pub part_always : AreKeys keys → (log : LogLists) (now : Contents) (leaf n used : ℕ) → leaf < 2 ^ keys.shape.levels
+      → n ≤ keys.shape.levels + 1 → HasSeeds now → Always keys log now
+      → Always keys log (record now {
+        mirror = sealed keys.pads keys.shape.levels leaf now.seed now.hand now.mirror n;
+        seed = now.seed + used;
+      })
+  part_always lawful log now leaf n used within few room w = record {
+    placed = λ b e h. elim (written_to keys lawful leaf n now b e within few w.of_shape w.mirrored w.seeds room h)
+        [ inl kept ↦ w.placed b e kept.0 | inr from ↦ from.1 ];
+    apart = w.apart;
+    of_shape = w.of_shape;
+    hand_came = w.hand_came;
+    tree_came = λ b e h. elim (written_to keys lawful leaf n now b e within few w.of_shape w.mirrored w.seeds room h)
+        [ inl kept ↦ w.tree_came b e kept.0 | inr from ↦ w.hand_came e from.0 ];
+    past = w.past;
+    mirrored = sealed-length keys.pads keys.shape.levels leaf now.seed now.hand now.mirror n ∙ w.mirrored;
+    seeds = omega (arith, w.seeds);
+  }

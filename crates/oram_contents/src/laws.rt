@@ -157,7 +157,8 @@ pub fn writes_keep()
 {}
 
 /// A slot that stops keeps what is known; what comes after it is of the log alone. In its reads it stops with nothing
-/// joined to the hand, whatever they gave; in its writes some buckets of the open path are written.
+/// joined to the hand, whatever they gave; in its writes, behind any number of them, with those buckets of the open path
+/// written, any number of seeds used up, and the hand as it was.
 pub fn stops_keep()
     ensures reading { (keys : Keys) (old new : LogLists) (now : Contents) (start : ℕ) (asked : Option ℕ) (p : Point)
         (altered : List Altered) → Adds old new (drawn_events keys start asked p) altered
@@ -172,6 +173,12 @@ pub fn stops_keep()
         → n ≤ keys.shape.levels + 1 → Sound keys log g now
         → Sound keys log g (record now {
           mirror = sealed keys.pads keys.shape.levels leaf now.seed now.hand now.mirror n;
+        }) }
+    ensures writing_always { (keys : Keys) → AreKeys keys → (log : LogLists) (now : Contents) (leaf n used : ℕ)
+        → leaf < 2 ^ keys.shape.levels → n ≤ keys.shape.levels + 1 → HasSeeds now → Always keys log now
+        → Always keys log (record now {
+          mirror = sealed keys.pads keys.shape.levels leaf now.seed now.hand now.mirror n;
+          seed = now.seed + used;
         }) }
 {}
 
