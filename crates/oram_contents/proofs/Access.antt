@@ -542,3 +542,17 @@ module _ (keys : Keys) where
     mirrored = sealed-length keys.pads keys.shape.levels leaf now.seed now.hand now.mirror n ∙ w.mirrored;
     seeds = omega (arith, w.seeds);
   }
+
+  -- an append is refused, since its address is at hand: its message is noted, and the hand is as it was
+  pub refused_sound : (old new : LogLists) (g : Ghost) (now : Contents) (a : ℕ) (l : List ℕ) → g.flight ≡ Some a
+      → (Has a g.held → ⊥) → l ≡ line_at keys.shape g a → Adds old new (Tagged (message_of a (g.count a) l) ∷ []) []
+      → Sound keys old g now → Sound keys new (landed g) now
+  refused_sound old new g now a l flying unheld is adds s =
+      sound_fewer keys new (landed g) (record now { hand = now.hand ++ entry_of keys a (g.count a) l ∷ [] }) now.hand
+      (λ e h. has_left e now.hand (entry_of keys a (g.count a) l ∷ []) h)
+      (sound_put keys old new g now a l flying unheld is adds s)
+
+  pub refused_always : (old new : LogLists) (now : Contents) (m : Message) → Adds old new (Tagged m ∷ []) []
+      → Always keys old now → Always keys new now
+  refused_always old new now m adds s = always_adds old new (Tagged m ∷ []) now now.hand adds s.apart s.of_shape
+      (λ e h. came_more keys old new (Tagged m ∷ []) [] e adds (s.hand_came e h)) s

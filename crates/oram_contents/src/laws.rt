@@ -22,7 +22,7 @@ ghost use Rattle.asc_base.specs.declared.shape.Shape.{Shape};
 ghost use Rattle.posmap_counters.specs.Counters.{IsBefore, first_counter, next_group, next_own};
 ghost use Rattle.posmap_counters.specs.Group.{group_of, own_of};
 ghost use Rattle.oram_contents.specs.Contents.{Contents, after_write, IsReadTo};
-ghost use Rattle.oram_contents.specs.Entries.{Keys, AreKeys, keys_by, real, entry_of};
+ghost use Rattle.oram_contents.specs.Entries.{Keys, AreKeys, keys_by, real, message_of, entry_of};
 ghost use Rattle.asc_base.specs.Has.{Has};
 ghost use Rattle.oram_contents.specs.Counts.{Ghost, IsAway, line_at, put_at};
 ghost use Rattle.oram_contents.specs.Chip.{HeldBlock, Chip, AreGroups, first_chip, root_place, root_stepped};
@@ -156,9 +156,10 @@ pub fn writes_keep()
         → Always keys log (after_write keys.pads keys.shape.levels leaf now) }
 {}
 
-/// A slot that stops keeps what is known; what comes after it is of the log alone. In its reads it stops with nothing
-/// joined to the hand, whatever they gave; in its writes, behind any number of them, with those buckets of the open path
-/// written, any number of seeds used up, and the hand as it was.
+/// A slot or an append that stops keeps what is known; what comes after it is of the log alone. A slot stops in its
+/// reads with nothing joined to the hand, whatever they gave; in its writes, behind any number of them, with those
+/// buckets of the open path written, any number of seeds used up, and the hand as it was. An append whose address is
+/// at hand leaves its message noted, and the hand as it was.
 pub fn stops_keep()
     ensures reading { (keys : Keys) (old new : LogLists) (now : Contents) (start : ℕ) (asked : Option ℕ) (p : Point)
         (altered : List Altered) → Adds old new (drawn_events keys start asked p) altered
@@ -180,6 +181,12 @@ pub fn stops_keep()
           mirror = sealed keys.pads keys.shape.levels leaf now.seed now.hand now.mirror n;
           seed = now.seed + used;
         }) }
+    ensures appending { (keys : Keys) (old new : LogLists) (g : Ghost) (now : Contents) (a : ℕ) (l : List ℕ)
+        → g.flight ≡ Some a → (Has a g.held → ⊥) → l ≡ line_at keys.shape g a
+        → Adds old new (Tagged (message_of a (g.count a) l) ∷ []) [] → Sound keys old g now
+        → Sound keys new (landed g) now }
+    ensures appending_always { (keys : Keys) (old new : LogLists) (now : Contents) (m : Message)
+        → Adds old new (Tagged m ∷ []) [] → Always keys old now → Always keys new now }
 {}
 
 /// An access after which the block is put back: the invariant is kept, and what was found has the block's line, or the
