@@ -460,14 +460,22 @@ pub fn chip_shows_moves()
         → AreGroups shape plb (record g { held = addresses (with_used p chip).held }) (with_used p chip) }
 {}
 
-/// Counters keep their room, and siblings their common group.
+/// Counters keep their room, and siblings their common group: at the start, where a counter changes within its room,
+/// and where a group move begins or ends.
 pub fn counters_keep_room()
-    ensures { (shape : Shape) (g : Ghost) (a : ℕ) (c : Counter) (move : Option (ℕ × ℕ)) → IsShape shape
+    ensures start { (shape : Shape) → AreCounters shape first_ghost }
+    ensures changed { (shape : Shape) (g : Ghost) (a : ℕ) (c : Counter) (move : Option (ℕ × ℕ)) → IsShape shape
         → shape.total ≡ layer_first shape.lines shape.layers → c.group < 2 ^ 64 → c.own < 16384
         → ((p : ℕ) → p < shape.total → parent_of shape.lines shape.layers a ≡ Some p → moved_of move p ≡ 0
         → c.group ≡ (g.count a).group)
         → ((p : ℕ) → moved_of move p ≡ 0 → moved_of g.move p ≡ 0)
         → AreCounters shape g → AreCounters shape (record g { count = put_at g.count a c; move = move }) }
+    ensures begun { (shape : Shape) (g : Ghost) (p : ℕ) → g.move ≡ None → AreCounters shape g
+        → AreCounters shape (record g { move = Some (p, 0) }) }
+    ensures ended { (shape : Shape) (g : Ghost) (p first number group : ℕ) (own : List ℕ)
+        → children_of shape.lines shape.layers p ≡ Some (first, number) → g.stepped ≡ None
+        → g.move ≡ Some (p, number) → IsGroupOf shape g p group own → AreCounters shape g
+        → AreCounters shape (record g { move = None }) }
 {}
 
 /// Counters stay small: from the start on, however the log goes on, and where a counter changes within its room. So
