@@ -49,7 +49,7 @@ use Rattle.oram_stash.proofs.Apart.{AreApart-append, AreApart-without, AreApart-
 use Rattle.oram_stash.proofs.Held.{held-no_one}
 use Rattle.path_evict.proofs.Placed.{where_placed-has, All-where_placed}
 use Rattle.oram_contents.proofs.Found.{held_has, nothing_wrong, valid_tag}
-use Rattle.oram_contents.proofs.Placing.{written_from}
+use Rattle.oram_contents.proofs.Placing.{written_to, written_from}
 use Rattle.oram_contents.proofs.Steps.{came_more, AreUntagged, IsPast, sound_log, sound_read, sound_fewer, sound_raised}
 use Rattle.oram_contents.proofs.Steps.{counter_raised, sound_put, sound_write}
 
@@ -522,3 +522,37 @@ module _ (keys : Keys) where
           (sealed-off keys.pads keys.shape.levels leaf now.seed now.hand now.mirror n b
           (λ level less is. away (level, omega (arith, less, within), sym is)))
           ∙ unwrap_or-slice_get now.mirror b []
+
+  -- the same of what holds always, however many seeds are used up
+  pub part_always : AreKeys keys → (log : LogLists) (now : Contents) (leaf n used : ℕ) → leaf < 2 ^ keys.shape.levels
+      → n ≤ keys.shape.levels + 1 → HasSeeds now → Always keys log now
+      → Always keys log (record now {
+        mirror = sealed keys.pads keys.shape.levels leaf now.seed now.hand now.mirror n;
+        seed = now.seed + used;
+      })
+  part_always lawful log now leaf n used within few room w = record {
+    placed = λ b e h. elim (written_to keys lawful leaf n now b e within few w.of_shape w.mirrored w.seeds room h)
+        [ inl kept ↦ w.placed b e kept.0 | inr from ↦ from.1 ];
+    apart = w.apart;
+    of_shape = w.of_shape;
+    hand_came = w.hand_came;
+    tree_came = λ b e h. elim (written_to keys lawful leaf n now b e within few w.of_shape w.mirrored w.seeds room h)
+        [ inl kept ↦ w.tree_came b e kept.0 | inr from ↦ w.hand_came e from.0 ];
+    past = w.past;
+    mirrored = sealed-length keys.pads keys.shape.levels leaf now.seed now.hand now.mirror n ∙ w.mirrored;
+    seeds = omega (arith, w.seeds);
+  }
+
+  -- an append is refused, since its address is at hand: its message is noted, and the hand is as it was
+  pub refused_sound : (old new : LogLists) (g : Ghost) (now : Contents) (a : ℕ) (l : List ℕ) → g.flight ≡ Some a
+      → (Has a g.held → ⊥) → l ≡ line_at keys.shape g a → Adds old new (Tagged (message_of a (g.count a) l) ∷ []) []
+      → Sound keys old g now → Sound keys new (landed g) now
+  refused_sound old new g now a l flying unheld is adds s =
+      sound_fewer keys new (landed g) (record now { hand = now.hand ++ entry_of keys a (g.count a) l ∷ [] }) now.hand
+      (λ e h. has_left e now.hand (entry_of keys a (g.count a) l ∷ []) h)
+      (sound_put keys old new g now a l flying unheld is adds s)
+
+  pub refused_always : (old new : LogLists) (now : Contents) (m : Message) → Adds old new (Tagged m ∷ []) []
+      → Always keys old now → Always keys new now
+  refused_always old new now m adds s = always_adds old new (Tagged m ∷ []) now now.hand adds s.apart s.of_shape
+      (λ e h. came_more keys old new (Tagged m ∷ []) [] e adds (s.hand_came e h)) s

@@ -37,55 +37,60 @@ four_has entries e h =
     let at = has_map (slice_get entries) slot.0 (0 ∷ 1 ∷ 2 ∷ 3 ∷ []) slot.1 in
     get_has entries at.0 e (subst (λ o. Has e (option_to_list o)) at.2 slot.2)
 
+-- a bucket is one of the first on a path, or none of them
+cases_first : (levels leaf n b : ℕ) → ((level : ℕ) × (level < n) × (b ≡ bucket_of levels leaf level))
+    ⊎ ((level : ℕ) → level < n → b ≡ bucket_of levels leaf level → ⊥)
+cases_first levels leaf zero b = inr (λ level less is. omega arith)
+cases_first levels leaf (suc n) b = elim (cases_first levels leaf n b) [
+  | inl found ↦ inl (found.0, omega (arith, found.1), found.2)
+  | inr none ↦ elim (cases_eq b (bucket_of levels leaf n)) [
+    | inl is ↦ inl (n, omega arith, is)
+    | inr other ↦ inr (λ level less is. elim (cases_eq level n) [
+      | inl same ↦ other (is ∙ ap (bucket_of levels leaf) same)
+      | inr less_n ↦ none level
+          (omega (arith, less_n)) is
+    ])
+  ]
+]
+
 -- a bucket is on a path or not
 pub cases_path : (levels leaf b : ℕ) → OnPath levels leaf b ⊎ (OnPath levels leaf b → ⊥)
-cases_path levels leaf b = elim (below (suc levels)) [
+cases_path levels leaf b = elim (cases_first levels leaf (suc levels) b) [
   | inl found ↦ inl (found.0, omega (arith, found.1), found.2)
   | inr none ↦ inr (λ on. none on.0 (omega (arith, on.1)) on.2)
 ]
-  where
-    below : (n : ℕ) → ((level : ℕ) × (level < n) × (b ≡ bucket_of levels leaf level))
-        ⊎ ((level : ℕ) → level < n → b ≡ bucket_of levels leaf level → ⊥)
-    below zero = inr (λ level less is. omega arith)
-    below (suc n) = elim (below n) [
-      | inl found ↦ inl (found.0, omega (arith, found.1), found.2)
-      | inr none ↦ elim (cases_eq b (bucket_of levels leaf n)) [
-        | inl is ↦ inl (n, omega arith, is)
-        | inr other ↦ inr (λ level less is. elim (cases_eq level n) [
-          | inl same ↦ other (is ∙ ap (bucket_of levels leaf) same)
-          | inr less_n ↦ none level
-              (omega (arith, less_n)) is
-        ])
-      ]
-    ]
 
 pub buckets_are : (levels : ℕ) → buckets_of levels ≡ 2 ^ (levels + 1) - 1
 unfolding buckets_of
 buckets_are levels = refl
 
--- An entry in a bucket after a write: the bucket isn't on the path, and it stood there before; or it was at hand, and
--- the bucket is on the path of its leaf too.
-pub written_from : (keys : Keys) (lawful : AreKeys keys) (leaf : ℕ) (now : Contents) (b : ℕ) (e : Entry)
-    → leaf < 2 ^ keys.shape.levels → AreOfShape keys.shape now.hand
+-- An entry in a bucket after the first n writes of a path: the bucket is none of them, and it stood there before; or it
+-- was at hand, and the bucket is on the path of its leaf too.
+pub written_to : (keys : Keys) (lawful : AreKeys keys) (leaf n : ℕ) (now : Contents) (b : ℕ) (e : Entry)
+    → leaf < 2 ^ keys.shape.levels → n ≤ keys.shape.levels + 1 → AreOfShape keys.shape now.hand
     → length now.mirror ≡ keys.shape.buckets → 0 < now.seed → now.seed < 2 ^ 63
-    → Has e (entries_at keys (after_write keys.pads keys.shape.levels leaf now).mirror b)
-    → (Has e (entries_at keys now.mirror b) × (OnPath keys.shape.levels leaf b → ⊥))
+    → Has e (entries_at keys (sealed keys.pads keys.shape.levels leaf now.seed now.hand now.mirror n) b)
+    → (Has e (entries_at keys now.mirror b)
+    × ((level : ℕ) → level < n → b ≡ bucket_of keys.shape.levels leaf level → ⊥))
     ⊎ (Has e now.hand × OnPath keys.shape.levels e.leaf.0 b)
-written_from keys lawful leaf now b e within of_shape mirrored some below h = by_path
-    (cases_path keys.shape.levels leaf b)
+written_to keys lawful leaf n now b e within few of_shape mirrored some below h = by_path
+    (cases_first keys.shape.levels leaf n b)
   where
-    by_path : OnPath keys.shape.levels leaf b ⊎ (OnPath keys.shape.levels leaf b → ⊥)
-        → (Has e (entries_at keys now.mirror b) × (OnPath keys.shape.levels leaf b → ⊥))
+    by_path : ((level : ℕ) × (level < n) × (b ≡ bucket_of keys.shape.levels leaf level))
+        ⊎ ((level : ℕ) → level < n → b ≡ bucket_of keys.shape.levels leaf level → ⊥)
+        → (Has e (entries_at keys now.mirror b)
+        × ((level : ℕ) → level < n → b ≡ bucket_of keys.shape.levels leaf level → ⊥))
         ⊎ (Has e now.hand × OnPath keys.shape.levels e.leaf.0 b)
     by_path (inr off) =
-        let kept = sealed-off keys.pads keys.shape.levels leaf now.seed now.hand now.mirror (keys.shape.levels + 1) b
-        (λ level less is. off (level, omega (arith, less), sym is)) in
-        let same : get_or (sealed keys.pads keys.shape.levels leaf now.seed now.hand now.mirror
-        (keys.shape.levels + 1)) b [] ≡ get_or now.mirror b [] =
+        let kept = sealed-off keys.pads keys.shape.levels leaf now.seed now.hand now.mirror n b
+        (λ level less is. off level less (sym is)) in
+        let same : get_or (sealed keys.pads keys.shape.levels leaf now.seed now.hand now.mirror n) b []
+        ≡ get_or now.mirror b [] =
         sym (unwrap_or-slice_get _ b []) ∙ ap (λ o. unwrap_or o []) kept ∙ unwrap_or-slice_get now.mirror b [] in
         inl (subst (λ t. Has e (entries_of (opened keys.pads keys.shape t))) same h, off)
     by_path (inl on) =
         let level = on.0 in
+        let inside : level ≤ keys.shape.levels = omega (arith, on.1, few) in
         let layered : IsLayered keys.shape = shape_layered keys.shape lawful.shape in
         let there : bucket_of keys.shape.levels leaf level < length now.mirror = omega (
           arith,
@@ -93,18 +98,16 @@ written_from keys lawful leaf now b e within of_shape mirrored some below h = by
           layered.buckets,
           buckets_are keys.shape.levels,
           bucket_of-lt keys.shape.levels leaf level
-              on.1 within,
+              inside within,
         ) in
-        let text = sealed-on keys.pads keys.shape.levels leaf now.seed now.hand now.mirror
-        (keys.shape.levels + 1) level (omega (arith, on.1)) (omega arith) within there in
-        let bytes : get_or (sealed keys.pads keys.shape.levels leaf now.seed now.hand now.mirror
-        (keys.shape.levels + 1)) b [] ≡ bucket_text keys.pads (now.seed + level)
-        (slots_at keys.shape.levels leaf now.hand level) =
-        ap (λ n. get_or (sealed keys.pads keys.shape.levels leaf now.seed now.hand now.mirror
-        (keys.shape.levels + 1)) n []) on.2 ∙ get_or_from_slice_get _
-        (bucket_of keys.shape.levels leaf level) _ [] text in
+        let text = sealed-on keys.pads keys.shape.levels leaf now.seed now.hand now.mirror n level on.1 few within
+        there in
+        let bytes : get_or (sealed keys.pads keys.shape.levels leaf now.seed now.hand now.mirror n) b []
+        ≡ bucket_text keys.pads (now.seed + level) (slots_at keys.shape.levels leaf now.hand level) =
+        ap (λ k. get_or (sealed keys.pads keys.shape.levels leaf now.seed now.hand now.mirror n) k []) on.2
+        ∙ get_or_from_slice_get _ (bucket_of keys.shape.levels leaf level) _ [] text in
         let opens = opened-sealed keys.pads keys.shape leaf (now.seed + level) level now.hand (omega arith)
-        (omega (arith, on.1, layered.levels_to)) of_shape in
+        (omega (arith, inside, layered.levels_to)) of_shape in
         let slots : Has e (flat_map option_to_list (slots_at keys.shape.levels leaf now.hand level)) = subst
         (λ r. Has e (entries_of r)) (ap (opened keys.pads keys.shape) bytes ∙ opens) h in
         let here = four_has (where_placed (stands_at level) (places_of keys.shape.levels leaf now.hand) now.hand) e
@@ -119,8 +122,22 @@ written_from keys lawful leaf now b e within of_shape mirrored some below h = by
           hand,
           (
             level,
-            on.1,
-            on.2 ∙ sym ((shared_iff keys.shape.levels e.leaf.0 leaf level range.1.1 within on.1).1
+            inside,
+            on.2 ∙ sym ((shared_iff keys.shape.levels e.leaf.0 leaf level range.1.1 within inside).1
                 depth),
           ),
         )
+
+-- The same after all of them: the bucket isn't on the path, or it was at hand.
+pub written_from : (keys : Keys) (lawful : AreKeys keys) (leaf : ℕ) (now : Contents) (b : ℕ) (e : Entry)
+    → leaf < 2 ^ keys.shape.levels → AreOfShape keys.shape now.hand
+    → length now.mirror ≡ keys.shape.buckets → 0 < now.seed → now.seed < 2 ^ 63
+    → Has e (entries_at keys (after_write keys.pads keys.shape.levels leaf now).mirror b)
+    → (Has e (entries_at keys now.mirror b) × (OnPath keys.shape.levels leaf b → ⊥))
+    ⊎ (Has e now.hand × OnPath keys.shape.levels e.leaf.0 b)
+written_from keys lawful leaf now b e within of_shape mirrored some below h =
+    elim (written_to keys lawful leaf (keys.shape.levels + 1) now b e within (omega arith) of_shape mirrored some below
+    h) [
+      | inl kept ↦ inl (kept.0, λ on. kept.1 on.0 (omega (arith, on.1)) on.2)
+      | inr from ↦ inr from
+    ]

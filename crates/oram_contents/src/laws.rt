@@ -22,7 +22,7 @@ ghost use Rattle.asc_base.specs.declared.shape.Shape.{Shape};
 ghost use Rattle.posmap_counters.specs.Counters.{IsBefore, first_counter, next_group, next_own};
 ghost use Rattle.posmap_counters.specs.Group.{group_of, own_of};
 ghost use Rattle.oram_contents.specs.Contents.{Contents, after_write, IsReadTo};
-ghost use Rattle.oram_contents.specs.Entries.{Keys, AreKeys, keys_by, real, entry_of};
+ghost use Rattle.oram_contents.specs.Entries.{Keys, AreKeys, keys_by, real, message_of, entry_of};
 ghost use Rattle.asc_base.specs.Has.{Has};
 ghost use Rattle.oram_contents.specs.Counts.{Ghost, IsAway, line_at, put_at};
 ghost use Rattle.oram_contents.specs.Chip.{HeldBlock, Chip, AreGroups, first_chip, root_place, root_stepped};
@@ -156,8 +156,10 @@ pub fn writes_keep()
         → Always keys log (after_write keys.pads keys.shape.levels leaf now) }
 {}
 
-/// A slot that stops keeps what is known; what comes after it is of the log alone. In its reads it stops with nothing
-/// joined to the hand, whatever they gave; in its writes some buckets of the open path are written.
+/// A slot or an append that stops keeps what is known; what comes after it is of the log alone. A slot stops in its
+/// reads with nothing joined to the hand, whatever they gave; in its writes, behind any number of them, with those
+/// buckets of the open path written, any number of seeds used up, and the hand as it was. An append whose address is
+/// at hand leaves its message noted, and the hand as it was.
 pub fn stops_keep()
     ensures reading { (keys : Keys) (old new : LogLists) (now : Contents) (start : ℕ) (asked : Option ℕ) (p : Point)
         (altered : List Altered) → Adds old new (drawn_events keys start asked p) altered
@@ -173,6 +175,18 @@ pub fn stops_keep()
         → Sound keys log g (record now {
           mirror = sealed keys.pads keys.shape.levels leaf now.seed now.hand now.mirror n;
         }) }
+    ensures writing_always { (keys : Keys) → AreKeys keys → (log : LogLists) (now : Contents) (leaf n used : ℕ)
+        → leaf < 2 ^ keys.shape.levels → n ≤ keys.shape.levels + 1 → HasSeeds now → Always keys log now
+        → Always keys log (record now {
+          mirror = sealed keys.pads keys.shape.levels leaf now.seed now.hand now.mirror n;
+          seed = now.seed + used;
+        }) }
+    ensures appending { (keys : Keys) (old new : LogLists) (g : Ghost) (now : Contents) (a : ℕ) (l : List ℕ)
+        → g.flight ≡ Some a → (Has a g.held → ⊥) → l ≡ line_at keys.shape g a
+        → Adds old new (Tagged (message_of a (g.count a) l) ∷ []) [] → Sound keys old g now
+        → Sound keys new (landed g) now }
+    ensures appending_always { (keys : Keys) (old new : LogLists) (now : Contents) (m : Message)
+        → Adds old new (Tagged m ∷ []) [] → Always keys old now → Always keys new now }
 {}
 
 /// An access after which the block is put back: the invariant is kept, and what was found has the block's line, or the
@@ -446,14 +460,22 @@ pub fn chip_shows_moves()
         → AreGroups shape plb (record g { held = addresses (with_used p chip).held }) (with_used p chip) }
 {}
 
-/// Counters keep their room, and siblings their common group.
+/// Counters keep their room, and siblings their common group: at the start, where a counter changes within its room,
+/// and where a group move begins or ends.
 pub fn counters_keep_room()
-    ensures { (shape : Shape) (g : Ghost) (a : ℕ) (c : Counter) (move : Option (ℕ × ℕ)) → IsShape shape
+    ensures start { (shape : Shape) → AreCounters shape first_ghost }
+    ensures changed { (shape : Shape) (g : Ghost) (a : ℕ) (c : Counter) (move : Option (ℕ × ℕ)) → IsShape shape
         → shape.total ≡ layer_first shape.lines shape.layers → c.group < 2 ^ 64 → c.own < 16384
         → ((p : ℕ) → p < shape.total → parent_of shape.lines shape.layers a ≡ Some p → moved_of move p ≡ 0
         → c.group ≡ (g.count a).group)
         → ((p : ℕ) → moved_of move p ≡ 0 → moved_of g.move p ≡ 0)
         → AreCounters shape g → AreCounters shape (record g { count = put_at g.count a c; move = move }) }
+    ensures begun { (shape : Shape) (g : Ghost) (p : ℕ) → g.move ≡ None → AreCounters shape g
+        → AreCounters shape (record g { move = Some (p, 0) }) }
+    ensures ended { (shape : Shape) (g : Ghost) (p first number group : ℕ) (own : List ℕ)
+        → children_of shape.lines shape.layers p ≡ Some (first, number) → g.stepped ≡ None
+        → g.move ≡ Some (p, number) → IsGroupOf shape g p group own → AreCounters shape g
+        → AreCounters shape (record g { move = None }) }
 {}
 
 /// Counters stay small: from the start on, however the log goes on, and where a counter changes within its room. So
