@@ -28,3 +28,6 @@ pub mod Cuts
 pub mod Honest
 pub mod HomeSlots
 pub mod Twice
+pub mod FormLaws
+pub mod Answers
+pub mod FirstSlots

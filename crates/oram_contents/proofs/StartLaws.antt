@@ -63,7 +63,7 @@ zero_at zero b = inr refl
 zero_at (suc n) zero = inl refl
 zero_at (suc n) (suc b) = zero_at n b
 
-none_at : (keys : Keys) (b : ℕ) → entries_at keys (zero_buckets keys.shape.buckets) b ≡ []
+pub none_at : (keys : Keys) (b : ℕ) → entries_at keys (zero_buckets keys.shape.buckets) b ≡ []
 none_at keys b = elim (zero_at keys.shape.buckets b) [
   | inl is ↦ ap (entries_in keys) is ∙ unsown keys (zero_bucket) no_seed
   | inr is ↦ ap (entries_in keys) is ∙ unsown keys [] no_seed_at_all

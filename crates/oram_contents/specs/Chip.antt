@@ -45,18 +45,20 @@ abbrev pub AreDistinct : List ℕ → Type 0
 AreDistinct [] = Unit {0}
 AreDistinct (a ∷ later) = (Has a later → ⊥) × AreDistinct later
 
--- The chip shows the counters of all blocks.
+-- The chip shows the counters of all blocks. That a held block is one of the position map, so that it has children, and
+-- that the one whose group moves is held, are said of a front end that stands so (`IsShown`, `IsFirst` of oram_lines).
 pub record AreGroups (shape : Shape) (plb : ℕ) (g : Ghost) (chip : Chip) : Type 0 where
-  -- a top layer's block has its counter on chip
+  -- a top layer's block has its counter on chip: its step needs it
   pub roots : (a : ℕ) → a < shape.total → parent_of shape.lines shape.layers a ≡ None
       → IsRootOf g a (root_counter shape chip.roots a)
-  -- a held block is held under its counter, and its group shows its children's
+  -- a held block is held under its counter, and its group shows its children's: the step of a child needs it, and the
+  -- append of the held block when it leaves
   pub counters : (h : HeldBlock) → Has h chip.held → h.counter ≡ g.count h.address
   pub groups : (h : HeldBlock) → Has h chip.held → IsGroupOf shape g h.address h.group.group h.group.own
   -- the block whose slot comes next is of the top layer, or its parent is the first that is held
   pub parent : (a p : ℕ) → g.pend ≡ Some a → parent_of shape.lines shape.layers a ≡ Some p
       → (rest : List ℕ) × (g.held ≡ p ∷ rest)
-  -- held addresses differ, are at most `plb`, and are of blocks of the shape
+  -- held addresses differ, are at most `plb`, and are of blocks of the shape: an insert needs it
   pub listed : g.held ≡ addresses chip.held
   pub apart : AreDistinct g.held
   pub few : length g.held ≤ plb

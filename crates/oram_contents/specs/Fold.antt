@@ -109,7 +109,8 @@ written_ok Whole moves = writes_run 0 moves
 written_ok LastFailed moves = writes_run 0 moves - 1
 written_ok RanOut moves = writes_run 0 moves - 1
 
--- so many buckets of an open path are written; the hand is left free
+-- So many buckets of an open path are written. The hand is left free, and the seed as it was: which seeds a write that
+-- stopped used up is the tree's.
 abbrev pub partly : Keys → ℕ → Fold → Contents
 partly keys w f = elim f.path [
   | None ↦ f.now

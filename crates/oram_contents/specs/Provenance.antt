@@ -77,7 +77,8 @@ pub record Sound (keys : Keys) (log : LogLists) (g : Ghost) (now : Contents) : T
       → IsBefore c (g.count a) ⊎ ((g.pend ≡ Some a) × (c ≡ g.count a))
   pub dummies : (n : ℕ) (x : Leaf) → Has (Drawn (Dummy n) x) log.events → n < g.dummies
   -- A block on chip was accessed, and isn't tagged under its counter. A put needs it, a renumbered block, a line that
-  -- is stored, and the line of a parent whose child's counter rises.
+  -- is stored, and the line of a parent whose child's counter rises. That the block in flight isn't held too is asked
+  -- where it is put back, and known where it leaves the held ones.
   pub away : (a : ℕ) → IsAway g a
       → (a < keys.shape.total) × IsBefore first_counter (g.count a) × Untagged log.events a (g.count a)
   -- What is at hand is known. A take needs it.
@@ -93,7 +94,8 @@ pub record Always (keys : Keys) (log : LogLists) (now : Contents) : Type 0 where
       → OnPath keys.shape.levels e.leaf.0 bucket
   -- Addresses at hand differ. A take needs it: no second copy is left.
   pub apart : AreApart now.hand
-  -- A write needs it, so that a bucket opens to the slots that it was sealed with.
+  -- A write needs it, so that a bucket opens to the slots that it was sealed with. Entries in the tree need no such
+  -- clause: a bucket opens to entries of the shape, and that each opens is a law of its own (`AreInForm`).
   pub of_shape : AreOfShape keys.shape now.hand
   -- What stands at hand or in the tree was tagged, or stood in an altered reply. No step needs it: what the chip writes
   -- came from nowhere else.

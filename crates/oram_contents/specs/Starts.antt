@@ -11,6 +11,8 @@ use Rattle.oram_contents.specs.Counts.{Ghost, zero_line}
 use Rattle.oram_contents.specs.Entries.{Keys, real, message_of, entry_of}
 use Rattle.oram_contents.specs.Slots.{drawn_events}
 use Rattle.asc_base.specs.declared.block.Counter.{Counter}
+use Rattle.asc_base.specs.declared.block.Point.{Point}
+use Rattle.bus_watch.specs.declared.log.Event.{Event}
 
 abbrev pub empty_log : LogLists
 empty_log = record { moves = []; events = []; altered = [] }
@@ -33,6 +35,14 @@ first_contents keys = record { hand = []; mirror = zero_buckets keys.shape.bucke
 
 abbrev pub first_fold : Keys → Fold
 first_fold keys = record { now = first_contents keys; start = 0; path = None }
+
+-- The log of one slot that nobody asked for, in which these events follow those of its start.
+abbrev pub first_slot : Keys → ℕ → Point → List Event → LogLists
+first_slot keys start p events = record {
+  moves = [];
+  events = drawn_events keys start None p ++ events;
+  altered = [];
+}
 
 -- A log of two slots of a block that was never accessed. In the first a line of it is put back under a counter. The
 -- second draws the point of that counter; the root's reply in it is altered, so that an entry of the block stands in it

@@ -45,7 +45,9 @@ ghost use Rattle.oram_contents.specs.Decided.{draws, shows_forgery};
 ghost use Rattle.oram_contents.specs.Forgery.{Forgery, LastDrawn};
 ghost use Rattle.oram_contents.specs.Provenance.{Sound, Always};
 ghost use Rattle.oram_contents.specs.Steps.{Adds, opened_at, raised, taken, stored, landed, closed, inserted};
-ghost use Rattle.oram_contents.specs.Starts.{empty_log, first_ghost, first_contents, altered_log};
+ghost use Rattle.oram_contents.specs.Starts.{empty_log, first_ghost, first_contents, first_slot, altered_log};
+ghost use Rattle.asc_base.specs.declared.block.Point.TheVariants.{Dummy};
+ghost use Rattle.asc_outside.specs.Memory.{zero_buckets};
 ghost use Rattle.oram_contents.specs.Slots.{drawn_events, MayDraw, IsRead, IsFound, MayRise, IsPut, HasSeeds, IsAccess};
 ghost use Rattle.oram_contents.specs.Slots.{IsRefill};
 ghost use Rattle.oram_contents.specs.Slots.{IsPass, IsEnd, ArePasses, IsBetween, done, refilled, passed_by};
@@ -217,7 +219,7 @@ pub fn refills_keep()
         → HasSeeds now → Always keys old now → Always keys new after }
 {}
 
-/// A slot's end, with a choice or without, changes neither contents nor what is known of them.
+/// A slot's end, with a choice or without, changes neither contents nor what is known of them; nor does an answer.
 pub fn ends_keep()
     ensures contents { (keys : Keys) (first : Fold) (old new : LogLists) → IsEnd old new
         → whole keys first new ≡ whole keys first old }
@@ -226,6 +228,10 @@ pub fn ends_keep()
     ensures always { (keys : Keys) (old new : LogLists) (now : Contents) → IsEnd old new
         → Always keys old now → Always keys new now }
     ensures forgery { (keys : Keys) (old new : LogLists) → IsEnd old new → Forgery keys old → Forgery keys new }
+    ensures answered { (keys : Keys) (old new : LogLists) (now : Contents) (line : ℕ) (value : Line)
+        → Adds old new (Answered line value ∷ []) [] → (g : Ghost) → Sound keys old g now → Sound keys new g now }
+    ensures answered_always { (keys : Keys) (old new : LogLists) (now : Contents) (line : ℕ) (value : Line)
+        → Adds old new (Answered line value ∷ []) [] → Always keys old now → Always keys new now }
 {}
 
 /// Dummies, however many, each with the choice at its end where one falls, keep what is known, whichever block waits
@@ -262,8 +268,21 @@ pub fn changes_between_keep()
         → Sound keys log (record g { move = move; stepped = stepped }) now }
 {}
 
-/// Where no reply is altered each block that was accessed has one place, and every other block has none.
+/// Where no reply is altered each block that was accessed has one place, and every other block has none: over a path's
+/// read, a block that is taken out, a path's write, and so over whole slots; and over what comes between them.
 pub fn blocks_are_home()
+    ensures read { (keys : Keys) → AreKeys keys → (g : Ghost) (now : Contents) (start leaf : ℕ) (joined : List Entry)
+        (dummies : ℕ) → leaf < 2 ^ keys.shape.levels → g.path ≡ None
+        → IsReadTo keys.pads keys.shape start leaf [] now joined → Home keys g now
+        → Home keys (record g { path = Some leaf; dummies = dummies }) (record now { hand = joined }) }
+    ensures taken { (keys : Keys) (g : Ghost) (now : Contents) (a : ℕ) (c : Counter) (found : Option Entry)
+        → g.flight ≡ None → IsBefore (g.count a) c → held now.hand (record { 0 = a }) ≡ found
+        → judged keys a (g.count a) found ≡ None → Home keys g now
+        → Home keys (taken g a c) (record now { hand = without now.hand (record { 0 = a }) }) }
+    ensures written { (keys : Keys) → AreKeys keys → (g : Ghost) (now : Contents) (leaf : ℕ)
+        → leaf < 2 ^ keys.shape.levels → g.path ≡ Some leaf → AreOfShape keys.shape now.hand
+        → length now.mirror ≡ keys.shape.buckets → 0 < now.seed → HasSeeds now → Home keys g now
+        → Home keys (closed g) (after_write keys.pads keys.shape.levels leaf now) }
     ensures access { (keys : Keys) → AreKeys keys → (old new : LogLists) (g : Ghost) (now after : Contents)
         (start a : ℕ) (c : Counter) (found : Option Entry) (l : List ℕ)
         → IsAccess keys old new now after start a (g.count a) c found l → new.altered ≡ []
@@ -315,7 +334,23 @@ pub fn groups_show_counters()
         → IsGroupOf shape (record g { move = None }) p ((group + 1) % 2 ^ 64) (replicate 32 0) }
 {}
 
-/// The start is sound and at home. Of the logs of two slots with an altered reply one shows a forgery: the line that
+/// Whatever is altered or forged, each bucket's bytes stay in the form of a bucket: from the start on, and over every
+/// slot.
+pub fn buckets_stay_in_form()
+    ensures start { (keys : Keys) → AreInForm keys (zero_buckets keys.shape.buckets) }
+    ensures access { (keys : Keys) → AreKeys keys → (old new : LogLists) (g : Ghost) (now after : Contents)
+        (start a : ℕ) (c : Counter) (found : Option Entry) (l : List ℕ)
+        → IsAccess keys old new now after start a (g.count a) c found l → a < keys.shape.total → length l ≡ 64
+        → HasSeeds now → Always keys old now → AreInForm keys now.mirror → AreInForm keys after.mirror }
+    ensures refill { (keys : Keys) → AreKeys keys → (old new : LogLists) (g : Ghost) (now after : Contents)
+        (start a : ℕ) (found : Option Entry) → IsRefill keys old new now after start a (g.count a) found
+        → HasSeeds now → Always keys old now → AreInForm keys now.mirror → AreInForm keys after.mirror }
+    ensures dummies { (keys : Keys) → AreKeys keys → (k : ℕ) (old new : LogLists) (g : Ghost) (now after : Contents)
+        (n : ℕ) → ArePasses keys k old new now after n → Always keys old now → AreInForm keys now.mirror
+        → Always keys new after × AreInForm keys after.mirror }
+{}
+
+/// The start is sound and at home, and there is a first slot of each kind. Of the logs of two slots with an altered reply one shows a forgery: the line that
 /// stood in the reply is accepted, and another one was put back. None is shown where the line that was put back is
 /// accepted, whether it stood in the reply or another one did, nor where a line is accepted that didn't stand there.
 /// The test of lists says so.
@@ -323,6 +358,17 @@ pub fn instances_are_there()
     ensures sound { (keys : Keys) → Sound keys empty_log first_ghost (first_contents keys) }
     ensures always { (keys : Keys) → Always keys empty_log (first_contents keys) }
     ensures home { (keys : Keys) → Home keys first_ghost (first_contents keys) }
+    ensures dummy { (keys : Keys) → AreKeys keys → (start : ℕ)
+        → ArePasses keys 1 empty_log (first_slot keys start (Dummy 0) []) (first_contents keys)
+        (after_write keys.pads keys.shape.levels (keys.leaf_of (Dummy 0)) (first_contents keys)) 0 }
+    ensures access { (keys : Keys) → AreKeys keys → (start a : ℕ) (c : Counter) (l : List ℕ)
+        → IsAccess keys empty_log (first_slot keys start (real a first_counter) (Tagged (message_of a c l) ∷ []))
+        (first_contents keys) (after_write keys.pads keys.shape.levels (keys.leaf_of (real a first_counter))
+        (with_entry (first_contents keys) (entry_of keys a c l))) start a first_counter c None l }
+    ensures refill { (keys : Keys) → AreKeys keys → (start a : ℕ)
+        → IsRefill keys empty_log (first_slot keys start (real a first_counter) []) (first_contents keys)
+        (after_write keys.pads keys.shape.levels (keys.leaf_of (real a first_counter)) (first_contents keys)) start a
+        first_counter None }
     ensures forged { (keys : Keys) → AreKeys keys → (a : ℕ) (c : Counter) → a < keys.shape.total
         → (put found : List ℕ) → length found ≡ 64 → (found ≡ put → ⊥)
         → Forgery keys (altered_log keys a c put found found) }

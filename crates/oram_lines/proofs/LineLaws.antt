@@ -35,7 +35,7 @@ use Rattle.oram_lines.specs.Lines.{Lines, IsNew, HoldsLines, IsRequest, lines_af
 use Rattle.oram_lines.specs.Lines.{AreRequests, AreLinesOf, lines_by}
 use Rattle.oram_lines.specs.Noted.{IsMemoryOf}
 use Rattle.oram_lines.specs.Standing.{DrawnOnce, IsKnown, IsShown, StandsFor, IsCalm, SameData, later}
-use Rattle.oram_lines.proofs.FormLaws.{start_forms, passes_forms}
+use Rattle.oram_contents.proofs.FormLaws.{start_forms, passes_forms}
 use Rattle.oram_lines.proofs.FetchLaws.{fetch_keeps, store_keeps, put_alike, data_leaf}
 use Rattle.oram_lines.proofs.GrowLaws.{forgery_port, forgery_walk, forgery_halt, forgery_walk_stop, counted_walk}
 use Rattle.oram_lines.proofs.PointLaws.{passes_once}

@@ -1,3 +1,4 @@
+use Rattle.oram_contents.proofs.Answers.{answered_sound, answered_always}
 use Rattle.oram_contents.proofs.Ends.{whole_ends, sound_ends, always_ends, forgery_ends}
 use Rattle.oram_contents.proofs.laws.ends_keep.Goals as goal
 
@@ -12,3 +13,9 @@ returns-clause-always c = always_ends
 
 pub returns-clause-forgery : goal.returns-clause-forgery
 returns-clause-forgery c = forgery_ends
+
+pub returns-clause-answered : goal.returns-clause-answered
+returns-clause-answered c = answered_sound
+
+pub returns-clause-answered_always : goal.returns-clause-answered_always
+returns-clause-answered_always c = answered_always
