@@ -225,8 +225,8 @@ module _ (config : Config) (image : Image) (input key : List ℕ) (lent : Lent) 
         → IfOk result (λ r. (at : ℕ) → r.ending ≡ TimeUp at → IsTimeUp config r.cycles lent.tap'.log at)
         → IfOk result (λ r. EndsInOrder (keys_from config key) r.ending lent.tap'.log
         ⊎ IsUnprepared r lent.tap lent.tap')
-        → IfOk result (λ r. EndsAtHome (keys_from config key) config (play_with config image input) r.ending
-        lent.tap'.log)
+        → IfOk result (λ r. EndsAtHome (keys_from config key) config (play_with config image input) r.instructions
+        r.cycles r.ending lent.tap'.log)
         → IfOk result (IsRunOf config image input key lent)
     ran_of (Err none) pace in_time real dummies tied device right choices code fetches spent flat honest refines plays
         played fed verdict contents told count time_up done home = tt

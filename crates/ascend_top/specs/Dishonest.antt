@@ -100,5 +100,6 @@ module _ (config : Config) (image : Image) (input : List ℕ) (keys : Keys) (len
         → IsPlayed config (play_with config image input) (play_report report) lent.tap'.log
     pub honest : lent.tap'.log.altered ≡ [] → (evidence : Evidence) → report.ending ≡ Integrity evidence → ⊥
     pub unforged : lent.tap'.log.altered ≡ [] → Forgery keys lent.tap'.log → ⊥
-    pub home : EndsAtHome keys config (play_with config image input) report.ending lent.tap'.log
+    pub home : EndsAtHome keys config (play_with config image input) report.instructions report.cycles report.ending
+        lent.tap'.log
     pub unaltered : IsSome lent.memory.told → lent.tap'.log.altered ≡ []

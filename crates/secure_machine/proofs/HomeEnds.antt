@@ -1,5 +1,5 @@
 -- A run that ends behind an instruction, over a memory that alters no reply, leaves each block at home.
-use Rattle.std.proofs.Common.{◌≡◌, ◌⊎◌, inl, inr, ℕ, [], Some, Result, Ok, Err, IfOk, sym, ap, subst}
+use Rattle.std.proofs.Common.{◌≡◌, ◌⊎◌, inl, inr, ℕ, [], Some, Result, Ok, Err, IfOk, refl, sym, ap, subst, arith}
 use Rattle.asc_base.specs.declared.settings.Config.{Config}
 use Rattle.asc_base.specs.declared.stop.Stop.{Stop}
 use Rattle.asc_base.specs.declared.stop.Stop.TheVariants as why
@@ -16,6 +16,7 @@ use Rattle.log_replay.specs.Replayed.{IsReplayed}
 use Rattle.play_run.specs.Stands.{EndsIn}
 use Rattle.run_play.specs.Play.{Play, PlayEnding}
 use Rattle.run_play.specs.Slots.{Numbers}
+use Rattle.secure_machine.specs.Finish.{StopsLater}
 use Rattle.secure_machine.specs.FlatEnds.{ending_by}
 use Rattle.secure_machine.specs.Home.{EndsBehind, LeavesHome, EndsAtHome}
 use Rattle.secure_machine.specs.declared.report.Ending.{Ending}
@@ -39,18 +40,25 @@ module _ (keys : Keys) (lawful : AreKeys keys) (levels : ℕ) (config : Config) 
   }
 
 -- a stop is no ending behind an instruction
-stop_cuts : (stop : Stop) (ending : Ending) → ending_by stop ≡ Some ending → EndsBehind ending → ⊥
-stop_cuts (why.Integrity evidence) ending is behind =
-    let e : ending ≡ Integrity evidence = cc in subst EndsBehind e behind
-stop_cuts (why.StashFull held) ending is behind =
-    let e : ending ≡ StashFull held = cc in subst EndsBehind e behind
-stop_cuts (why.TimeUp at) ending is behind = let e : ending ≡ TimeUp at = cc in subst EndsBehind e behind
-stop_cuts why.Device ending is behind = let e : ending ≡ Device = cc in subst EndsBehind e behind
-stop_cuts why.NoMemory ending is behind = absurd cc
+stop_cuts : (instructions cycles : ℕ) (stop : Stop) (ending : Ending) → ending_by stop ≡ Some ending
+    → StopsLater instructions cycles stop → EndsBehind instructions cycles ending → ⊥
+stop_cuts instructions cycles (why.Integrity evidence) ending is late behind =
+    let e : ending ≡ Integrity evidence = cc in subst (EndsBehind instructions cycles) e behind
+stop_cuts instructions cycles (why.StashFull held) ending is late behind =
+    let e : ending ≡ StashFull held = cc in subst (EndsBehind instructions cycles) e behind
+stop_cuts instructions cycles (why.TimeUp at) ending is late behind =
+    let e : ending ≡ TimeUp at = cc in
+    let (some, here) = subst (EndsBehind instructions cycles) e behind in
+    let more = late at refl some in
+    omega (arith, here, more)
+stop_cuts instructions cycles why.Device ending is late behind =
+    let e : ending ≡ Device = cc in subst (EndsBehind instructions cycles) e behind
+stop_cuts instructions cycles why.NoMemory ending is late behind = absurd cc
 
-pub stopped_home : {E : Type 0} (keys : Keys) (config : Config) (whole : Play) (log : LogLists) (stop : Stop)
-    (result : Result (Ending × ℕ) E) → IfOk result (λ (ending, last). ending_by stop ≡ Some ending)
-    → IfOk result (λ (ending, last). EndsAtHome keys config whole ending log)
-stopped_home keys config whole log stop (Ok (ending, last)) named =
-    λ behind none. absurd (stop_cuts stop ending named behind)
-stopped_home keys config whole log stop (Err e) named = tt
+pub stopped_home : {E : Type 0} (keys : Keys) (config : Config) (whole : Play) (instructions cycles : ℕ)
+    (log : LogLists) (stop : Stop) (result : Result (Ending × ℕ) E)
+    → IfOk result (λ (ending, last). ending_by stop ≡ Some ending) → StopsLater instructions cycles stop
+    → IfOk result (λ (ending, last). EndsAtHome keys config whole instructions cycles ending log)
+stopped_home keys config whole instructions cycles log stop (Ok (ending, last)) named late =
+    λ behind none. absurd (stop_cuts instructions cycles stop ending named late behind)
+stopped_home keys config whole instructions cycles log stop (Err e) named late = tt

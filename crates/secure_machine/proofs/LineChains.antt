@@ -19,7 +19,7 @@ use Rattle.oram_contents.specs.Entries.{Keys}
 use Rattle.rate_enforcer.specs.Counts.{is_answered}
 use Rattle.rate_enforcer.specs.PortStep.{PortState}
 use Rattle.rate_enforcer.specs.Served.{keys_of}
-use Rattle.secure_machine.specs.Finish.{HaltsBy, IsOwnEnding}
+use Rattle.secure_machine.specs.Finish.{HaltsBy, IsOwnEnding, StopsLater}
 use Rattle.secure_machine.specs.Goes.{Goes, Breaks}
 use Rattle.secure_machine.specs.Judged.{CauseReplayed}
 use Rattle.secure_machine.specs.Runs.{Onwards, BreaksOff, HaltsOver, Ready, port}
@@ -211,11 +211,12 @@ module _ {M W L : Type 0} (memory_of : M → MemoryState) (tap_of : W → TapSta
   -- where some requests came before the end
   pub breaks_later : (budget instructions cycles : ℕ) (stop : Stop) (s t u : TimedLines M W L)
       → Onwards memory_of tap_of leaf_of levels_of s t → BreaksOff memory_of tap_of leaf_of levels_of stop t u
-      → HaltsOver memory_of tap_of leaf_of levels_of budget
+      → StopsLater instructions cycles stop → HaltsOver memory_of tap_of leaf_of levels_of budget
       (record { instructions = instructions; cycles = cycles; cause = StopsBy stop }) s u
-  breaks_later budget instructions cycles stop s t u on off = record {
+  breaks_later budget instructions cycles stop s t u on off late = record {
     same = same_then on.same off.same;
     halts = breaks_then on.goes off.breaks;
+    late = late;
     fetches = λ known. off.fetches (on.fetches known);
     replays = λ calls known. at_first (λ z n k. CallsReplay z n → IsReplayed z (oram t)
         → StopsReplayed z k stop (oram u).port) s t on.same off.replays calls (on.replays calls known);
@@ -239,6 +240,7 @@ module _ {M W L : Type 0} (memory_of : M → MemoryState) (tap_of : W → TapSta
   halts_later budget halted s t u on h = record {
     same = same_then on.same h.same;
     halts = halts_by budget _ halted.instructions halted.cycles halted.cause _ _ _ on.goes h.halts;
+    late = h.late;
     fetches = λ known. h.fetches (on.fetches known);
     replays = λ calls known. at_first (λ z n k. CallsReplay z n → IsReplayed z (oram t)
         → CauseReplayed z k halted.cause (oram u)) s t on.same h.replays calls (on.replays calls known);
@@ -253,6 +255,7 @@ module _ {M W L : Type 0} (memory_of : M → MemoryState) (tap_of : W → TapSta
   ends_after budget instructions cycles until ending s t on early own = record {
     same = on.same;
     halts = (on.goes, on.ready.serving, early, own);
+    late = tt;
     fetches = on.fetches;
     replays = on.replays;
   }

@@ -2,6 +2,8 @@
 use Rattle.std.specs.Prelude.{◌≡◌, ◌+◌, ◌<◌, ◌≤◌, ◌⊎◌, ℕ, List, min}
 use Rattle.asc_base.specs.TreeShape.{olat_of}
 use Rattle.asc_base.specs.declared.settings.Config.{Config}
+use Rattle.asc_base.specs.declared.stop.Stop.{Stop}
+use Rattle.asc_base.specs.declared.stop.Stop.TheVariants as why
 use Rattle.asc_outside.specs.Memory.{MemoryState}
 use Rattle.bus_watch.specs.Log.{LogLists}
 use Rattle.bus_watch.specs.RunEnd.{RanOut}
@@ -56,6 +58,15 @@ HaltsBy budget levels instructions cycles (Stops s) old new = Breaks s old new.p
 
 abbrev pub Halts : (budget levels : ℕ) → Halted → PortState → OramState → Type 0
 Halts budget levels halted old new = HaltsBy budget levels halted.instructions halted.cycles halted.cause old new
+
+-- Where no time was left for a slot, and an instruction is finished, that slot starts after the clock.
+abbrev pub StopsLater : (instructions cycles : ℕ) → Stop → Type 0
+StopsLater instructions cycles stop = (at : ℕ) → stop ≡ why.TimeUp at → 0 < instructions → cycles < at
+
+-- so where a line was stopped
+abbrev pub HaltsLater : (instructions cycles : ℕ) → Cause → Type 0
+HaltsLater instructions cycles (Ends ending until) = Unit {0}
+HaltsLater instructions cycles (Stops stop) = StopsLater instructions cycles stop
 
 -- What a run leaves that is reported: all is counted and tied, the log keeps the pace up to its end, which comes less
 -- than a slot's cycles after the time of the settings, its ending is right, time is up when it is said to be, and a

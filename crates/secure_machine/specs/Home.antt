@@ -1,5 +1,5 @@
 -- Where each block stands at the end of a run in which no reply was altered.
-use Rattle.std.specs.Prelude.{◌≡◌, List, [], Some}
+use Rattle.std.specs.Prelude.{◌≡◌, ◌<◌, ℕ, List, [], Some}
 use Rattle.asc_base.specs.declared.settings.Config.{Config}
 use Rattle.bus_watch.specs.Log.{LogLists}
 use Rattle.oram_contents.specs.Entries.{Keys}
@@ -13,15 +13,16 @@ use Rattle.secure_machine.specs.declared.report.Ending.{Ending}
 use Rattle.secure_machine.specs.declared.report.Ending.TheVariants.{Exit, Trap, Budget, TimeUp, StashFull, Integrity}
 use Rattle.secure_machine.specs.declared.report.Ending.TheVariants.{Device}
 
--- an ending behind an instruction: no request is cut by it
-abbrev pub EndsBehind : Ending → Type 0
-EndsBehind (Exit status) = Unit {0}
-EndsBehind (Trap kind pc) = Unit {0}
-EndsBehind Budget = Unit {0}
-EndsBehind (TimeUp at) = ⊥
-EndsBehind (StashFull held) = ⊥
-EndsBehind (Integrity evidence) = ⊥
-EndsBehind Device = ⊥
+-- An ending behind an instruction: no request is cut by it. So is one where time is up at the clock and an instruction
+-- is finished: a slot for which no time was left starts after the clock.
+abbrev pub EndsBehind : (instructions cycles : ℕ) → Ending → Type 0
+EndsBehind instructions cycles (Exit status) = Unit {0}
+EndsBehind instructions cycles (Trap kind pc) = Unit {0}
+EndsBehind instructions cycles Budget = Unit {0}
+EndsBehind instructions cycles (TimeUp at) = (0 < instructions) × (at ≡ cycles)
+EndsBehind instructions cycles (StashFull held) = ⊥
+EndsBehind instructions cycles (Integrity evidence) = ⊥
+EndsBehind instructions cycles Device = ⊥
 
 -- Each block is at home in the contents that a log says: at one place, under the counter and with the line that stand
 -- behind the last request of a play.
@@ -31,6 +32,7 @@ pub record LeavesHome (keys : Keys) (config : Config) (play : Play) (log : LogLi
   pub held : List Held
   pub home : IsAtHome keys config now held (contents_in keys (first_fold keys) log)
 
--- So where a run ended behind an instruction, and no reply was altered.
-abbrev pub EndsAtHome : Keys → Config → Play → Ending → LogLists → Type 0
-EndsAtHome keys config play ending log = EndsBehind ending → log.altered ≡ [] → LeavesHome keys config play log
+-- So where a run ended behind an instruction, after so many and at this clock, and no reply was altered.
+abbrev pub EndsAtHome : Keys → Config → Play → (instructions cycles : ℕ) → Ending → LogLists → Type 0
+EndsAtHome keys config play instructions cycles ending log =
+    EndsBehind instructions cycles ending → log.altered ≡ [] → LeavesHome keys config play log

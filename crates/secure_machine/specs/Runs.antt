@@ -7,7 +7,7 @@ use Rattle.bus_watch.specs.Log.{TapState}
 use Rattle.log_replay.specs.Given.{CallsReplay}
 use Rattle.log_replay.specs.Replayed.{IsReplayed, StopsReplayed}
 use Rattle.rate_enforcer.specs.PortStep.{PortState}
-use Rattle.secure_machine.specs.Finish.{Halts}
+use Rattle.secure_machine.specs.Finish.{Halts, HaltsLater}
 use Rattle.secure_machine.specs.Goes.{Goes, Breaks}
 use Rattle.secure_machine.specs.Judged.{CauseReplayed}
 use Rattle.secure_machine.specs.Same.{IsSameLines, timed_of, keys_in}
@@ -52,6 +52,7 @@ module _ {M W L : Type 0} (memory_of : M → MemoryState) (tap_of : W → TapSta
     pub same : IsSameLines s t
     pub halts : Halts budget (levels_of t.oram.now.port.leaves) halted (port memory_of tap_of levels_of s)
         (timed_of memory_of tap_of t).oram
+    pub late : HaltsLater halted.instructions halted.cycles halted.cause
     pub fetches : KeepsNoted (timed_of memory_of tap_of s) (timed_of memory_of tap_of t)
     pub replays : IfReplayed s (CauseReplayed (keys_in leaf_of s) s.oram.now.port.tree.stash halted.cause
         (timed_of memory_of tap_of t).oram)

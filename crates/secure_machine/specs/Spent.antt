@@ -5,7 +5,6 @@ use Rattle.asc_base.specs.Settings.{greatest_rate}
 use Rattle.asc_base.specs.TreeShape.{olat_of}
 use Rattle.asc_base.specs.declared.settings.Config.{Config}
 use Rattle.asc_base.specs.declared.stop.Stop.{Stop}
-use Rattle.asc_base.specs.declared.stop.Stop.TheVariants as why
 use Rattle.asc_outside.specs.Memory.{MemoryState}
 use Rattle.bus_watch.specs.Log.{TapState, LogLists}
 use Rattle.data_cache.specs.CacheLists.{Lines}
@@ -17,6 +16,7 @@ use Rattle.play_run.specs.Spent.{waits, fed_cost, IsSpent, SpentAtStop}
 use Rattle.rv32_core.specs.Machine.{Machine}
 use Rattle.secure_machine.specs.Answered.{answered_lines}
 use Rattle.secure_machine.specs.Fed.{NotesMore}
+use Rattle.secure_machine.specs.Finish.{StopsLater}
 use Rattle.secure_machine.specs.Run.{start_of}
 use Rattle.secure_machine.specs.Same.{timed_of}
 use Rattle.secure_machine.specs.declared.lines.TimedLines.{TimedLines}
@@ -68,13 +68,12 @@ module _ {M W L : Type 0} (memory_of : M → MemoryState) (tap_of : W → TapSta
   StopSpent costs cycles stop s =
       SpentAtStop config levels costs cycles stop (timed_of memory_of tap_of s).oram.port
 
-  -- No more instructions come, by itself or by a stop. Where no time was left for a slot, and an instruction is
-  -- finished, that slot starts after the clock.
+  -- no more instructions come, by itself or by a stop
   abbrev pub CauseSpent : (costs instructions cycles : ℕ) → Cause → TimedLines M W L → Type 0
   CauseSpent costs instructions cycles (Ends ending until) s =
       EndsSpent config levels (spent_with costs s) instructions cycles ending
   CauseSpent costs instructions cycles (Stops stop) s = StopSpent costs cycles stop s
-      × ((at : ℕ) → stop ≡ why.TimeUp at → 0 < instructions → cycles < at)
+      × StopsLater instructions cycles stop
 
   -- After so many instructions and these costs a run came to its end in some more; their costs are those of the machine
   -- that is fed with just the lines that were answered for these.

@@ -222,7 +222,8 @@ fn run_prepared<M: UntrustedMemory, W: Watch, L: LeafFn>(
         config.now
         → CallsReplay (keys_of oram.port.tree oram.tagger (L.leaf_of oram.port.leaves)) (L.levels oram.port.leaves)
         → IfOk result (λ report. EndsAtHome (keys_of oram.port.tree oram.tagger (L.leaf_of oram.port.leaves))
-        config.now (play_with config.now image.now files.input) report.ending (W.state bus.new.tap.now).log) }
+        config.now (play_with config.now image.now files.input) report.instructions report.cycles report.ending
+        (W.state bus.new.tap.now).log) }
     ensures reported { IfOk result (λ report. Reported config.now report (M.state bus.old.memory.now)
         (M.state bus.new.memory.now) (W.state bus.old.tap.now) (W.state bus.new.tap.now)) }
     ensures wanting { OnErr result (Wanting config.now (M.state bus.old.memory.now)
@@ -342,7 +343,8 @@ pub fn run<M: UntrustedMemory, W: Watch, L: LeafFn>(
         → IfOk result (λ report. (evidence : Evidence) → report.ending ≡ Ending.Integrity evidence → ⊥) }
     ensures home { IfOk result (λ report.
         EndsAtHome (chip_keys config.now codec tagger (L.leaf_of leaf)) config.now
-        (play_with config.now image.now input.now) report.ending (W.state bus.new.tap.now).log) }
+        (play_with config.now image.now input.now) report.instructions report.cycles report.ending
+        (W.state bus.new.tap.now).log) }
     ensures complete { IsSome (M.state bus.old.memory.now).told
         → ¬ ((M.state bus.old.memory.now).faults < (M.state bus.new.memory.now).faults)
         → NoSlotIsFull (chip_keys config.now codec tagger (L.leaf_of leaf)) config.now.stash

@@ -43,7 +43,7 @@ ghost use Rattle.elf_loader.specs.Memory.{IsImage};
 ghost use Rattle.rate_enforcer.specs.Counts.{is_answered};
 ghost use Rattle.rate_enforcer.specs.PortStep.{PortState};
 ghost use Rattle.secure_machine.specs.declared.machine.Cause.TheVariants.{Ends, Stops};
-ghost use Rattle.secure_machine.specs.Finish.{Halts, Settled, Short};
+ghost use Rattle.secure_machine.specs.Finish.{Halts, HaltsLater, Settled, Short};
 ghost use Rattle.secure_machine.specs.Goes.{Breaks};
 ghost use Rattle.secure_machine.specs.Judged.{CauseReplayed, EndsReplayed, WantsReplayed};
 ghost use Rattle.secure_machine.specs.Runs.{Onwards, BreaksOff, HaltsOver, Ready};
@@ -524,8 +524,9 @@ fn finish<M: UntrustedMemory, W: Watch, L: LeafFn>(
         → CallsReplay (keys_in L.leaf_of lines.old) (L.levels lines.old.oram.now.port.leaves)
         → CauseReplayed (keys_in L.leaf_of lines.old) lines.old.oram.now.port.tree.stash halted.cause
         (timed_of M.state W.state lines.old).oram
-        → IfOk result (λ (ending, last). EndsAtHome (keys_in L.leaf_of lines.old) config whole ending
-        (W.state lines.new.tap.now).log) }
+        → HaltsLater halted.instructions halted.cycles halted.cause
+        → IfOk result (λ (ending, last). EndsAtHome (keys_in L.leaf_of lines.old) config whole halted.instructions
+        halted.cycles ending (W.state lines.new.tap.now).log) }
     ensures spends { (config : Config) (levels costs : ℕ)
         → CauseSpent M.state W.state L.levels config levels costs halted.instructions halted.cycles halted.cause
         lines.old
@@ -641,7 +642,7 @@ pub(crate) fn drive<M: UntrustedMemory, W: Watch, L: LeafFn>(
         (oram_over M.state W.state oram.old bus.old.memory.now bus.old.tap.now)
         → IfOk result (λ course.
         EndsAtHome (keys_of oram.old.port.tree oram.old.tagger (L.leaf_of oram.old.port.leaves)) config whole
-        course.ending (W.state bus.new.tap.now).log) }
+        course.instructions course.cycles course.ending (W.state bus.new.tap.now).log) }
     ensures spends { (ways : ℕ) (sets : Sets) → IsCore core.old
         → StandsAs oram.old.port.clock.config.shape.lines ways cache.old (over_image image.now sets)
         → let config = oram.old.port.clock.config in

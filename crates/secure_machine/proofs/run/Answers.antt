@@ -909,13 +909,16 @@ returns-in-Ok-clause-home g c =
       between = laws.between own lawful_own (g.L.LeafFn.levels oram.port.leaves);
     } in
     IfOk-weaker c.run_prepared.result _ _ (λ report known.
-    subst (λ (l : List ℕ). EndsAtHome keys config (play_with config c.args.image.now l) report.ending log) input
+    subst (λ (l : List ℕ). EndsAtHome keys config (play_with config c.args.image.now l) report.instructions
+    report.cycles report.ending log) input
     (subst (λ (z : Keys). EndsAtHome z config (play_with config c.args.image.now c.in_ok-files.files.input)
-    report.ending log) same known))
+    report.instructions report.cycles report.ending log) same known))
     (c.run_prepared.ensures.home lawful_own
     (subst (λ n. CallsPlay own n config) (sym levels) (subst (λ (z : Keys). CallsPlay z config.shape.levels config)
     (sym same) (calls-play keys lawful config.shape.levels config c.requires.config))) replays)
 
 pub returns-in-Err-Device-clause-home : goal.returns-in-Err-Device-clause-home
 returns-in-Err-Device-clause-home g c behind none =
-    absurd (subst EndsBehind (c.unprepared.ensures (g.W.Watch.state c.args.bus.now.tap.now)).ending behind)
+    let report = c.unprepared.result in
+    absurd (subst (EndsBehind report.instructions report.cycles)
+    (c.unprepared.ensures (g.W.Watch.state c.args.bus.now.tap.now)).ending behind)

@@ -192,9 +192,10 @@ returns-clause-home g c config whole lawful calls is_config core budget stands =
     let halted = c.play-halted.ensures.plays config whole lawful_first calls_first is_config core budget begun in
     let log = (g.W.Watch.state c.finish.new.lines.tap.now).log in
     halts_replayed g.M.UntrustedMemory.state g.W.Watch.state g.L.LeafFn.leaf_of g.L.LeafFn.levels
-    (λ keys stash. EndsAtHome keys config whole c.in_ok-ending.ending log) c.args.budget c.play-halted.result
+    (λ keys stash. EndsAtHome keys config whole c.play-halted.result.instructions c.play-halted.result.cycles
+    c.in_ok-ending.ending log) c.args.budget c.play-halted.result
     lines played c.args.oram.now c.args.bus.now.memory.now c.args.bus.now.tap.now
     c.new-lines.ensures.memory c.new-lines.ensures.tap c.new-lines.ensures.oram c.play-halted.ensures.halts
-    (c.in_ok-ending.ensures.home config whole
+    (λ calls cause. c.in_ok-ending.ensures.home config whole
     (subst AreKeys (sym (keys_same g.M.UntrustedMemory.state g.W.Watch.state g.L.LeafFn.leaf_of g.L.LeafFn.levels lines
-    played same)) lawful_first) halted)
+    played same)) lawful_first) halted calls cause c.play-halted.ensures.halts.late)

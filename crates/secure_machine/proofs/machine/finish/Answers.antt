@@ -9,7 +9,7 @@ use Rattle.secure_machine.proofs.FlatLaws.{prefix_ends, ended_stops, evidence_na
 use Rattle.secure_machine.proofs.Refining.{forged_now, wait_unblamed, waited_points, wait_points}
 use Rattle.oram_frontend.specs.Oram.{OramStep, Wait}
 use Rattle.oram_frontend.specs.Slots.{FitKeys}
-use Rattle.secure_machine.specs.Finish.{HaltsBy, IsOwnEnding}
+use Rattle.secure_machine.specs.Finish.{HaltsBy, HaltsLater, IsOwnEnding}
 use Rattle.secure_machine.specs.Same.{timed_of, keys_in}
 use Rattle.secure_machine.specs.declared.machine.Cause.{Cause}
 use Rattle.secure_machine.proofs.OramGoes.{oram_goes, oram_breaks, wait_after, wait_in_time, wait_pace, wait_soon}
@@ -333,7 +333,7 @@ returns-in-Stops-clause-spends g c config levels costs known =
     named spent late) c.ending_of-in-Stops.ensures.named
 
 pub returns-in-Ok-clause-home : goal.returns-in-Ok-clause-home
-returns-in-Ok-clause-home g c config whole lawful known calls cause =
+returns-in-Ok-clause-home g c config whole lawful known calls cause late =
     let levels = g.L.LeafFn.levels c.args.lines.now.oram.now.port.leaves in
     let keys = keys_in g.L.LeafFn.leaf_of c.args.lines.now in
     let old = (timed_of g.M.UntrustedMemory.state g.W.Watch.state c.args.lines.now).oram in
@@ -351,11 +351,20 @@ returns-in-Ok-clause-home g c config whole lawful known calls cause =
     c.in-Ok.ensures.step later none
 
 pub returns-in-Err-clause-home : goal.returns-in-Err-clause-home
-returns-in-Err-clause-home g c config whole lawful known calls cause =
-    stopped_home (keys_in g.L.LeafFn.leaf_of c.args.lines.now) config whole _ c.in-Err.stop c.ending_of.result
-    c.ending_of.ensures.named
+returns-in-Err-clause-home g c config whole lawful known calls cause late =
+    let levels = g.L.LeafFn.levels c.args.lines.now.oram.now.port.leaves in
+    let keys = keys_in g.L.LeafFn.leaf_of c.args.lines.now in
+    let old = (timed_of g.M.UntrustedMemory.state g.W.Watch.state c.args.lines.now).oram in
+    let new = (timed_of g.M.UntrustedMemory.state g.W.Watch.state c.idle_until.new.self).oram in
+    let by = subst (λ (cause : Cause). HaltsBy c.args.budget levels c.args.halted.instructions
+    c.args.halted.cycles cause c.requires.halts.0 old) c.in-Ends.is c.requires.halts.1 in
+    let fits : FitKeys keys old.port = record { shape = refl; pads = refl } in
+    stopped_home keys config whole c.args.halted.instructions c.args.halted.cycles _ c.in-Err.stop c.ending_of.result
+    c.ending_of.ensures.named (λ at is some. absurd (wait_in_time keys levels old new fits by.1 c.in-Ends.until at
+    (subst (λ (s : Stop). OramStep keys levels old (Wait c.in-Ends.until) (Err s) new) is c.in-Err.ensures.step)))
 
 pub returns-in-Stops-clause-home : goal.returns-in-Stops-clause-home
-returns-in-Stops-clause-home g c config whole lawful known calls cause =
-    stopped_home (keys_in g.L.LeafFn.leaf_of c.args.lines.now) config whole _ c.in-Stops.stop
-    c.ending_of-in-Stops.result c.ending_of-in-Stops.ensures.named
+returns-in-Stops-clause-home g c config whole lawful known calls cause late =
+    stopped_home (keys_in g.L.LeafFn.leaf_of c.args.lines.now) config whole c.args.halted.instructions
+    c.args.halted.cycles _ c.in-Stops.stop c.ending_of-in-Stops.result c.ending_of-in-Stops.ensures.named
+    (subst (HaltsLater c.args.halted.instructions c.args.halted.cycles) c.in-Stops.is late)

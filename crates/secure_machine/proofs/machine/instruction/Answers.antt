@@ -80,9 +80,18 @@ returns-in-Trap-clause-honest g c memory lawful core known =
 pub returns-in-Err-clause-halts : goal.returns-in-Err-clause-halts
 returns-in-Err-clause-halts g c =
     let off = c.in-Err.ensures.breaks in
+    let config = c.args.lines.now.oram.now.port.clock.config in
+    let early : c.args.lines.now.clock < config.time = omega (arith, c.if-start-time.false, c.time-time.ensures) in
     subst (λ (h : Halted). HaltsOver g.M.UntrustedMemory.state g.W.Watch.state g.L.LeafFn.leaf_of g.L.LeafFn.levels
     c.args.budget h c.args.lines.now c.step.new.lines) (sym c.stopped.ensures)
-    (record { same = off.same; halts = off.breaks; fetches = off.fetches; replays = off.replays })
+    (record {
+      same = off.same;
+      halts = off.breaks;
+      late = λ at is some. stops_later g.M.UntrustedMemory.state g.W.Watch.state g.L.LeafFn.levels config 0
+          g.L.LeafFn.leaf_of c.args.lines.now.clock c.in-Err.stop c.args.lines.now c.step.new.lines refl early off at is;
+      fetches = off.fetches;
+      replays = off.replays;
+    })
 
 pub returns-in-Exit-clause-halts : goal.returns-in-Exit-clause-halts
 returns-in-Exit-clause-halts g c =

@@ -75,7 +75,8 @@ returns-clause-ran g c =
     (IfOk-weaker c.run.result _ _ (λ report. subst (λ (z : Keys). EndsInOrder z report.ending lent.tap'.log
     ⊎ IsUnprepared report lent.tap lent.tap') same) c.run.ensures.done)
     (IfOk-weaker c.run.result _ _ (λ report. subst (λ (z : Keys). EndsAtHome z program.config
-    (play_with program.config program.image c.as_slice.result.now) report.ending lent.tap'.log) same)
+    (play_with program.config program.image c.as_slice.result.now) report.instructions report.cycles report.ending
+    lent.tap'.log) same)
     c.run.ensures.home))
 
 pub returns-clause-wanting : goal.returns-clause-wanting
