@@ -31,3 +31,4 @@ pub mod AlteredRows
 mod ForgedRows
 pub mod ReadBacks
 pub mod AgainRows
+pub mod EmptySlots

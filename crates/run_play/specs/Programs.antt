@@ -1,13 +1,17 @@
 -- Programs on which plays are computed, and what their rows are written with.
-use Rattle.std.specs.Prelude.{ℕ, ◌+◌, ◌-◌, ◌*◌, ◌/◌, List, [], ◌∷◌, ◌++◌, length, replicate}
+use Rattle.std.specs.Prelude.{ℕ, ◌+◌, ◌-◌, ◌*◌, ◌/◌, List, [], ◌∷◌, ◌++◌, length, map, replicate, Option}
 use Rattle.std.specs.Int.{to_le_bytes, w32}
 use Rattle.std.specs.List.{flat_map}
+use Rattle.std.specs.Option.{option_map}
 use Rattle.asc_base.specs.declared.block.Point.{Point}
 use Rattle.asc_base.specs.declared.settings.Config.{Config}
+use Rattle.data_cache.specs.Lines.{Fetch}
 use Rattle.posmap_counters.specs.Counters.{point_of}
 use Rattle.rv32_core.specs.FlatRun.{machine_at_start, output_limit}
 use Rattle.run_play.specs.Play.{Play, play_of}
 use Rattle.run_play.specs.PlayEvents.{PlayEvent, Tags}
+use Rattle.run_play.specs.Requests.{Taken, standing_at_start, one_by_one, request_slots}
+use Rattle.run_play.specs.Slots.{Slot}
 
 -- `addi x17, x0, 93; ecall`
 abbrev pub exit_words : List ℕ
@@ -60,3 +64,11 @@ tags address group own line = Tags (record {
   counter = record { group = group; own = own };
   line = record { 0 = line };
 })
+
+-- what fetches take, one after another from the start on
+abbrev pub fetches_at : Config → List ℕ → Taken
+fetches_at config lines = one_by_one (request_slots config) (map Fetch lines) (standing_at_start config)
+
+-- the address and the counter of the message that is appended behind a slot, if one is
+abbrev pub appended_of : Slot → Option (ℕ × (ℕ × ℕ))
+appended_of slot = option_map (λ m. (m.address.0, (m.counter.group, m.counter.own))) slot.appended

@@ -117,3 +117,7 @@ two_choices = record small {
   epoch = 4096;
   time = 14000;
 }
+
+-- one root over two map blocks over the 64 lines, own counts of two bits, and room for two held blocks
+abbrev pub two_held : Config
+two_held = record one_held { plb = 2; ic = 2 }

@@ -6,6 +6,7 @@ ghost use Rattle.asc_base.specs.Settings.{config_of};
 ghost use Rattle.asc_base.specs.declared.block.Point.TheVariants.{Dummy};
 ghost use Rattle.asc_base.specs.declared.stop.Evidence.TheVariants.{BadSlot, Doubled};
 ghost use Rattle.bus_schedule.specs.Timetable.{public_of};
+ghost use Rattle.posmap_lookaside.specs.Rows.{in_turn};
 ghost use Rattle.rv32_core.specs.declared.outcome.TrapKind.TheVariants.{FetchMisaligned};
 ghost use Rattle.run_play.specs.Play.{Exited, Trapped, Budget, TimeUp, StashFull, Device};
 ghost use Rattle.run_play.specs.Halt.{Refused, Overfull, MoveFails, AppendRefused, AppendOverfull, Fits, halt};
@@ -14,10 +15,10 @@ ghost use Rattle.run_play.specs.PlayEvents.{Starts, Draws, play_events, starts_i
 ghost use Rattle.run_play.specs.Slots.{Slot};
 ghost use Rattle.run_play.specs.Rows.{default_settings, small_settings, default_config, small, no_budget, no_time};
 ghost use Rattle.run_play.specs.Rows.{one_rate, short_time, one_choice, one_held};
-ghost use Rattle.run_play.specs.Rows.{few_counts, two_choices};
+ghost use Rattle.run_play.specs.Rows.{few_counts, two_choices, two_held};
 ghost use Rattle.run_play.specs.Programs.{swing_words, divide_words};
 ghost use Rattle.run_play.specs.Programs.{exit_words, hello_words};
-ghost use Rattle.run_play.specs.Programs.{load_words};
+ghost use Rattle.run_play.specs.Programs.{load_words, fetches_at, appended_of};
 ghost use Rattle.run_play.specs.Programs.{jump_words, misaligned_words, memory_with, play_at, real, tags};
 
 /// Plays of programs. With the default settings programs of one line take no slot, be it that they exit at once or
@@ -202,6 +203,22 @@ pub fn moves_have_rows()
         ≡ real 64 0 0 ∷ real 0 0 0 ∷ real 1 0 0 ∷ real 0 0 1 ∷ real 1 0 1 ∷ real 0 0 2 ∷ real 1 0 2
         ∷ real 0 0 3 ∷ real 1 0 3 ∷ map (λ child. real child 0 0) (range_with_len 2 30)
         ++ real 0 1 0 ∷ real 1 1 0 ∷ real 0 1 1 ∷ real 1 1 1 ∷ real 0 1 2 ∷ [] }
+{}
+
+/// A request that moves two groups. Lines 0 and 32 are fetched in turn under one root, where own counts have two bits
+/// and two blocks are held. The last fetch moves the root's group first, of which one map block is accessed, and the
+/// held one gets its new counter without an access; and then, behind the refill that appends that one under its new
+/// counter, the group of line 0, of 32 lines. That makes 48 slots, one behind another.
+pub fn double_moves_have_rows()
+    ensures starts { starts_in (fetches_at two_held in_turn).slots
+        ≡ map (λ k. 256 + 752 * k) (range_with_len 0 48) }
+    ensures points { points_in (fetches_at two_held in_turn).slots
+        ≡ real 66 0 0 ∷ real 64 0 0 ∷ real 0 0 0 ∷ real 65 0 0 ∷ real 32 0 0 ∷ real 64 0 1 ∷ real 0 0 1
+        ∷ real 65 0 1 ∷ real 32 0 1 ∷ real 64 0 2 ∷ real 0 0 2 ∷ real 65 0 2 ∷ real 32 0 2
+        ∷ real 64 0 3 ∷ real 64 1 0 ∷ real 0 0 3 ∷ map (λ child. real child 0 0) (range_with_len 1 31)
+        ++ real 0 1 0 ∷ [] }
+    ensures renumbered { slice_get (map appended_of (fetches_at two_held in_turn).slots) 14 ≡ Some (Some (65, (1, 0))) }
+    ensures last { (fetches_at two_held in_turn).standing.clock ≡ 36096 }
 {}
 
 /// A program that divides between its loads, so that dummies pass between real slots. Of four rates the learner chooses

@@ -25,3 +25,4 @@ pub mod SpentReports
 pub mod Full
 pub mod HomeEnds
 pub mod Roomy
+pub mod FullPlays

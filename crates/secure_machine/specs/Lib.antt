@@ -14,3 +14,4 @@ pub mod Judged
 pub mod Spent
 pub mod Full
 pub mod Home
+pub mod Rows

@@ -3,13 +3,18 @@
 
 ghost use Rattle.std.specs.Prelude.{◌≡◌, ◌<◌, ℕ, [], Ok, Err};
 ghost use Rattle.asc_base.specs.declared.stop.Stop.{Stop};
+ghost use Rattle.asc_base.specs.declared.stop.Stop.TheVariants.{StashFull};
 ghost use Rattle.epoch_learner.specs.Stands.{KeepsPace};
+ghost use Rattle.log_replay.specs.Judged.{IsFirstVerdict};
 ghost use Rattle.oram_contents.specs.Entries.{Keys};
 ghost use Rattle.oram_frontend.specs.Oram.{OramState, OramRequest, OramStep, Told, Fetch, Wait};
 ghost use Rattle.oram_frontend.specs.Slots.{FitKeys};
+ghost use Rattle.run_play.specs.Halt.{AppendOverfull, halt};
 ghost use Rattle.run_play.specs.Play.{Play};
-ghost use Rattle.secure_machine.specs.Full.{NoSlotIsFull};
+ghost use Rattle.run_play.specs.Programs.{load_words, play_at};
+ghost use Rattle.secure_machine.specs.Full.{log_of, NoSlotIsFull};
 ghost use Rattle.secure_machine.specs.Goes.{Goes, Breaks};
+ghost use Rattle.secure_machine.specs.Rows.{without_stash};
 ghost use Rattle.play_run.specs.Timed.{Serving};
 
 /// What any request of an encrypted memory leaves in its port, whatever the memory replied: an answered one leaves all
@@ -33,4 +38,14 @@ pub fn requests_keep_pace()
 /// A play without slots never finds too many blocks to keep.
 pub fn plays_without_slots_have_room()
     ensures { (keys : Keys) (stash : ℕ) (whole : Play) → whole.slots ≡ [] → NoSlotIsFull keys stash whole }
+{}
+
+/// A play of which a slot finds too many blocks to keep, under any keys of its shape. It loads a line of 64 under one
+/// root, where one block is held and none may stay at hand. Behind its second slot the root's block is displaced and
+/// appended, one too many: nothing in its log is wrong before that message, and there the stash is full.
+pub fn full_plays_have_rows()
+    ensures stops { (keys : Keys) → keys.shape ≡ without_stash.shape → IsFirstVerdict keys without_stash.stash
+        (log_of keys (halt 5 (play_at without_stash 0 load_words) 2 (AppendOverfull 1))) (StashFull 1) }
+    ensures full { (keys : Keys) → keys.shape ≡ without_stash.shape
+        → NoSlotIsFull keys without_stash.stash (play_at without_stash 0 load_words) → ⊥ }
 {}
