@@ -23,9 +23,9 @@ use Rattle.oram_contents.specs.Slots.{drawn_events}
 use Rattle.oram_contents.specs.Starts.{first_fold}
 use Rattle.oram_contents.specs.Steps.{Adds}
 use Rattle.oram_contents.specs.Verdict.{first_of, append_verdict, put_events}
-use Rattle.oram_contents.proofs.Access.{put_always, always_adds}
+use Rattle.oram_contents.proofs.PutSteps.{put_always}
+use Rattle.oram_contents.proofs.GrowSteps.{always_adds, came_more}
 use Rattle.oram_contents.proofs.Folding.{fold_append, whole_append}
-use Rattle.oram_contents.proofs.Steps.{came_more}
 use Rattle.oram_contents.proofs.VerdictLaws.{append_shows, answer_shows}
 use Rattle.oram_stash.proofs.Held.{held-none}
 use Rattle.oram_stash.specs.Entries.{held}

@@ -25,7 +25,7 @@ use Rattle.oram_contents.proofs.Ends.{always_ends, whole_ends}
 use Rattle.oram_contents.proofs.Final.{final_always}
 use Rattle.oram_contents.proofs.Folding.{whole_access, whole_refill}
 use Rattle.oram_contents.proofs.Found.{held_has}
-use Rattle.oram_contents.proofs.Passes.{refill_always}
+use Rattle.oram_contents.proofs.RefillSteps.{refill_always}
 use Rattle.oram_stash.specs.Entries.{held, without}
 use Rattle.log_replay.specs.Order.{Nothing, SlotNotes, chosen_events, events_of}
 use Rattle.log_replay.proofs.ReplayedLogs.{IsReplayedLog, AddsSlot, in_turn, chosen_at, chosen_is}

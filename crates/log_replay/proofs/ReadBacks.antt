@@ -21,7 +21,7 @@ use Rattle.oram_contents.specs.Slots.{drawn_events, done, IsAccess, IsRead}
 use Rattle.oram_contents.specs.Starts.{empty_log, first_contents, first_fold, first_ghost}
 use Rattle.oram_contents.specs.Steps.{opened_at}
 use Rattle.oram_contents.specs.Verdict.{judged}
-use Rattle.oram_contents.proofs.Access.{read_sound, read_always}
+use Rattle.oram_contents.proofs.ReadSteps.{read_sound, read_always}
 use Rattle.oram_contents.proofs.Final.{data_line, final_always, final_sound, put_hand_always}
 use Rattle.oram_contents.proofs.Folding.{whole_access}
 use Rattle.oram_contents.proofs.Found.{held_has, nothing_wrong}

@@ -22,7 +22,7 @@ use Rattle.oram_contents.specs.Verdict.{integrity, judged, first_of, read_verdic
 use Rattle.oram_contents.specs.Verdict.{note_events, put_events}
 use Rattle.oram_contents.proofs.Ends.{always_ends, whole_ends}
 use Rattle.oram_contents.proofs.Folding.{read_fold, slot_fold, whole_pass}
-use Rattle.oram_contents.proofs.Passes.{pass_always}
+use Rattle.oram_contents.proofs.DummySteps.{pass_always}
 use Rattle.oram_contents.proofs.VerdictLaws.{slot_shows, end_shows}
 use Rattle.rate_enforcer.specs.Counts.{is_dummy}
 use Rattle.rate_enforcer.specs.Served.{AreFew}

@@ -21,7 +21,7 @@ use Rattle.oram_contents.specs.Entries.{Keys, AreKeys, real, message_of, entry_o
 use Rattle.oram_contents.specs.Forgery.{Forgery, Stood}
 use Rattle.oram_contents.specs.Slots.{drawn_events}
 use Rattle.oram_contents.specs.Starts.{altered_log}
-use Rattle.oram_contents.proofs.Access.{entry_typed}
+use Rattle.oram_contents.proofs.PutSteps.{entry_typed}
 use Rattle.oram_contents.proofs.Among.{tagged_same}
 use Rattle.oram_contents.proofs.Deciding.{decides_message, decides_forgery}
 

@@ -1,6 +1,5 @@
 -- An answered line changes neither contents nor what is known of them.
 use Rattle.std.proofs.Common.{[], ◌∷◌, inl, inr, ℕ}
-use Rattle.asc_base.specs.Has.{Has}
 use Rattle.asc_base.specs.declared.block.Line.{Line}
 use Rattle.bus_watch.specs.Log.{LogLists}
 use Rattle.bus_watch.specs.declared.log.Event.TheVariants.{Answered}
@@ -9,8 +8,7 @@ use Rattle.oram_contents.specs.Counts.{Ghost}
 use Rattle.oram_contents.specs.Entries.{Keys}
 use Rattle.oram_contents.specs.Provenance.{Sound, Always}
 use Rattle.oram_contents.specs.Steps.{Adds}
-use Rattle.oram_contents.proofs.Access.{always_adds}
-use Rattle.oram_contents.proofs.Steps.{sound_log, came_more}
+use Rattle.oram_contents.proofs.GrowSteps.{always_adds, sound_log, came_more}
 
 module _ (keys : Keys) (old new : LogLists) (now : Contents) (line : ℕ) (value : Line)
     (adds : Adds old new (Answered line value ∷ []) []) where

@@ -17,7 +17,7 @@ use Rattle.oram_contents.specs.Provenance.{Sound, Always, Came, Known, AtMostOnc
 use Rattle.oram_contents.specs.Forgery.{Forgery}
 use Rattle.oram_contents.proofs.Among.{once_append, once_none}
 use Rattle.asc_base.proofs.Members.{has_left, has_last}
-use Rattle.oram_contents.proofs.Access.{forgery_more}
+use Rattle.oram_contents.proofs.GrowSteps.{forgery_more}
 use Rattle.oram_contents.proofs.Folding.{fold_append}
 use Rattle.oram_contents.specs.Slots.{IsEnd}
 

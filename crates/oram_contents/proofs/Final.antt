@@ -20,8 +20,11 @@ use Rattle.oram_contents.specs.Slots.{drawn_events, IsRead, IsFound, MayRise, Is
 use Rattle.oram_contents.specs.Slots.{IsBetween}
 use Rattle.oram_contents.proofs.Lines.{put_same}
 use Rattle.oram_stash.proofs.Apart.{without-left}
-use Rattle.oram_contents.proofs.Access.{forgery_more, read_sound, read_always, take_sound, take_line, take_always}
-use Rattle.oram_contents.proofs.Access.{put_sound, put_always, store_sound, write_sound, write_always}
+use Rattle.oram_contents.proofs.GrowSteps.{forgery_more}
+use Rattle.oram_contents.proofs.ReadSteps.{read_sound, read_always}
+use Rattle.oram_contents.proofs.TakeSteps.{take_sound, take_line, take_always}
+use Rattle.oram_contents.proofs.PutSteps.{put_sound, put_always, store_sound}
+use Rattle.oram_contents.proofs.WriteSteps.{write_sound, write_always}
 
 -- a data line is what was stored
 pub data_line : (keys : Keys) (g : Ghost) (a : ℕ) (l : List ℕ)

@@ -1,6 +1,6 @@
 -- The first slot of a log: over the empty tree nothing is read.
-use Rattle.std.proofs.Common.{◌≡◌, ◌+◌, ◌⊎◌, inl, inr, ℕ, zero, suc, List, [], ◌∷◌, ◌++◌, map, flat_map, None, Some}
-use Rattle.std.proofs.Common.{get_or, refl, sym, ap, ◌∙◌, subst, arith}
+use Rattle.std.proofs.Common.{◌≡◌, ◌+◌, inl, ℕ, zero, suc, List, [], ◌∷◌, ◌++◌, map, flat_map, None}
+use Rattle.std.proofs.Common.{get_or, refl, ap, ◌∙◌, subst, arith}
 use Rattle.std.specs.List.{range_with_len}
 use Rattle.asc_base.specs.Lookup.{without_first}
 use Rattle.asc_base.specs.TreeShape.{bucket_of}
@@ -8,16 +8,15 @@ use Rattle.asc_base.specs.declared.block.Entry.{Entry}
 use Rattle.asc_base.specs.declared.block.Point.{Point}
 use Rattle.asc_base.specs.declared.block.Point.TheVariants.{Dummy}
 use Rattle.bucket_codec.specs.Bucket.{opened}
-use Rattle.bus_watch.specs.Log.{LogLists}
 use Rattle.bus_watch.specs.declared.log.Event.TheVariants.{Tagged}
 use Rattle.posmap_counters.specs.Counters.{first_counter}
 use Rattle.asc_base.specs.declared.block.Counter.{Counter}
 use Rattle.oram_stash.specs.Entries.{held, without}
-use Rattle.oram_contents.specs.Contents.{Contents, IsReadTo, entries_of, after_write}
+use Rattle.oram_contents.specs.Contents.{IsReadTo, entries_of, after_write}
 use Rattle.oram_contents.specs.Entries.{Keys, AreKeys, real, message_of, entry_of, entries_in}
 use Rattle.oram_contents.specs.Fold.{with_entry}
 use Rattle.oram_contents.specs.PathRead.{replies}
-use Rattle.oram_contents.specs.Slots.{drawn_events, ArePasses, IsAccess, IsPass, IsRefill}
+use Rattle.oram_contents.specs.Slots.{ArePasses, IsAccess, IsPass, IsRefill}
 use Rattle.oram_contents.specs.Starts.{empty_log, first_ghost, first_contents, first_slot}
 use Rattle.oram_contents.proofs.FormLaws.{start_forms}
 use Rattle.oram_contents.proofs.Honest.{honest_read}

@@ -14,11 +14,13 @@ use Rattle.oram_contents.specs.Fold.{with_entry}
 use Rattle.oram_contents.specs.Home.{AreInForm}
 use Rattle.oram_contents.specs.Provenance.{Always}
 use Rattle.oram_contents.specs.Slots.{IsAccess, IsPass, IsRefill, ArePasses, HasSeeds}
-use Rattle.oram_contents.proofs.Access.{read_always, take_always}
+use Rattle.oram_contents.proofs.ReadSteps.{read_always}
+use Rattle.oram_contents.proofs.TakeSteps.{take_always}
+use Rattle.oram_contents.proofs.DummySteps.{pass_read, pass_always}
+use Rattle.oram_contents.proofs.RefillSteps.{refill_log, refill_read, refill_found}
 use Rattle.oram_contents.proofs.Ends.{always_ends}
 use Rattle.oram_contents.proofs.Final.{put_hand_always}
 use Rattle.oram_contents.proofs.Honest.{write_in_form}
-use Rattle.oram_contents.proofs.Passes.{pass_read, pass_always, refill_log, refill_read, refill_found}
 use Rattle.oram_stash.specs.Entries.{without}
 
 -- a bucket that was never written has no seed, and opens

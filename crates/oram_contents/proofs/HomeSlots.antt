@@ -16,12 +16,14 @@ use Rattle.oram_contents.specs.Provenance.{Always}
 use Rattle.oram_contents.specs.Slots.{IsAccess, IsPass, IsRefill, ArePasses, HasSeeds, done, passed, refilled}
 use Rattle.oram_contents.specs.Slots.{passed_by}
 use Rattle.oram_contents.specs.Steps.{opened_at, taken}
-use Rattle.oram_contents.proofs.Access.{read_always, take_always}
+use Rattle.oram_contents.proofs.ReadSteps.{read_always}
+use Rattle.oram_contents.proofs.TakeSteps.{take_always}
+use Rattle.oram_contents.proofs.DummySteps.{pass_read, pass_always, passed_path}
+use Rattle.oram_contents.proofs.RefillSteps.{refill_log, refill_read, refill_found}
 use Rattle.oram_contents.proofs.Ends.{always_ends}
 use Rattle.oram_contents.proofs.Final.{put_hand_always}
 use Rattle.oram_contents.proofs.HomeLaws.{home_read, home_write}
 use Rattle.oram_contents.proofs.HomeSteps.{home_access, home_take}
-use Rattle.oram_contents.proofs.Passes.{pass_read, pass_always, refill_log, refill_read, refill_found, passed_path}
 
 -- two lists that are none together
 none_left : {A : Type 0} (xs ys zs : List A) → zs ≡ xs ++ ys → zs ≡ [] → xs ≡ []

@@ -20,10 +20,11 @@ use Rattle.oram_contents.specs.Steps.{accepted}
 use Rattle.oram_contents.specs.Slots.{drawn_events, HasSeeds, IsAccess, ArePasses, IsBetween, done}
 use Rattle.oram_contents.specs.Slots.{passed_by}
 use Rattle.oram_contents.proofs.Lines.{put_same}
-use Rattle.oram_contents.proofs.Access.{forgery_more}
+use Rattle.oram_contents.proofs.GrowSteps.{forgery_more}
+use Rattle.oram_contents.proofs.DummySteps.{passes_keep, passed_path}
+use Rattle.oram_contents.proofs.InsertSteps.{pend_sound}
 use Rattle.oram_contents.proofs.Final.{final_sound, final_always}
 use Rattle.oram_contents.proofs.Ends.{forgery_ends}
-use Rattle.oram_contents.proofs.Passes.{passes_keep, passed_path, pend_sound}
 
 -- dummies change nothing but their number and the open path
 passed_count : (k : ℕ) (g : Ghost) → (passed_by k g).count ≡ g.count

@@ -19,12 +19,12 @@ use Rattle.oram_contents.specs.Provenance.{Sound, Always}
 use Rattle.oram_contents.specs.Slots.{IsPut}
 use Rattle.oram_contents.specs.Steps.{Adds, landed, inserted}
 use Rattle.oram_contents.specs.Verdict.{append_verdict}
-use Rattle.oram_contents.proofs.Access.{put_sound, put_always, always_adds}
-use Rattle.oram_contents.proofs.Passes.{insert_sound}
+use Rattle.oram_contents.proofs.PutSteps.{put_sound, put_always}
+use Rattle.oram_contents.proofs.GrowSteps.{always_adds, sound_log, came_more}
+use Rattle.oram_contents.proofs.InsertSteps.{insert_sound}
 use Rattle.oram_contents.proofs.HomeSteps.{home_put, home_insert}
 use Rattle.oram_contents.specs.Fold.{tagged_entry}
 use Rattle.oram_contents.specs.Home.{Home, AreInForm}
-use Rattle.oram_contents.proofs.Steps.{sound_log, came_more}
 use Rattle.oram_stash.proofs.Held.{held-none}
 use Rattle.oram_stash.specs.Entries.{held}
 use Rattle.rate_enforcer.specs.PortStep.{PortState, contents}

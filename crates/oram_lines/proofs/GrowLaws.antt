@@ -12,7 +12,7 @@ use Rattle.bus_watch.specs.declared.log.Event.{Event}
 use Rattle.bus_watch.specs.declared.log.Move.{Move}
 use Rattle.oram_contents.specs.Entries.{Keys}
 use Rattle.oram_contents.specs.Forgery.{Forgery}
-use Rattle.oram_contents.proofs.Access.{forgery_more}
+use Rattle.oram_contents.proofs.GrowSteps.{forgery_more}
 use Rattle.oram_walk.specs.Request.{Request, Slot, Append, Answer, Room, Steps}
 use Rattle.oram_walk.specs.declared.slots.Seen.{Seen}
 use Rattle.rate_enforcer.proofs.Counted.{counted_still}

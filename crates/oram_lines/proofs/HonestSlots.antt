@@ -27,12 +27,12 @@ use Rattle.oram_contents.specs.Provenance.{Sound, Always}
 use Rattle.oram_contents.specs.Slots.{ArePasses, IsRead}
 use Rattle.oram_contents.specs.Steps.{opened_at}
 use Rattle.oram_contents.specs.Verdict.{judged, is_first, append_verdict}
-use Rattle.oram_contents.proofs.Access.{read_sound, read_always}
+use Rattle.oram_contents.proofs.ReadSteps.{read_sound, read_always}
+use Rattle.oram_contents.proofs.DummySteps.{passes_keep}
 use Rattle.oram_contents.proofs.Found.{held_has}
 use Rattle.oram_contents.proofs.HomeLaws.{home_read}
 use Rattle.oram_contents.proofs.HomeSlots.{passes_home}
 use Rattle.oram_contents.proofs.Honest.{honest_read, honest_found}
-use Rattle.oram_contents.proofs.Passes.{passes_keep}
 use Rattle.oram_stash.specs.Entries.{held}
 use Rattle.oram_walk.specs.Request.{Slot, Append, Answer}
 use Rattle.oram_walk.specs.declared.slots.Access.{Access}

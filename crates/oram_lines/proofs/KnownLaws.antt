@@ -22,7 +22,9 @@ use Rattle.oram_contents.specs.Provenance.{Sound, Always}
 use Rattle.oram_contents.specs.Slots.{ArePasses, IsAccess, IsRefill, IsEnd, MayRise, HasSeeds, drawn_events, done}
 use Rattle.oram_contents.specs.Slots.{refilled, passed_by}
 use Rattle.oram_contents.specs.Steps.{Adds, accepted}
-use Rattle.oram_contents.proofs.Access.{forgery_more}
+use Rattle.oram_contents.proofs.GrowSteps.{forgery_more}
+use Rattle.oram_contents.proofs.DummySteps.{passes_keep}
+use Rattle.oram_contents.proofs.RefillSteps.{refill_sound, refill_always}
 use Rattle.oram_stash.specs.Entries.{without}
 use Rattle.oram_contents.specs.Verdict.{line_found}
 use Rattle.oram_contents.proofs.Ends.{sound_ends, always_ends, forgery_ends}
@@ -37,7 +39,6 @@ use Rattle.oram_contents.proofs.Lines.{put_same, put_other, line_same}
 use Rattle.oram_contents.proofs.HomeSlots.{access_home, refill_home, passes_home}
 use Rattle.oram_contents.specs.Home.{Home, AreInForm}
 use Rattle.oram_contents.proofs.Final.{final_sound, final_always}
-use Rattle.oram_contents.proofs.Passes.{passes_keep, refill_sound, refill_always}
 use Rattle.oram_walk.specs.declared.slots.Access.{Access}
 use Rattle.oram_walk.specs.declared.slots.Purpose.{Purpose}
 use Rattle.oram_walk.specs.declared.slots.Purpose.TheVariants.{Refill, Keep, Replace}

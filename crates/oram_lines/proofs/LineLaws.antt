@@ -22,7 +22,7 @@ use Rattle.oram_contents.specs.Slots.{ArePasses, passed_by}
 use Rattle.oram_contents.specs.Starts.{empty_log, first_ghost}
 use Rattle.oram_contents.proofs.HomeSlots.{passes_home}
 use Rattle.oram_contents.specs.Home.{Home, AreInForm}
-use Rattle.oram_contents.proofs.Passes.{passes_keep}
+use Rattle.oram_contents.proofs.DummySteps.{passes_keep}
 use Rattle.oram_contents.proofs.SmallLaws.{small_more, small_start}
 use Rattle.oram_contents.proofs.StartLaws.{start_sound, start_always, start_home}
 use Rattle.oram_walk.specs.Front.{FrontState}

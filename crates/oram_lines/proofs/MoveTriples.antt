@@ -23,7 +23,7 @@ use Rattle.oram_contents.specs.Provenance.{Sound}
 use Rattle.oram_contents.specs.Slots.{MayRise, done}
 use Rattle.oram_contents.proofs.Lines.{put_same, put_other, children_inside}
 use Rattle.oram_contents.proofs.HomeSteps.{home_raised}
-use Rattle.oram_contents.proofs.Passes.{renumber_sound}
+use Rattle.oram_contents.proofs.RenumberSteps.{renumber_sound}
 use Rattle.oram_walk.specs.Front.{FrontState, full_parent, with_held}
 use Rattle.oram_walk.specs.Plans.{child_plan, child_by, children_plan, family_plan, move_plan}
 use Rattle.oram_walk.specs.Request.{Slot, Steps}

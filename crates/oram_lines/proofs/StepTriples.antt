@@ -16,7 +16,7 @@ use Rattle.oram_contents.specs.Forgery.{Forgery}
 use Rattle.oram_contents.specs.Groups.{AreSmall}
 use Rattle.oram_contents.specs.Provenance.{Sound}
 use Rattle.oram_contents.specs.Slots.{MayRise, done, refilled}
-use Rattle.oram_contents.proofs.Passes.{pend_sound}
+use Rattle.oram_contents.proofs.InsertSteps.{pend_sound}
 use Rattle.asc_base.specs.Shape.{parent_in}
 use Rattle.oram_walk.specs.Front.{FrontState, counter_in, stepped, stepped_by, stepped_under, group_at, full_parent}
 use Rattle.posmap_counters.specs.Group.{GroupState}

@@ -7,8 +7,9 @@ use Rattle.oram_contents.specs.Entries.{Keys, AreKeys}
 use Rattle.oram_contents.specs.Forgery.{Forgery}
 use Rattle.oram_contents.specs.Provenance.{Sound}
 use Rattle.oram_contents.specs.Slots.{IsRefill, MayRise}
-use Rattle.oram_contents.proofs.Access.{forgery_more}
-use Rattle.oram_contents.proofs.Passes.{passes_keep, refill_sound}
+use Rattle.oram_contents.proofs.GrowSteps.{forgery_more}
+use Rattle.oram_contents.proofs.DummySteps.{passes_keep}
+use Rattle.oram_contents.proofs.RefillSteps.{refill_sound}
 use Rattle.oram_lines.specs.Noted.{IsDueRequest}
 use Rattle.oram_lines.specs.Standing.{IsKnown, later}
 use Rattle.oram_lines.proofs.KnownLaws.{passed_is}

@@ -1,4 +1,4 @@
-use Rattle.oram_contents.proofs.Access.{put_back_sound, put_always}
+use Rattle.oram_contents.proofs.PutSteps.{put_back_sound, put_always}
 use Rattle.oram_contents.proofs.laws.puts_keep.Goals as goal
 
 pub returns-clause-sound : goal.returns-clause-sound

@@ -1,5 +1,5 @@
-use Rattle.oram_contents.proofs.Access.{begun_sound, drawn_always, part_sound, part_always}
-use Rattle.oram_contents.proofs.Access.{refused_sound, refused_always}
+use Rattle.oram_contents.proofs.ReadSteps.{begun_sound, drawn_always}
+use Rattle.oram_contents.proofs.StopSteps.{part_sound, part_always, refused_sound, refused_always}
 use Rattle.oram_contents.proofs.laws.stops_keep.Goals as goal
 
 pub returns-clause-reading : goal.returns-clause-reading

@@ -1,4 +1,4 @@
-use Rattle.oram_contents.proofs.Access.{take_keeps, take_always}
+use Rattle.oram_contents.proofs.TakeSteps.{take_keeps, take_always}
 use Rattle.oram_contents.proofs.laws.takes_keep.Goals as goal
 
 pub returns-clause-sound : goal.returns-clause-sound

@@ -1,4 +1,4 @@
-use Rattle.oram_contents.proofs.Access.{write_sound, write_always}
+use Rattle.oram_contents.proofs.WriteSteps.{write_sound, write_always}
 use Rattle.oram_contents.proofs.laws.writes_keep.Goals as goal
 
 pub returns-clause-sound : goal.returns-clause-sound
