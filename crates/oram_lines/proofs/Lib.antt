@@ -11,6 +11,7 @@ pub mod HonestTriples
 pub mod KnownLaws
 pub mod LineLaws
 pub mod LowCounts
+pub mod MayStop
 pub mod MoveTriples
 pub mod NotedLaws
 pub mod PointLaws

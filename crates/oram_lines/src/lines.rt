@@ -2,21 +2,23 @@
 
 ghost use Rattle.std.specs.Prelude.{◌≡◌, ◌<◌, ◌^◌, ◌⊎◌, ℕ, [], None, Ok, Err};
 ghost use Rattle.asc_base.specs.Settings.{IsConfig};
+ghost use Rattle.asc_base.specs.Shape.{parent_in};
 ghost use Rattle.asc_base.specs.declared.block.Line.{Line};
 ghost use Rattle.asc_base.specs.declared.settings.Config.{Config};
 ghost use Rattle.asc_base.specs.declared.stop.Evidence.{Evidence};
 ghost use Rattle.asc_base.specs.declared.stop.Stop.{Stop};
-ghost use Rattle.asc_base.specs.declared.stop.Stop.TheVariants.{Integrity};
+ghost use Rattle.asc_base.specs.declared.stop.Stop.TheVariants.{Integrity, NoMemory};
 ghost use Rattle.oram_contents.specs.Counts.{zero_line};
 ghost use Rattle.oram_contents.specs.Entries.{Keys, AreKeys};
 ghost use Rattle.oram_contents.specs.Forgery.{Forgery};
 ghost use Rattle.oram_contents.specs.Home.{Home};
 ghost use Rattle.rate_enforcer.specs.PortStep.{contents};
-ghost use Rattle.oram_frontend.specs.Oram.{OramState, OramRequest, OramStep, Told};
+ghost use Rattle.oram_frontend.specs.Oram.{OramState, OramRequest, OramStep, Fetch, Wait, Told};
+ghost use Rattle.oram_walk.specs.Front.{stepped};
 ghost use Rattle.oram_lines.specs.Lines.{Lines, IsNew, HoldsLines, IsRequest, lines_after, IsLineOf, Calls, Answered};
-ghost use Rattle.oram_lines.specs.Standing.{DrawnOnce};
-ghost use Rattle.oram_lines.specs.Lines.{AreRequests, AreLinesOf, lines_by, StopsHolding};
+ghost use Rattle.oram_lines.specs.Lines.{AreRequests, AreLinesOf, lines_by, StopsHolding, wanted};
 ghost use Rattle.oram_lines.specs.Noted.{IsMemoryOf};
+ghost use Rattle.oram_lines.specs.Standing.{DrawnOnce};
 
 /// A new encrypted memory holds zeros. Over each call that is answered it goes on holding its lines, or those with the
 /// one that was stored, and a fetch is answered with its line; or the log shows a forgery. So it is over any number of
@@ -89,4 +91,17 @@ pub fn honest_memories_are_not_blamed()
         → AreRequests keys.shape.lines calls → IsRequest keys.shape.lines request → old.stop ≡ None
         → Answered keys levels old calls mid → OramStep keys levels mid request (Err (Integrity evidence)) new
         → new.port.tap.log.altered ≡ [] → ⊥ }
+{}
+
+/// Calls that stop are there: where an encrypted memory holds lines, memory may be wanted before the next slot begins,
+/// in a fetch of a line of the top layer, if that slot starts before the time of the settings, and in a wait, if it
+/// starts before the time that is waited for.
+pub fn calls_may_stop()
+    ensures fetch { (keys : Keys) (levels : ℕ) (lines : Lines) (o : OramState) (asked line : ℕ)
+        → HoldsLines keys levels lines o → o.stop ≡ None → parent_in o.front.shape (record { 0 = line }) ≡ None
+        → o.port.clock.next < o.port.clock.config.time
+        → OramStep keys levels o (Fetch asked line) (Err NoMemory) (wanted (stepped o.front (record { 0 = line })) o) }
+    ensures wait { (keys : Keys) (levels : ℕ) (lines : Lines) (o : OramState) (time : ℕ)
+        → HoldsLines keys levels lines o → o.stop ≡ None → o.port.clock.next < time
+        → OramStep keys levels o (Wait time) (Err NoMemory) (wanted o.front o) }
 {}
