@@ -23,7 +23,8 @@ module _ (keys : Keys) (lawful : AreKeys keys) (levels : ℕ) where
   serves_on old new (Store asked line value) told step = step.0.1
   serves_on old new (Wait time) told step = step.0.1
 
-  serve_on : (old new : OramState) (calls : Calls) → old.stop ≡ None → Answered keys levels old calls new
+  -- so do calls
+  pub serve_on : (old new : OramState) (calls : Calls) → old.stop ≡ None → Answered keys levels old calls new
       → new.stop ≡ None
   serve_on old new [] serves same = subst (λ (o : OramState). o.stop ≡ None) (sym same) serves
   serve_on old new ((request, told) ∷ calls) serves (mid, one, rest) =

@@ -11,10 +11,12 @@ pub mod HonestTriples
 pub mod KnownLaws
 pub mod LineLaws
 pub mod LowCounts
+pub mod MayStop
 pub mod MoveTriples
 pub mod NotedLaws
 pub mod PointLaws
 pub mod PointStops
+pub mod RefusedLaws
 pub mod RequestTriples
 pub mod ShownChildren
 pub mod ShownHeld
@@ -22,4 +24,5 @@ pub mod ShownLaws
 pub mod ShownMoves
 pub mod ShownParts
 pub mod StepTriples
+pub mod StopLaws
 pub mod WalkTriples

@@ -27,6 +27,7 @@ use Rattle.oram_contents.proofs.SmallLaws.{small_more, small_start}
 use Rattle.oram_contents.proofs.StartLaws.{start_sound, start_always, start_home}
 use Rattle.oram_walk.specs.Front.{FrontState}
 use Rattle.oram_walk.specs.Plans.{fetch_plan, store_plan}
+use Rattle.oram_walk.specs.Rows.{zeros}
 use Rattle.oram_frontend.proofs.SlotLaws.{keys_fit}
 use Rattle.oram_frontend.specs.Oram.{OramState, OramRequest, OramStep, Fetch, Store, Wait, Told}
 use Rattle.rate_enforcer.specs.Counts.{IsCounted, is_dummy, is_real}
@@ -38,6 +39,8 @@ use Rattle.oram_lines.specs.Standing.{DrawnOnce, IsKnown, IsShown, StandsFor, Is
 use Rattle.oram_contents.proofs.FormLaws.{start_forms, passes_forms}
 use Rattle.oram_lines.proofs.FetchLaws.{fetch_keeps, store_keeps, put_alike, data_leaf}
 use Rattle.oram_lines.proofs.GrowLaws.{forgery_port, forgery_walk, forgery_halt, forgery_walk_stop, counted_walk}
+use Rattle.oram_lines.proofs.NotedLaws.{zeros_outside}
+use Rattle.oram_lines.proofs.LowCounts.{counts_low}
 use Rattle.oram_lines.proofs.PointLaws.{passes_once}
 use Rattle.oram_lines.proofs.HomePlaces.{none_before}
 use Rattle.oram_lines.proofs.KnownLaws.{passes_draw, passed_is}
@@ -172,6 +175,12 @@ module _ (keys : Keys) (lawful : AreKeys keys) (levels : ℕ) where
     lines_are = λ line below. refl;
   }
 
+  -- a memory of zeros has its lines
+  pub new_outside : (config : Config) (o : OramState) (is_config : IsConfig config)
+      (new : IsNew keys config levels o) → IsMemoryOf keys (new_holds config o is_config new).ghost zeros
+  unfolding new_holds
+  new_outside config o is_config new = zeros_outside keys lawful
+
   pub forgery_call : (old new : OramState) (request : OramRequest) (told : Told)
       → OramStep keys levels old request (Ok told) new → Forgery keys old.port.tap.log → Forgery keys new.port.tap.log
   forgery_call old new (Fetch asked line) told (serves, seen, is, ends) f =
@@ -253,6 +262,14 @@ module _ (keys : Keys) (lawful : AreKeys keys) (levels : ℕ) where
         ]
       ]
 
+  -- from a new one on
+  pub holds_from_start : (config : Config) (old new : OramState) (calls : Calls) → IsConfig config
+      → IsNew keys config levels old → AreRequests keys.shape.lines calls → Answered keys levels old calls new
+      → Forgery keys new.port.tap.log
+      ⊎ (HoldsLines keys levels (lines_by (λ line. zero_line) calls) new × AreLinesOf (λ line. zero_line) calls)
+  holds_from_start config old new calls is_config fresh are answered =
+      calls_hold (λ line. zero_line) old new calls (new_holds config old is_config fresh) are answered
+
   -- a forgery stays over a call that is stopped
   pub forgery_stop : (old new : OramState) (request : OramRequest) (stop : Stop)
       → OramStep keys levels old request (Err stop) new → Forgery keys old.port.tap.log
@@ -279,3 +296,8 @@ module _ (keys : Keys) (lawful : AreKeys keys) (levels : ℕ) where
   pub blocks_home : (lines : Lines) (o : OramState) (x : HoldsLines keys levels lines o) → o.port.tap.log.altered ≡ []
       → Home keys x.ghost (contents o.port)
   blocks_home lines o x none = x.stands.known.home none
+
+  -- counters have room
+  pub counters_low : (lines : Lines) (o : OramState) (x : HoldsLines keys levels lines o) → (a : ℕ)
+      → a < keys.shape.total → ((x.ghost.count a).group < 2 ^ 28) × ((x.ghost.count a).own < 16384)
+  counters_low lines o x = counts_low keys lawful levels 0 o.front x.ghost o.port x.stands

@@ -95,10 +95,10 @@ zeros_outside keys lawful = record { each = λ a inside unheld apart. sym ((star
 
 -- A run of a plan is one in which its answers are noted.
 module _ (keys : Keys) (levels : ℕ) where
-  abbrev at : PortState → Answers → NotedState
+  abbrev pub at : PortState → Answers → NotedState
   at s answers = record { port = s; answers = answers }
 
-  step_noted : (s t : PortState) (before : Answers) (request : Request) (seen : Seen)
+  pub step_noted : (s t : PortState) (before : Answers) (request : Request) (seen : Seen)
       → Steps (SlotStep keys levels) s request (Ok seen) t
       → (answers : Answers) × Steps (NotedStep keys levels) (at s before) request (Ok seen) (at t answers)
   step_noted s t before (Slot access) seen one = (before ++ (Slot access, seen) ∷ [], (one, refl))
@@ -131,19 +131,12 @@ module _ (keys : Keys) (levels : ℕ) where
   step_at mid last s t (Answer line value) seen one = one
   step_at mid last s t Room seen one = one
 
-  step_from : (mid : PortState) (last : Request) (s t : NotedState) (request : Request) (seen : Seen)
+  pub step_from : (mid : PortState) (last : Request) (s t : NotedState) (request : Request) (seen : Seen)
       → Steps (StopsAt keys levels mid last) s request (Ok seen) t → Steps (NotedStep keys levels) s request (Ok seen) t
   step_from mid last s t (Slot access) seen one = one
   step_from mid last s t (Append message) seen one = one
   step_from mid last s t (Answer line value) seen one = one
   step_from mid last s t Room seen one = one
-
-  -- and so is a run that ends before
-  pub ends_from : (mid : PortState) (last : Request) {B A : Type 0} (plan : Plan Request Seen B A) (s t : NotedState)
-      (x : A) → Ends (Steps (StopsAt keys levels mid last)) plan s t x → Ends (Steps (NotedStep keys levels)) plan s t x
-  ends_from mid last (Done a) s t x ends = ends
-  ends_from mid last (Ask q b k) s t x (seen, m, one, rest) =
-      (seen, m, step_from mid last s m q seen one, ends_from mid last (k seen) m t x rest)
 
   pub stops_noted : {B A : Type 0} (plan : Plan Request Seen B A) (s t : PortState) (before : Answers) (stop : Stop)
       (left : B) → Stops (Steps (SlotStep keys levels)) plan s t stop left
@@ -158,7 +151,7 @@ module _ (keys : Keys) (levels : ℕ) where
       (answers, mid, last, inr (seen, at m middle, step_at mid last (at s before) (at m middle) q seen first, later))
 
   -- and it is one where they aren't
-  step_bare : (s t : NotedState) (request : Request) (seen : Seen)
+  pub step_bare : (s t : NotedState) (request : Request) (seen : Seen)
       → Steps (NotedStep keys levels) s request (Ok seen) t
       → Steps (SlotStep keys levels) s.port request (Ok seen) t.port
   step_bare s t (Slot access) seen one = one.0

@@ -39,6 +39,12 @@ StopsAt keys levels mid last old request (Ok seen) new = NotedStep keys levels o
 StopsAt keys levels mid last old request (Err stop) new =
     NotedStep keys levels old request (Err stop) new × (old.port ≡ mid) × (request ≡ last)
 
+-- the same of every request, that for room too
+abbrev pub RefusesAt : Keys → ℕ → PortState → Request → NotedState → Request → Result Seen Stop → NotedState → Type 0
+RefusesAt keys levels mid last old request (Ok seen) new = Steps (NotedStep keys levels) old request (Ok seen) new
+RefusesAt keys levels mid last old request (Err stop) new =
+    Steps (NotedStep keys levels) old request (Err stop) new × (old.port ≡ mid) × (request ≡ last)
+
 -- an access is answered with its block's line in a memory
 abbrev pub IsAnswerIn : (ℕ → Line) → Request → Seen → Type 0
 IsAnswerIn lines (Slot access) seen = seen.line ≡ lines access.address.0

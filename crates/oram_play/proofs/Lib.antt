@@ -2,6 +2,7 @@ pub mod Due
 pub mod Passes
 pub mod Accesses
 pub mod Between
+pub mod CallSlots
 pub mod Plays
 pub mod Waits
 pub mod Asks

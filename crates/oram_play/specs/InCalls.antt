@@ -1,14 +1,14 @@
 -- Calls that an encrypted memory answers one after another, and where a play stands behind them.
-use Rattle.std.specs.Prelude.{◌≡◌, ℕ, List, [], ◌∷◌, Ok}
+use Rattle.std.specs.Prelude.{◌≡◌, ◌++◌, ℕ, List, [], ◌∷◌, Ok, max}
 use Rattle.asc_base.specs.declared.settings.Config.{Config}
 use Rattle.bus_schedule.specs.Timetable.{public_of}
 use Rattle.data_cache.specs.Lines.{LineRequest}
 use Rattle.oram_contents.specs.Entries.{Keys}
 use Rattle.oram_frontend.specs.Oram.{OramState, OramStep, Told, Wait}
 use Rattle.oram_lines.specs.Lines.{IsRequest}
-use Rattle.oram_play.specs.Playing.{called}
+use Rattle.oram_play.specs.Playing.{called, IsTold}
 use Rattle.run_play.specs.Requests.{Standing, request_slots}
-use Rattle.run_play.specs.Slots.{Numbers, passed}
+use Rattle.run_play.specs.Slots.{Slot, Numbers, passed}
 
 -- a request for a line at a clock, or a wait up to a time, each where the run has these numbers
 pub data PlayCall : Type 0 where
@@ -36,3 +36,27 @@ AnsweredInPlay keys levels config now old (Requests clock numbers request ∷ ca
 AnsweredInPlay keys levels config now old (Waits time numbers ∷ calls) end new =
     (told : Told) × (mid : OramState) × OramStep keys levels old (Wait time) (Ok told) mid
     × AnsweredInPlay keys levels config (after_wait config time numbers now) mid calls end new
+
+-- the slots of the play that calls take, one after another
+abbrev pub calls_slots : Config → Standing → List PlayCall → List Slot
+calls_slots config now [] = []
+calls_slots config now (Requests clock numbers request ∷ calls) =
+    let taken = request_slots config (at_clock clock numbers now) request in
+    taken.slots ++ calls_slots config (taken.standing) calls
+calls_slots config now (Waits time numbers ∷ calls) =
+    let more = passed (public_of config) numbers time now.pace in
+    more.slots ++ calls_slots config (after_wait config time numbers now) calls
+
+-- Each answer is the play's: the time that it then stands at, and of a fetch its line as last stored.
+abbrev pub AreTold : (keys : Keys) (levels : ℕ) (config : Config) (now : Standing) (old : OramState)
+    (calls : List PlayCall) (end : Standing) (new : OramState) → AnsweredInPlay keys levels config now old calls end new
+    → Type 0
+AreTold keys levels config now old [] end new answered = Unit {0}
+AreTold keys levels config now old (Requests clock numbers request ∷ calls) end new (below, told, mid, step, rest) =
+    let began = at_clock clock numbers now in
+    let behind = (request_slots config began request).standing in
+    (told.end ≡ behind.clock) × IsTold began request told.line
+    × AreTold keys levels config behind mid calls end new rest
+AreTold keys levels config now old (Waits time numbers ∷ calls) end new (told, mid, step, rest) =
+    (told.end ≡ max time (passed (public_of config) numbers time now.pace).pace.heard.ended)
+    × AreTold keys levels config (after_wait config time numbers now) mid calls end new rest

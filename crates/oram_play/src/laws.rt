@@ -21,7 +21,7 @@ ghost use Rattle.oram_frontend.specs.Oram.{OramState, OramStep, Told, Fetch, Sto
 ghost use Rattle.oram_frontend.specs.Slots.{FitKeys};
 ghost use Rattle.oram_play.specs.Taken.{HasTaken, IsPaceOf, put_in, with_appended, asked_start, asked_slots};
 ghost use Rattle.oram_play.specs.Taken.{slots_taken};
-ghost use Rattle.oram_play.specs.InCalls.{PlayCall, AnsweredInPlay};
+ghost use Rattle.oram_play.specs.InCalls.{PlayCall, AnsweredInPlay, calls_slots, AreTold};
 ghost use Rattle.oram_play.specs.InTurn.{AnsweredAccess, AreInTurn};
 ghost use Rattle.oram_play.specs.Answered.{IsAnswered};
 ghost use Rattle.oram_play.specs.AtHome.{IsAtHome, Place, StandsAt};
@@ -156,8 +156,8 @@ pub fn walked_accesses_take_play_slots()
 
 /// An encrypted memory that stands where a play stands stands where the play stands after each request that it answers,
 /// or its log shows a forgery: it took the slots of the play's request, the time that is told is the play's clock, and
-/// a fetch tells the line as last stored. So it is from the start, with no slot, and where it waits, with the dummies
-/// that pass.
+/// a fetch tells the line as last stored. So it is from the start, with no slot, where it waits, with the dummies that
+/// pass, and behind any number of requests and waits, with all their slots.
 pub fn requests_stand_as_plays()
     ensures start { (keys : Keys) → AreKeys keys → (levels : ℕ) (config : Config) (o : OramState) → IsConfig config
         → IsNew keys config levels o → o.port.clock.config ≡ config
@@ -176,6 +176,13 @@ pub fn requests_stand_as_plays()
         → let more = passed (public_of config) now.numbers time now.pace in
         PlaysAs keys levels config (slots ++ more.slots) (record now { pace = more.pace }) new
         × (told.end ≡ max time more.pace.heard.ended) }
+    ensures calls { (keys : Keys) → AreKeys keys → (levels : ℕ) (config : Config) (slots : List Slot) (now : Standing)
+        (old : OramState) (calls : List PlayCall) (end : Standing) (new : OramState)
+        → PlaysAs keys levels config slots now old
+        → (answered : AnsweredInPlay keys levels config now old calls end new)
+        → Forgery keys new.port.tap.log
+        ⊎ (PlaysAs keys levels config (slots ++ calls_slots config now calls) end new
+        × AreTold keys levels config now old calls end new answered) }
 {}
 
 /// Where an encrypted memory stands where a play stands, its blocks have the play's counters and lines, and the blocks
