@@ -4,6 +4,8 @@ use Rattle.std.proofs.Common.{◌∙◌, subst, subst₂, arith, append-nil}
 use Rattle.asc_base.specs.declared.block.Counter.{Counter}
 use Rattle.asc_base.specs.declared.block.Entry.{Entry}
 use Rattle.asc_base.specs.declared.block.Point.{Point}
+use Rattle.asc_base.specs.declared.stop.Stop.{Stop}
+use Rattle.asc_base.specs.declared.stop.Stop.TheVariants.{Integrity, StashFull, TimeUp, Device, NoMemory}
 use Rattle.bus_watch.specs.Log.{LogLists}
 use Rattle.bus_watch.specs.declared.log.Altered.{Altered}
 use Rattle.bus_watch.specs.declared.log.Event.TheVariants.{Tagged}
@@ -22,6 +24,8 @@ use Rattle.oram_contents.proofs.Passes.{refill_log, refill_read, refill_found}
 use Rattle.oram_stash.specs.Entries.{held, without}
 use Rattle.oram_stash.proofs.Apart.{AreApart-nil}
 use Rattle.rate_enforcer.specs.Breaks.{Begins, WritesBreak}
+use Rattle.log_replay.specs.Judged.{HaveOrigins}
+use Rattle.log_replay.specs.Replayed.{left_by}
 use Rattle.log_replay.proofs.BlockSlots.{counting}
 
 module _ (keys : Keys) where
@@ -40,6 +44,18 @@ module _ (keys : Keys) where
         mirrored = w.mirrored;
         seeds = w.seeds;
       })
+
+  -- what holds always says where the entries in the buckets come from
+  pub origins_of : (log : LogLists) (now : Contents) → Always keys log now → HaveOrigins keys log now.mirror
+  origins_of log now w = record { placed = w.placed; came = w.tree_came }
+
+  pub origins_left : (log : LogLists) (stop : Stop) (now : Contents) → Always keys log (left_by stop now)
+      → HaveOrigins keys log now.mirror
+  origins_left log (Integrity evidence) now w = origins_of log (record now { hand = [] }) w
+  origins_left log (StashFull held) now w = origins_of log (record now { hand = [] }) w
+  origins_left log (TimeUp at) now w = origins_of log now w
+  origins_left log Device now w = origins_of log now w
+  origins_left log NoMemory now w = origins_of log now w
 
   -- behind the start of a slot, and replies that were altered in it
   pub begun_always : (old new : LogLists) (now : Contents) (start : ℕ) (asked : Option ℕ) (p : Point)

@@ -26,3 +26,7 @@ pub mod Full
 pub mod HomeEnds
 pub mod Roomy
 pub mod FullPlays
+pub mod UntaggedPlays
+pub mod ShortPlays
+pub mod EndingRows
+pub mod FlatRows
