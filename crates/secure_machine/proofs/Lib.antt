@@ -30,3 +30,4 @@ pub mod UntaggedPlays
 pub mod ShortPlays
 pub mod EndingRows
 pub mod FlatRows
+pub mod FedRows

@@ -1,8 +1,9 @@
 -- Configurations whose plays are judged, and programs whose reports are.
-use Rattle.std.specs.Prelude.{◌≡◌, ℕ, List, [], ◌∷◌}
+use Rattle.std.specs.Prelude.{◌≡◌, ℕ, List, [], ◌∷◌, replicate}
 use Rattle.asc_base.specs.declared.settings.Config.{Config}
 use Rattle.elf_loader.specs.declared.image.Image.{Image}
-use Rattle.run_play.specs.Programs.{memory_with}
+use Rattle.fed_run.specs.Fed.{NotedLine, numbered}
+use Rattle.run_play.specs.Programs.{load_words, memory_with}
 use Rattle.run_play.specs.Rows.{one_held}
 use Rattle.secure_machine.specs.declared.report.Ending.{Ending}
 use Rattle.secure_machine.specs.declared.report.Report.{Report}
@@ -23,3 +24,7 @@ pub record IsSaid (instructions : ℕ) (ending : Ending) (report : Report) : Typ
   pub instructions_are : report.instructions ≡ instructions
   pub output : report.output.items ≡ []
   pub ending_is : report.ending ≡ ending
+
+-- what a load of line 1 is fed with over a cache of one line: that line, of zeros, and the program's own again
+abbrev pub load_lines : List NotedLine
+load_lines = numbered 1 (replicate 64 0) ∷ numbered 0 (memory_with 64 0 load_words) ∷ []

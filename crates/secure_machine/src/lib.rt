@@ -21,7 +21,9 @@ pub use laws::{
 };
 pub use lines::{Stopped, TimedLines};
 pub use report::{Ending, Report};
-pub use rows::{endings_have_rows, flat_reports_have_rows, reports_have_rows};
+pub use rows::{
+    endings_have_rows, fed_reports_have_rows, flat_reports_have_rows, reports_have_rows,
+};
 
 #[cfg(test)]
 mod tests;

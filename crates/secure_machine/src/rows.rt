@@ -23,9 +23,11 @@ ghost use Rattle.run_play.specs.Programs.{exit_words, hello_words, load_words, m
 ghost use Rattle.run_play.specs.Rows.{small, no_budget, no_time};
 ghost use Rattle.rv32_core.specs.declared.outcome.TrapKind.{TrapKind};
 ghost use Rattle.rv32_core.specs.declared.outcome.TrapKind.TheVariants.{FetchMisaligned};
+ghost use Rattle.secure_machine.specs.Fed.{IsFed};
 ghost use Rattle.secure_machine.specs.Judged.{EndsInOrder, EndsReplayed, ShowsEnding};
-ghost use Rattle.secure_machine.specs.Rows.{IsLoaded, IsSaid};
+ghost use Rattle.secure_machine.specs.Rows.{IsLoaded, IsSaid, load_lines};
 ghost use Rattle.secure_machine.specs.Run.{IsFlatReport};
+ghost use Rattle.secure_machine.specs.Spent.{IsSpentOn};
 ghost use Rattle.secure_machine.specs.declared.report.Ending.{Ending};
 ghost use Rattle.secure_machine.specs.declared.report.Ending.TheVariants.{Exit, Trap, Budget, TimeUp, StashFull};
 ghost use Rattle.secure_machine.specs.declared.report.Ending.TheVariants.{Integrity, Device};
@@ -156,4 +158,19 @@ pub fn flat_reports_have_rows()
         → IsSaid 3 ending report → IsFlatReport small image [] report → ⊥ }
     ensures no_end { (image : Image) (report : Report) → IsLoaded exit_words image → IsSaid 2 Budget report
         → IsFlatReport small image [] report → ⊥ }
+{}
+
+/// Reports of the machine that is fed with answered lines, and of spent cycles. A load over a cache of one line is fed
+/// with the line that it loads and with the program's own again, and exits; with no line no report says that it does. A
+/// program that exits before its first slot spent twelve cycles: one for its image line, one for its addition and ten
+/// for the exit, and no report that it exits says eleven.
+pub fn fed_reports_have_rows()
+    ensures load { (image : Image) (report : Report) → IsLoaded load_words image → IsSaid 3 (Exit 0) report
+        → IsFed small image [] report load_lines }
+    ensures unfed { (image : Image) (report : Report) → IsLoaded load_words image → IsSaid 3 (Exit 0) report
+        → IsFed small image [] report [] → ⊥ }
+    ensures spent { (image : Image) (report : Report) → IsLoaded exit_words image → IsSaid 2 (Exit 0) report
+        → report.cycles ≡ 12 → (log : LogLists) → log.events ≡ [] → IsSpentOn small image [] report log }
+    ensures less { (image : Image) (report : Report) → IsLoaded exit_words image → IsSaid 2 (Exit 0) report
+        → report.cycles ≡ 11 → (log : LogLists) → log.events ≡ [] → IsSpentOn small image [] report log → ⊥ }
 {}
