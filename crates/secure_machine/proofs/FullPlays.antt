@@ -1,5 +1,5 @@
--- A play whose log shows a full stash: behind two slots that leave nothing at hand a message is appended, where none may
--- stay.
+-- A play whose log shows a full stash: behind two slots that leave nothing at hand a message is appended, where none
+-- may stay.
 use Rattle.std.proofs.Common.{◌≡◌, Some, List, [], ◌∷◌, ◌++◌, refl, sym, ◌∙◌, ap, subst, arith}
 use Rattle.std.proofs.Common.{map, replicate}
 use Rattle.asc_base.specs.Greatest.{greatest}
@@ -63,5 +63,6 @@ module _ (keys : Keys) (shape : keys.shape ≡ without_stash.shape) where
 
   pub full : NoSlotIsFull keys 0 (play_at without_stash 0 load_words) → ⊥
   full room = room 2 (AppendOverfull 1) 1 refl
-      (ap (λ n. verdict_on keys 0 (log_of keys (halt n (play_at without_stash 0 load_words) 2 (AppendOverfull 1)))) levels
+      (ap (λ n. verdict_on keys 0 (log_of keys (halt n (play_at without_stash 0 load_words) 2 (AppendOverfull 1))))
+      levels
       ∙ stops.wrong)

@@ -31,3 +31,4 @@ pub mod ShortPlays
 pub mod EndingRows
 pub mod FlatRows
 pub mod FedRows
+pub mod ExitPlay
