@@ -12,3 +12,4 @@ pub mod TraceLaws
 pub mod HeadlineLaws
 pub mod PlayLaws
 pub mod Instances
+pub mod HeadlineRows

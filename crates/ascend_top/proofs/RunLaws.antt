@@ -15,7 +15,7 @@ use Rattle.bus_schedule.specs.Shown.{indices_of}
 use Rattle.bus_schedule.specs.Timetable.{public_of}
 use Rattle.bus_watch.specs.Honest.{MayTellMirror}
 use Rattle.epoch_learner.specs.Stands.{KeepsPace}
-use Rattle.log_replay.specs.Judged.{BreaksOffReading, SaysMirror, verdict_on}
+use Rattle.log_replay.specs.Judged.{BreaksOffReading, HaveOrigins, SaysMirror, verdict_on}
 use Rattle.log_replay.specs.LastSlot.{StopsInOrder}
 use Rattle.log_replay.specs.Order.{LogOrder}
 use Rattle.oram_contents.specs.Forgery.{Forgery}
@@ -227,11 +227,13 @@ module _ (config : Config) (image : Image) (input key : List ℕ) (lent : Lent) 
         ⊎ IsUnprepared r lent.tap lent.tap')
         → IfOk result (λ r. EndsAtHome (keys_from config key) config (play_with config image input) r.instructions
         r.cycles r.ending lent.tap'.log)
+        → IfOk result (λ r. HaveOrigins (keys_from config key) lent.tap'.log lent.tap'.mirror
+        ⊎ IsUnprepared r lent.tap lent.tap')
         → IfOk result (IsRunOf config image input key lent)
     ran_of (Err none) pace in_time real dummies tied device right choices code fetches spent flat honest refines plays
-        played fed verdict contents told count time_up done home = tt
+        played fed verdict contents told count time_up done home origins = tt
     ran_of (Ok report) pace in_time real dummies tied device right choices code fetches spent flat honest refines plays
-        played fed verdict contents told count time_up done home = record {
+        played fed verdict contents told count time_up done home origins = record {
           dishonest = record {
             refinement = record { flat = refines; plays = plays };
             schedule = record {
@@ -248,6 +250,7 @@ module _ (config : Config) (image : Image) (input key : List ℕ) (lent : Lent) 
               done = done;
               leaves = leaves;
               contents = contents;
+              origins = origins;
               points = points;
             };
             rates = record { choices = choices; code = code; budget = budget };
@@ -282,9 +285,10 @@ module _ (config : Config) (image : Image) (input key : List ℕ) (lent : Lent) 
         → OnErr result (SaysWanting (keys_from config key) lent.tap'.log lent.tap'.mirror ⊎ (lent.tap' ≡ lent.tap))
         → OnErr result ((lent.memory'.count ≡ 0) ⊎ (lent.memory'.count ≡ config.shape.buckets))
         → OnErr result (StopsInOrder (keys_from config key) why.NoMemory lent.tap'.log)
+        → OnErr result (HaveOrigins (keys_from config key) lent.tap'.log lent.tap'.mirror ⊎ (lent.tap' ≡ lent.tap))
         → OnErr result (IsWantOf config image input key lent)
-    wants_of (Ok report) pace last_move tied verdict contents count done = tt
-    wants_of (Err none) (end, pace) last_move tied verdict contents count done = record {
+    wants_of (Ok report) pace last_move tied verdict contents count done origins = tt
+    wants_of (Err none) (end, pace) last_move tied verdict contents count done origins = record {
       end = end;
       pace = pace;
       leaves = leaves;
@@ -299,6 +303,7 @@ module _ (config : Config) (image : Image) (input key : List ℕ) (lent : Lent) 
       done = done;
       verdict = verdict;
       contents = contents;
+      origins = origins;
       points = points;
       count = count;
     }

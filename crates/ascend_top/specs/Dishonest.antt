@@ -10,7 +10,7 @@ use Rattle.bus_schedule.specs.Timetable.{public_of}
 use Rattle.bus_watch.specs.Honest.{MayTellMirror}
 use Rattle.elf_loader.specs.declared.image.Image.{Image}
 use Rattle.epoch_learner.specs.Stands.{KeepsPace}
-use Rattle.log_replay.specs.Judged.{SaysMirror}
+use Rattle.log_replay.specs.Judged.{SaysMirror, HaveOrigins}
 use Rattle.log_replay.specs.Order.{LogOrder}
 use Rattle.oram_contents.specs.Entries.{Keys}
 use Rattle.oram_contents.specs.Forgery.{Forgery}
@@ -52,14 +52,15 @@ module _ (config : Config) (image : Image) (input : List ℕ) (keys : Keys) (len
 
   -- 3. Points, seeds, contents: the log notes slots in order, each leaf that of its point, and of the tree, and each
   -- was done, the last one as far as the ending says; where the bus was prepared, each bucket is as it was sealed last,
-  -- of the slots that the log says, under the number of its write; and no point was drawn twice, or the log shows a
-  -- forgery.
+  -- of the slots that the log says, under the number of its write, and each entry in it stands on the path of its leaf
+  -- and was tagged or stood in an altered reply; and no point was drawn twice, or the log shows a forgery.
   pub record HasContents : Type 0 where
     pub order : LogOrder keys lent.tap'.log
     pub done : EndsInOrder keys report.ending lent.tap'.log ⊎ IsUnprepared report lent.tap lent.tap'
     pub leaves : DrawsLeaves config lent.tap'.log
     pub contents : SaysMirror keys lent.tap'.log (log_end report.ending) lent.tap'.mirror
         ⊎ IsUnprepared report lent.tap lent.tap'
+    pub origins : HaveOrigins keys lent.tap'.log lent.tap'.mirror ⊎ IsUnprepared report lent.tap lent.tap'
     pub points : Forgery keys lent.tap'.log ⊎ DrawnOnce lent.tap'.log.events
 
   -- 4. Rates: when slots start, and which rates are chosen, is in the pace of 2. The choices are as many as reported,

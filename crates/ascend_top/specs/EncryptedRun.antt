@@ -9,7 +9,7 @@ use Rattle.bus_schedule.specs.Timetable.{public_of}
 use Rattle.elf_loader.specs.declared.image.Image.{Image}
 use Rattle.epoch_learner.specs.Stands.{KeepsPace}
 use Rattle.leaf_function.specs.Leaf.{leaf, leaf_key}
-use Rattle.log_replay.specs.Judged.{BreaksOffReading, verdict_on}
+use Rattle.log_replay.specs.Judged.{BreaksOffReading, HaveOrigins, verdict_on}
 use Rattle.log_replay.specs.LastSlot.{StopsInOrder}
 use Rattle.log_replay.specs.Order.{LogOrder}
 use Rattle.oram_contents.specs.Entries.{Keys}
@@ -53,7 +53,7 @@ pub record IsRunOf (config : Config) (image : Image) (input key : List ℕ) (len
 -- The same of a run that found no memory: up to some time the log keeps the pace, and it is on time up to the cycle
 -- after its last move. It notes slots in order, which were done as far as the last move; no point was drawn twice, or
 -- it shows a forgery; nothing is wrong in it, or its reading broke off; and where the bus was prepared the buckets are
--- those that it says. No bucket counts as prepared, or as many as the shape has.
+-- those that it says, and each entry in them has its origin. No bucket counts as prepared, or as many as the shape has.
 pub record IsWantOf (config : Config) (image : Image) (input key : List ℕ) (lent : Lent) : Type 0 where
   pub end : ℕ
   pub pace : KeepsPace config end lent.tap'.log
@@ -70,6 +70,7 @@ pub record IsWantOf (config : Config) (image : Image) (input key : List ℕ) (le
   pub verdict : (verdict_on (keys_from config key) config.stash lent.tap'.log ≡ None)
       ⊎ BreaksOffReading (keys_from config key) config.stash lent.tap'.log
   pub contents : SaysWanting (keys_from config key) lent.tap'.log lent.tap'.mirror ⊎ (lent.tap' ≡ lent.tap)
+  pub origins : HaveOrigins (keys_from config key) lent.tap'.log lent.tap'.mirror ⊎ (lent.tap' ≡ lent.tap)
   pub points : Forgery (keys_from config key) lent.tap'.log ⊎ DrawnOnce lent.tap'.log.events
   pub count : (lent.memory'.count ≡ 0) ⊎ (lent.memory'.count ≡ config.shape.buckets)
 

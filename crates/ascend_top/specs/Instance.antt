@@ -1,10 +1,18 @@
--- Words of which the premises of completeness hold, over any files that have their key.
+-- Words of which the premises of completeness hold, over any files that have their key; and a program, a report and
+-- what they leave, of which the headline holds.
 use Rattle.std.specs.Prelude.{◌≡◌, ℕ, List, [], ◌∷◌, length, codes, Some}
 use Rattle.asc_outside.specs.Host.{Files}
+use Rattle.run_play.specs.Programs.{exit_words}
+use Rattle.run_play.specs.Rows.{small}
+use Rattle.secure_machine.specs.Rows.{IsLoaded, IsSaid}
+use Rattle.secure_machine.specs.declared.report.Ending.{Ending}
+use Rattle.secure_machine.specs.declared.report.Report.{Report}
 use Rattle.ascend_words.specs.Grammar.{Read}
 use Rattle.ascend_words.specs.declared.table.Command.TheVariants.{Gen}
 use Rattle.ascend_words.specs.declared.table.Name.TheVariants.{Key, Output, Seed, Time, Words}
+use Rattle.ascend_top.specs.Lent.{Lent}
 use Rattle.ascend_top.specs.Steps.{key_length}
+use Rattle.ascend_top.specs.declared.commands.flat.Program.{Program}
 
 -- a program of one data word, with as many cycles as there are before the first slot
 abbrev pub short_words : List (List ℕ)
@@ -23,3 +31,31 @@ short_read = record {
 -- the file that they name for the key has the length of one
 abbrev pub HaveKey : Files → Type 0
 HaveKey files = (bytes : List ℕ) × (files (codes "k") ≡ Some bytes) × (length bytes ≡ key_length)
+
+-- a program that exits at once, in a memory of 64 lines, without input
+pub record IsExit (program : Program) : Type 0 where
+  pub config : program.config ≡ small
+  pub image : IsLoaded exit_words program.image
+  pub input : program.input.items ≡ []
+
+-- a report of two instructions and twelve cycles, before the first slot
+pub record IsShort (ending : Ending) (report : Report) : Type 0 where
+  pub said : IsSaid 2 ending report
+  pub cycles : report.cycles ≡ 12
+  pub last : report.last ≡ 12
+  pub fetches : report.fetches ≡ 0
+  pub real : report.real ≡ 0
+  pub dummies : report.dummies ≡ 0
+  pub choices : report.choices ≡ 0
+  pub code : report.code ≡ 0
+
+-- no event is noted, and no reply was altered
+pub record IsQuiet (lent : Lent) : Type 0 where
+  pub events : lent.tap'.log.events ≡ []
+  pub altered : lent.tap'.log.altered ≡ []
+
+-- and no move was made
+pub record IsUnmoved (lent : Lent) : Type 0 where
+  pub quiet : IsQuiet lent
+  pub moves : lent.tap'.log.moves ≡ []
+  pub asked : lent.memory'.moved ≡ lent.memory.moved

@@ -2,16 +2,21 @@
 
 ghost use Rattle.std.specs.Prelude.{◌≡◌, ◌<◌, ◌≤◌, ℕ, List, [], ◌∷◌, Option, Some, IsSome};
 ghost use Rattle.asc_base.specs.Settings.{config_of};
+ghost use Rattle.asc_base.specs.declared.settings.Config.{Config};
 ghost use Rattle.asc_outside.specs.Host.{Files, HostState};
 ghost use Rattle.bus_schedule.specs.Timetable.{public_of};
+ghost use Rattle.bus_watch.specs.declared.log.Move.{Move};
 ghost use Rattle.elf_loader.specs.Elf.{entry_of};
 ghost use Rattle.elf_loader.specs.Faults.{IsFaultless};
 ghost use Rattle.elf_loader.specs.Layout.{image_bytes};
 ghost use Rattle.play_run.specs.Shows.{IsWholePlay};
+ghost use Rattle.run_play.specs.Rows.{small};
 ghost use Rattle.run_play.specs.Slots.{first_pace};
 ghost use Rattle.rv32_asm.specs.File.{file_of};
 ghost use Rattle.secure_machine.specs.Full.{NoSlotIsFull};
 ghost use Rattle.secure_machine.specs.Plays.{play_report};
+ghost use Rattle.secure_machine.specs.declared.report.Ending.TheVariants.{Exit};
+ghost use Rattle.secure_machine.specs.declared.report.Report.{Report};
 ghost use Rattle.ascend_words.specs.Grammar.{IsWords, Pair};
 ghost use Rattle.ascend_words.specs.Settings.{settings_of, text_in};
 ghost use Rattle.ascend_words.specs.declared.table.Command.{Command};
@@ -21,12 +26,14 @@ ghost use Rattle.ascend_top.specs.Command.{AreRight};
 ghost use Rattle.ascend_top.specs.Complete.{HasRoom};
 ghost use Rattle.ascend_top.specs.FlatRun.{file_in};
 ghost use Rattle.ascend_top.specs.EncryptedRun.{keys_from};
-ghost use Rattle.ascend_top.specs.Headline.{RunsEncrypted, program_play};
+ghost use Rattle.ascend_top.specs.Headline.{Headline, IsAlways, IsCutShort, RunsEncrypted, program_play};
 ghost use Rattle.ascend_top.specs.Instance.{HaveKey, short_read, short_words};
+ghost use Rattle.ascend_top.specs.Instance.{IsExit, IsQuiet, IsShort, IsUnmoved};
 ghost use Rattle.ascend_top.specs.Lent.{Lent};
 ghost use Rattle.ascend_top.specs.Run.{IsRun, run_report_steps};
 ghost use Rattle.ascend_top.specs.Steps.{AllDone, PrintsMore};
 ghost use Rattle.ascend_top.specs.Texts.{run_text};
+ghost use Rattle.ascend_top.specs.declared.commands.flat.Program.{Program};
 ghost use Rattle.ascend_top.specs.declared.commands.run.Encrypted.{Encrypted as EncryptedRun};
 
 /// `parse` accepts every file that `assemble` gives, where the program is inside the memory: the memory has the
@@ -83,4 +90,20 @@ pub fn completeness_can_be_met()
     ensures encrypted { RunsEncrypted short_read.command }
     ensures right { (files : Files) → HaveKey files → AreRight short_read files }
     ensures room { (files : Files) → HasRoom short_read.command short_read.given files }
+{}
+
+/// The headline has instances, and its words refuse others. It holds of a program that exits after two instructions, in
+/// twelve cycles and before its first slot, of the report that says so, and of an empty log, whatever the key is; it
+/// holds of no report with another status, where no reply was altered. Where memory ran out before the first slot its
+/// rest holds, up to the time 0. And a move without a slot is in no schedule, whatever the settings and the end time
+/// are.
+pub fn headlines_have_rows()
+    ensures exit { (program : Program) → IsExit program → (key : List ℕ) (lent : Lent) → IsUnmoved lent
+        → (report : Report) → IsShort (Exit 0) report → Headline program key lent report }
+    ensures other_status { (program : Program) → IsExit program → (key : List ℕ) (lent : Lent) → IsQuiet lent
+        → (report : Report) → IsShort (Exit 1) report → Headline program key lent report → ⊥ }
+    ensures cut_short { (program : Program) → program.config ≡ small → (lent : Lent) → IsUnmoved lent
+        → IsCutShort program lent }
+    ensures no_move { (config : Config) (lent : Lent) (end : ℕ) (move : Move) → IsQuiet lent
+        → lent.tap'.log.moves ≡ move ∷ [] → IsAlways config lent end → ⊥ }
 {}

@@ -39,8 +39,8 @@ use ascend_words::{Command, WordFault, Words, read_words};
 use bus_watch::Recorder;
 pub use instance::{Outside, outside_with_key};
 pub use laws::{
-    assembled_files_are_accepted, completeness_can_be_met, reported_runs_leave_their_files,
-    runs_over_honest_memory_are_plays,
+    assembled_files_are_accepted, completeness_can_be_met, headlines_have_rows,
+    reported_runs_leave_their_files, runs_over_honest_memory_are_plays,
 };
 pub use status::{HOST_FAILED, NO_MEMORY};
 use std::alloc::Global;

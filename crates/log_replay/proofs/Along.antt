@@ -19,7 +19,7 @@ use Rattle.log_replay.proofs.Asks.{put_by, put_back, IsWhole, Last, IsBeside, Is
 use Rattle.log_replay.proofs.Ports.{slot_replays, append_replays, answer_replays}
 
 -- a line that is put in the place of another has 64 bytes
-put_whole : (purpose : Purpose) → IsWhole purpose → (value : Line) → purpose ≡ Replace value → length value.0 ≡ 64
+pub put_whole : (purpose : Purpose) → IsWhole purpose → (value : Line) → purpose ≡ Replace value → length value.0 ≡ 64
 put_whole Refill whole value is = absurd (cc)
 put_whole Keep whole value is = absurd (cc)
 put_whole (Replace other) whole value is =

@@ -12,7 +12,8 @@ use Rattle.oram_walk.specs.declared.slots.Seen.{Seen}
 use Rattle.rate_enforcer.specs.PortStep.{PortState}
 use Rattle.log_replay.specs.Judged.{verdict_on}
 use Rattle.log_replay.specs.Replayed.{StopsReplayed}
-use Rattle.log_replay.proofs.Along.{behind_refill, Stays, port_of, one_more, slot_stays, append_stays, answer_stays}
+use Rattle.log_replay.proofs.Along.{put_whole, behind_refill, Stays, port_of, one_more, slot_stays, append_stays}
+use Rattle.log_replay.proofs.Along.{answer_stays}
 use Rattle.log_replay.proofs.Asks.{Last, IsBeside, AsksRightly}
 use Rattle.log_replay.proofs.Ports.{between_replays}
 use Rattle.log_replay.proofs.StopBehind.{append_stops, answer_stops}
@@ -30,6 +31,7 @@ module _ (keys : Keys) (lawful : AreKeys keys) (levels : ℕ) where
         end = Whole;
         ends = inl refl;
         mirror = between_replays keys lawful levels h.notes s port h.rests;
+        always = port.always;
       }
 
   last_stops : (stash : ℕ) (last : Last) (m : Message) (stop : Stop) (s t : PortState)
@@ -50,7 +52,8 @@ module _ (keys : Keys) (lawful : AreKeys keys) (levels : ℕ) where
   along_stops stash P (Done d) last s t stop left asks h stops = absurd stops
   along_stops stash P (Ask (Slot access) b k) last s t stop left asks h (inl stops) =
       subst (λ n. StopsReplayed keys n stop t) h.same
-      (slot_stops keys lawful levels h.notes s t (port_of keys levels last s h.stands) h.rests access stop stops.0)
+      (slot_stops keys lawful levels h.notes s t (port_of keys levels last s h.stands) h.rests access asks.0
+      (put_whole access.purpose asks.1) stop stops.0)
   along_stops stash P (Ask (Append m) b k) last s t stop left asks h (inl stops) =
       last_stops stash last m stop s t h asks.0 stops.0
   along_stops stash P (Ask (Answer number value) b k) last s t stop left asks h (inl stops) =

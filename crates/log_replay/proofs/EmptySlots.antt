@@ -1,7 +1,7 @@
 -- Slots of blocks that were never accessed leave nothing at hand and every bucket empty; so a message that is appended
 -- behind two of them is one too many where none may stay.
-use Rattle.std.proofs.Common.{◌≡◌, ◌<◌, ◌≤◌, ◌+◌, ◌*◌, ◌^◌, ◌==◌, ℕ, zero, suc, Bool, false, List, [], ◌∷◌, ◌++◌, All}
-use Rattle.std.proofs.Common.{map, get_or, set, slice_get, Option, None, Some, Ok, Result, max, refl, sym, ◌∙◌, ap, ap₂}
+use Rattle.std.proofs.Common.{◌≡◌, ◌<◌, ◌≤◌, ◌+◌, ◌^◌, ◌==◌, ℕ, zero, suc, Bool, false, List, [], ◌∷◌, ◌++◌}
+use Rattle.std.proofs.Common.{map, get_or, set, slice_get, Option, None, Some, Ok, refl, sym, ◌∙◌, ap, ap₂}
 use Rattle.std.proofs.Common.{inr, subst, arith, length, is_none, if◌then◌else◌}
 use Rattle.std.specs.List.{range_with_len}
 use Rattle.asc_base.specs.Lookup.{without_first}
@@ -9,14 +9,12 @@ use Rattle.asc_base.specs.TreeShape.{bucket_of}
 use Rattle.asc_base.specs.declared.block.Entry.{Entry}
 use Rattle.asc_base.specs.declared.block.Message.{Message}
 use Rattle.asc_base.specs.declared.block.Point.{Point}
-use Rattle.asc_base.specs.declared.stop.Evidence.{Evidence}
 use Rattle.asc_base.specs.declared.stop.Stop.{Stop}
 use Rattle.asc_base.specs.declared.stop.Stop.TheVariants.{StashFull}
 use Rattle.bucket_codec.specs.Bucket.{opened, empty_slots, bucket_text}
-use Rattle.bus_watch.specs.declared.log.Altered.{Altered}
 use Rattle.bus_watch.specs.declared.log.Event.{Event}
 use Rattle.bus_watch.specs.declared.log.Event.TheVariants.{Access, Drawn, Tagged}
-use Rattle.oram_contents.specs.Contents.{Contents, after_write}
+use Rattle.oram_contents.specs.Contents.{after_write}
 use Rattle.oram_contents.specs.Entries.{Keys, real}
 use Rattle.oram_contents.specs.Fold.{Fold, settled, settle, after_event, hand_after, is_open_for}
 use Rattle.oram_contents.specs.PathRead.{then_join, join_bucket, join_buckets, path_read, replies}
@@ -25,13 +23,12 @@ use Rattle.oram_contents.specs.Shapes.{AreOfShape}
 use Rattle.oram_contents.specs.Slots.{drawn_events}
 use Rattle.oram_contents.specs.Starts.{first_fold}
 use Rattle.oram_contents.specs.Verdict.{event_verdict, first_of, open_verdict, read_verdict, append_verdict}
-use Rattle.oram_contents.specs.Verdict.{judged}
 use Rattle.oram_contents.proofs.ContentsLaws.{opened-sealed}
 use Rattle.oram_stash.specs.Entries.{held, without}
 use Rattle.path_evict.specs.Placed.{where_placed}
 use Rattle.path_evict.specs.Placement.{stands_at}
 use Rattle.posmap_counters.specs.Counters.{first_counter}
-use Rattle.log_replay.specs.Judged.{IsFirstVerdict, verdict_on}
+use Rattle.log_replay.specs.Judged.{IsFirstVerdict}
 use Rattle.log_replay.specs.Rows.{log_of}
 use Rattle.log_replay.proofs.FirstReads.{opens_empty}
 use Rattle.log_replay.proofs.Rests.{write_right}
@@ -94,14 +91,14 @@ module _ (keys : Keys) (few_levels : keys.shape.levels ≤ 17) where
       none_of_shape : AreOfShape keys.shape []
       none_of_shape k e less = absurd (omega (arith, less))
 
-  -- nothing is at hand, and each bucket is empty; the next seed is one, or one of the first few
-  record IsBlank (f : Fold) (most : ℕ) : Type 0 where
+  -- nothing is at hand, and each bucket is empty; the next seed is one from 1 on, up to so many
+  pub record IsBlank (f : Fold) (most : ℕ) : Type 0 where
     pub hand : f.now.hand ≡ []
     pub mirror : AreEmpty f.now.mirror
     pub some : 0 < f.now.seed
     pub few : f.now.seed ≤ most
 
-  start_blank : IsBlank (first_fold keys) 1
+  pub start_blank : IsBlank (first_fold keys) 1
   start_blank = record {
     hand = refl;
     mirror = λ b. opens_empty keys keys.shape.buckets b;
@@ -109,7 +106,7 @@ module _ (keys : Keys) (few_levels : keys.shape.levels ≤ 17) where
     few = omega arith;
   }
 
-  settle_blank : (f : Fold) (most : ℕ) → most ≤ 100 → IsBlank f most → IsBlank (settle keys f) (most + 18)
+  pub settle_blank : (f : Fold) (most : ℕ) → most ≤ 2 ^ 62 → IsBlank f most → IsBlank (settle keys f) (most + 18)
   settle_blank f most small blank = by_path f.path
     where
       by_path : (path : Option (Point × ℕ))
@@ -132,7 +129,7 @@ module _ (keys : Keys) (few_levels : keys.shape.levels ≤ 17) where
       }
 
   -- its open path can be written
-  open_blank : (stash most : ℕ) (f : Fold) → IsBlank f most → open_verdict keys stash f.path f.now ≡ None
+  pub open_blank : (stash most : ℕ) (f : Fold) → IsBlank f most → open_verdict keys stash f.path f.now ≡ None
   open_blank stash most f blank = by_path f.path
     where
       by_path : (path : Option (Point × ℕ)) → open_verdict keys stash path f.now ≡ None
@@ -140,11 +137,12 @@ module _ (keys : Keys) (few_levels : keys.shape.levels ≤ 17) where
       by_path (Some (p, leaf)) =
           let none : stays keys.shape.levels leaf f.now.hand ≡ [] =
           ap (stays keys.shape.levels leaf) blank.hand ∙ none_placed is_none (places_of keys.shape.levels leaf []) in
-          let few : length (stays keys.shape.levels leaf f.now.hand) ≡ 0 = ap (λ (hand : List Entry). length hand) none in
+          let few : length (stays keys.shape.levels leaf f.now.hand) ≡ 0 =
+          ap (λ (hand : List Entry). length hand) none in
           write_right keys stash leaf f.now.hand (omega (arith, few))
 
   -- and a path is read to nothing
-  read_blank : (f : Fold) (most leaf : ℕ) → IsBlank f most
+  pub read_blank : (f : Fold) (most leaf : ℕ) → IsBlank f most
       → path_read keys.pads keys.shape leaf (replies keys.shape.levels f.start leaf f.now.mirror []) f.now.hand ≡ Ok []
   read_blank f most leaf blank =
       ap (path_read keys.pads keys.shape leaf (replies keys.shape.levels f.start leaf f.now.mirror [])) blank.hand
@@ -152,7 +150,7 @@ module _ (keys : Keys) (few_levels : keys.shape.levels ≤ 17) where
       (λ level. blank.mirror (bucket_of keys.shape.levels leaf level)) 0 (keys.shape.levels + 1)
 
   -- a slot of a block that was never accessed, in the events of which nothing is wrong, and after which it is so again
-  after_access : (f : Fold) (most start n : ℕ) (asked : Option ℕ) → most ≤ 100 → IsBlank f most
+  pub after_access : (f : Fold) (most start n : ℕ) (asked : Option ℕ) → most ≤ 2 ^ 62 → IsBlank f most
       → IsBlank (after_event keys [] n (Access start asked) f) (most + 18)
   after_access f most start n asked small blank =
       let settled = settle_blank f most small blank in record {
@@ -162,7 +160,7 @@ module _ (keys : Keys) (few_levels : keys.shape.levels ≤ 17) where
         few = settled.few;
       }
 
-  after_first : (f : Fold) (most a leaf n : ℕ) → most ≤ 100 → IsBlank f most
+  after_first : (f : Fold) (most a leaf n : ℕ) → most ≤ 2 ^ 62 → IsBlank f most
       → IsBlank (after_event keys [] n (Drawn (real a first_counter) (record { 0 = leaf })) f) (most + 18)
   unfolding without without_first
   after_first f most a leaf n small blank =
@@ -178,7 +176,7 @@ module _ (keys : Keys) (few_levels : keys.shape.levels ≤ 17) where
       → event_verdict keys stash [] n (Access start asked) f ≡ None
   access_right stash most start n f asked blank = open_blank stash most f blank
 
-  first_right : (stash most a leaf n : ℕ) (f : Fold) → most ≤ 100 → IsBlank f most
+  first_right : (stash most a leaf n : ℕ) (f : Fold) → most ≤ 2 ^ 62 → IsBlank f most
       → event_verdict keys stash [] n (Drawn (real a first_counter) (record { 0 = leaf })) f ≡ None
   unfolding held
   first_right stash most a leaf n f small blank =
@@ -187,7 +185,7 @@ module _ (keys : Keys) (few_levels : keys.shape.levels ≤ 17) where
       (read_blank (settle keys f) (most + 18) leaf (settle_blank f most small blank)))
 
   -- a message that is appended behind it is one too many
-  append_full : (most a leaf n : ℕ) (m : Message) (f : Fold) → most ≤ 100 → IsBlank f most
+  append_full : (most a leaf n : ℕ) (m : Message) (f : Fold) → most ≤ 2 ^ 62 → IsBlank f most
       → f.path ≡ Some (real a first_counter, leaf) → (a == m.address.0) ≡ false
       → event_verdict keys 0 [] n (Tagged m) f ≡ Some (StashFull 1)
   unfolding held

@@ -10,6 +10,8 @@ pub mod Ports
 pub mod PortStarts
 pub mod StopShows
 pub mod StopMoves
+pub mod Seeds
+pub mod StopAlways
 pub mod StopLogs
 pub mod StopPorts
 pub mod StopSlots
@@ -32,3 +34,5 @@ mod ForgedRows
 pub mod ReadBacks
 pub mod AgainRows
 pub mod EmptySlots
+pub mod UntaggedLogs
+pub mod FewEntries

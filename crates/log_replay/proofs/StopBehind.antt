@@ -18,6 +18,8 @@ use Rattle.oram_contents.specs.Fold.{Fold, Whole, settle, joined_by, fold_events
 use Rattle.oram_contents.specs.Fold.{written_ok, partly}
 use Rattle.oram_contents.specs.Starts.{first_fold}
 use Rattle.oram_contents.specs.Verdict.{first_of, append_verdict}
+use Rattle.oram_contents.specs.Provenance.{Always}
+use Rattle.oram_contents.proofs.Access.{refused_always}
 use Rattle.oram_contents.proofs.Folding.{fold_append}
 use Rattle.oram_contents.proofs.VerdictLaws.{append_shows}
 use Rattle.oram_frontend.specs.Access.{SlotStep}
@@ -28,10 +30,11 @@ use Rattle.unified_tree.specs.Tree.{TreeState}
 use Rattle.log_replay.specs.Judged.{IsBeforeLast, IsFirstVerdict, ShowsStop, EndsLog, SaysMirror}
 use Rattle.log_replay.specs.LastSlot.{AreDoneToAppend, AreDoneBy}
 use Rattle.log_replay.specs.Order.{Appends, LogOrder}
-use Rattle.log_replay.specs.Replayed.{IsBehindSlot, StopsReplayed}
+use Rattle.log_replay.specs.Replayed.{IsBehindSlot, StopsReplayed, left_by}
 use Rattle.log_replay.proofs.Behinds.{stood, behind_done, behind_order}
 use Rattle.log_replay.proofs.BlockSlots.{IsBehindBlock}
 use Rattle.log_replay.proofs.Ports.{behind_of}
+use Rattle.log_replay.proofs.StopAlways.{free_always}
 use Rattle.log_replay.proofs.StopLogs.{LogStops}
 use Rattle.log_replay.proofs.StopPorts.{stops_at}
 
@@ -108,27 +111,36 @@ module _ (keys : Keys) where
       behind = refl;
     }
 
-    joins_left : (stop : Stop) → append_verdict stash m.address now.hand ≡ Some stop
-        → LogStops keys stash stop new now.mirror
-    joins_left stop wrong = by_kind (append_kinds stash m.address now.hand stop wrong)
+    joins_left : (after : Contents) → after.mirror ≡ now.mirror → after.seed ≡ now.seed → (stop : Stop)
+        → append_verdict stash m.address now.hand ≡ Some stop → LogStops keys stash stop new after
+    joins_left after mirror seed stop wrong = by_kind (append_kinds stash m.address now.hand stop wrong)
       where
+        kept : Always keys new (record after { hand = [] })
+        kept =
+            free_always keys new now after mirror seed
+            (refused_always keys old new now m
+            (record { events_are = events; altered_are = altered ∙ sym (append-nil old.altered) })
+            x.replayed.always)
+
         stops : (how : Stop) → stop ≡ how → AreDoneBy keys how new in_order.slots → ShowsStop keys stash how new
-            → EndsLog how Whole → LogStops keys stash stop new now.mirror
-        stops how is done shows ends =
-            subst (λ h. LogStops keys stash h new now.mirror) (sym is) (record {
+            → EndsLog how Whole → Always keys new (left_by how after) → LogStops keys stash stop new after
+        stops how is done shows ends always =
+            subst (λ h. LogStops keys stash h new after) (sym is) (record {
               slots = record { order = in_order; done = done };
               shows = shows;
               end = Whole;
               ends = ends;
-              says = says;
+              says = says ∙ sym mirror;
+              always = always;
             })
 
         by_kind : ((evidence : Evidence) × (stop ≡ Integrity evidence)) ⊎ ((held : ℕ) × (stop ≡ StashFull held))
-            → LogStops keys stash stop new now.mirror
+            → LogStops keys stash stop new after
         by_kind (inl (evidence, is)) =
             stops (Integrity evidence) is (inr appended) (shown (Integrity evidence) (wrong ∙ ap Some is)) refl
+            kept
         by_kind (inr (held, is)) =
-            stops (StashFull held) is (inr appended) (shown (StashFull held) (wrong ∙ ap Some is)) refl
+            stops (StashFull held) is (inr appended) (shown (StashFull held) (wrong ∙ ap Some is)) refl kept
 
   module _ (levels notes a : ℕ) (line : List ℕ) (old new : PortState) (behind : IsBehindSlot keys a line None old)
       (rests : Resting (notes + 1) levels old) where
@@ -148,11 +160,12 @@ module _ (keys : Keys) where
         ap (λ (t : TapState). t.mirror) stopped.tap ∙ noted.mirror in
         let wrong : append_verdict old.tree.stash m.address old.tree.hand ≡ Some stop =
         ap (λ (t : TreeState). append_verdict t.stash m.address t.hand) (sym noted.tree) ∙ stopped.wrong in
+        let seed : new.tree.seed ≡ old.tree.seed =
+        stopped.seed ∙ ap (λ (t : TreeState). t.seed) noted.tree in
         stops_at keys old.tree.stash stop new
-        (subst (λ b. LogStops keys old.tree.stash stop new.tap.log b) (sym mirror)
         (joins_left old.tree.stash old.tap.log new.tap.log (contents old) old.clock.dummies a line m
         (behind_of keys a line None old behind) other (ap (λ (l : LogLists). l.events) log)
-        (ap (λ (l : LogLists). l.altered) log) stop wrong))
+        (ap (λ (l : LogLists). l.altered) log) (contents new) mirror seed stop wrong)
     append_stops m stop other (inr (inr (x, one, note, inr (y, two, join, left)))) = absurd left
 
   -- An answer isn't stopped.

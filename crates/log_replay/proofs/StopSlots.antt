@@ -1,6 +1,6 @@
 -- What a stopped access leaves, from the port's calls that it is made of.
-use Rattle.std.proofs.Common.{◌≡◌, ◌+◌, ◌-◌, ◌++◌, inl, inr, ℕ, List, [], ◌∷◌, Option, None, Some, Ok, Err, refl, sym}
-use Rattle.std.proofs.Common.{◌∙◌, ap, subst, subst₂, arith, append-nil}
+use Rattle.std.proofs.Common.{◌≡◌, ◌<◌, ◌+◌, ◌-◌, ◌++◌, inl, inr, ℕ, List, [], ◌∷◌, length, Option, None, Some, Ok}
+use Rattle.std.proofs.Common.{Err, refl, sym, ◌∙◌, ap, subst, subst₂, arith, append-nil}
 use Rattle.request_plan.specs.Plan.{Ends, Stops, Refuses}
 use Rattle.request_plan.proofs.Chains.{Ends-unbind, Stops-unbind}
 use Rattle.asc_base.specs.declared.block.Entry.{Entry}
@@ -16,7 +16,7 @@ use Rattle.asc_base.specs.declared.stop.Stop.TheVariants.{Integrity}
 use Rattle.bus_schedule.specs.Schedule.{moves_of}
 use Rattle.bus_schedule.specs.Scheduled.{log_code}
 use Rattle.bus_schedule.specs.Timetable.{public_of, starts}
-use Rattle.bus_watch.specs.Log.{TapState}
+use Rattle.bus_watch.specs.Log.{LogLists, TapState}
 use Rattle.bus_watch.specs.Path.{reads}
 use Rattle.bus_watch.specs.declared.log.Event.{Event}
 use Rattle.bus_watch.specs.declared.log.Event.TheVariants.{Tagged}
@@ -24,6 +24,7 @@ use Rattle.bus_watch.specs.declared.log.Move.{Move}
 use Rattle.oram_contents.specs.Contents.{Contents}
 use Rattle.oram_contents.specs.Entries.{Keys, AreKeys}
 use Rattle.oram_contents.specs.Fold.{tagged_entry}
+use Rattle.oram_contents.specs.Provenance.{Always}
 use Rattle.oram_contents.specs.Slots.{drawn_events}
 use Rattle.oram_contents.specs.Steps.{accepted}
 use Rattle.oram_contents.specs.Verdict.{integrity, judged, read_verdict, put_events, put_entries, IsOfPoint}
@@ -41,8 +42,11 @@ use Rattle.rate_enforcer.specs.Breaks.{Begins, WriteStops}
 use Rattle.rate_enforcer.specs.PortStep.{PortState, PortStep, Resting, InSlot, Opened, Taken, Aborted, CloseStopped}
 use Rattle.rate_enforcer.specs.PortStep.{contents}
 use Rattle.rate_enforcer.specs.Served.{IsServed}
+use Rattle.unified_tree.specs.Tree.{TreeState}
 use Rattle.unified_tree.specs.declared.stop.OpenPath.{OpenPath}
 use Rattle.log_replay.specs.Replayed.{IsReplayedPort, StopsReplayed}
+use Rattle.log_replay.proofs.BlockSlots.{found_whole}
+use Rattle.log_replay.proofs.StopAlways.{taken_always, put_always}
 use Rattle.log_replay.proofs.StopLogs.{LogStops, wrong_stops, writes_stop}
 use Rattle.log_replay.proofs.StopPorts.{stops_at, behind_dummies, open_stops}
 
@@ -62,7 +66,9 @@ slot_reads keys notes levels leaf s fits slot =
     )
 
 module _ (keys : Keys) (lawful : AreKeys keys) (levels notes : ℕ) (old new : PortState)
-    (known : IsReplayedPort keys old) (rests : Resting notes levels old) (access : Access) where
+    (known : IsReplayedPort keys old) (rests : Resting notes levels old) (access : Access)
+    (inside : access.address.0 < keys.shape.total)
+    (wide : (value : Line) → access.purpose ≡ Replace value → length value.0 ≡ 64) where
   abbrev stash : ℕ
   stash = old.tree.stash
 
@@ -100,22 +106,26 @@ module _ (keys : Keys) (lawful : AreKeys keys) (levels notes : ℕ) (old new : P
         (opened.in_slot notes rests) in
         let read_wrong : read_verdict keys point (Ok one.tree.hand) ≡ Some (Integrity evidence) =
         ap integrity (ap (judged keys access.address.0 access.counter) (sym took.found_is) ∙ wrong) in
-        let here : LogStops keys old.tree.stash (Integrity evidence) one.tap.log served.between.mirror =
+        let same : new.tap ≡ one.tap = a.tap ∙ took.others.tap in
+        let mirror : new.tap.mirror ≡ served.between.mirror =
+        ap (λ (t : TapState). t.mirror) same ∙ ap (λ (c : Contents). c.mirror) served.after_is in
+        let seed : new.tree.seed ≡ served.between.seed =
+        ap (λ (t : TreeState). t.seed) a.tree ∙ took.others.seed ∙ ap (λ (c : Contents). c.seed) served.after_is in
+        let here : LogStops keys old.tree.stash (Integrity evidence) one.tap.log (contents new) =
         wrong_stops keys old.tree.stash served.mid served.between (old.clock.dummies + k) base one.clock.next
         (Some access.asked) point (access.asked, refl) one.tap.log begins evidence one.tree.hand before
-        served.read.read read_wrong moves in
-        let same : one.tap ≡ new.tap = sym (a.tap ∙ took.others.tap) in
+        (contents new) served.read.read read_wrong moves mirror seed in
         stops_at keys old.tree.stash (Integrity evidence) new
-        (subst (λ (t : TapState). LogStops keys old.tree.stash (Integrity evidence) t.log t.mirror) same
-        (subst (λ m. LogStops keys old.tree.stash (Integrity evidence) one.tap.log m)
-        (sym (ap (λ (c : Contents). c.mirror) served.after_is)) here))
+        (subst (λ (l : LogLists). LogStops keys old.tree.stash (Integrity evidence) l (contents new))
+        (sym (ap (λ (t : TapState). t.log) same)) here)
 
   -- ---- its writes are stopped
   module _ (found : Option Entry) (put : Option Message) (s : PortState) (later : List Event) (back : List Entry)
       (u : Under keys levels access found old s later back) (least : ℕ)
       (open_for : IsOpenFor keys levels access least s)
       (later_is : later ≡ accepted access.address.0 access.counter found ++ (put_events put ++ []))
-      (back_is : back ≡ put_entries keys put) (put_of : IsOfPoint put point) where
+      (back_is : back ≡ put_entries keys put) (put_of : IsOfPoint put point)
+      (at_hand : Always keys s.tap.log (contents s)) where
     path_is : (path : OpenPath) → s.tree.path ≡ Some path
         → (path.start ≡ u.start) × (path.leaf.0 ≡ keys.leaf_of point)
     path_is path on =
@@ -154,10 +164,13 @@ module _ (keys : Keys) (lawful : AreKeys keys) (levels notes : ℕ) (old new : P
         u.noted u.read
         (ap (λ f. integrity (judged keys access.address.0 access.counter f)) u.found_is ∙ ap integrity u.right)
         (u.found_is, u.right, tt) put_of before
-        (moves ∙ ap (λ n. before ++ reads keys.shape.levels n (keys.leaf_of point)) u.next) stop (contents s)
-        (contents new)
-        (u.contents_are ∙ ap (λ b. record u.between { hand = without u.joined access.address ++ b }) back_is)
+        (moves ∙ ap (λ n. before ++ reads keys.shape.levels n (keys.leaf_of point)) u.next) lawful u.seeds
+        (subst (λ (c : Contents). Always keys s.tap.log c) left at_hand) stop (contents s) (contents new) left
         new.tap.log (breaks stop h))
+      where
+        left : contents s
+            ≡ record u.between { hand = without u.joined access.address ++ put_entries keys put }
+        left = u.contents_are ∙ ap (λ b. record u.between { hand = without u.joined access.address ++ b }) back_is
 
   -- ---- the rest of a slot in which nothing is wrong
   finish_gives : (found : Option Entry) (s : PortState) (stop : Stop)
@@ -199,37 +212,60 @@ module _ (keys : Keys) (lawful : AreKeys keys) (levels notes : ℕ) (old new : P
     close_by : (put : Option Message) (s : PortState) (later : List Event) (back : List Entry)
         → Under keys levels access found old s later back → (least : ℕ) → IsOpenFor keys levels access least s
         → later ≡ accepted access.address.0 access.counter found ++ (put_events put ++ [])
-        → back ≡ put_entries keys put → IsOfPoint put point
+        → back ≡ put_entries keys put → IsOfPoint put point → Always keys s.tap.log (contents s)
         → Stops (PortStep keys.leaf_of levels) (close_plan keys (found_line found)) s new stop tt
         → StopsReplayed keys old.tree.stash stop new
-    close_by put s later back u least open_for later_is back_is put_of (inl one) =
-        close_left found put s later back u least open_for later_is back_is put_of stop one.0
-    close_by put s later back u least open_for later_is back_is put_of (inr (x, m, one, none)) = absurd none
+    close_by put s later back u least open_for later_is back_is put_of at_hand (inl one) =
+        close_left found put s later back u least open_for later_is back_is put_of at_hand stop one.0
+    close_by put s later back u least open_for later_is back_is put_of at_hand (inr (x, m, one, none)) = absurd none
 
-    put_by : (line : Line) (s t : PortState) (x : Unit {0})
+    -- what holds always where a slot is under way
+    always_under : (s : PortState) (later : List Event) (back : List Entry)
+        → (u : Under keys levels access found old s later back) → Always keys u.mid u.between
+    always_under s later back u =
+        (behind_dummies keys lawful levels notes old new known rests u.passed u.mid u.between u.passes u.few).always
+
+    put_by : (line : Line) → length line.0 ≡ 64 → (s t : PortState) (x : Unit {0})
         → Ends (PortStep keys.leaf_of levels) (put_plan keys (next_message access line)) s t x
         → Stops (PortStep keys.leaf_of levels) (close_plan keys (found_line found)) t new stop tt
         → IsOpenFor keys levels access (notes + 1 + 1) s
         → Under keys levels access found old s (accepted access.address.0 access.counter found) []
         → StopsReplayed keys old.tree.stash stop new
-    put_by line s t x back close open_for u =
+    put_by line wide s t x back close open_for u =
         let message : Message = next_message access line in
-        close_by (Some message) t (noted ++ Tagged message ∷ []) (tagged_entry keys message ∷ [])
-        (put_back_on keys levels access found old s t noted message x back u) (notes + 1)
-        (open_put keys levels access message (notes + 1) s t x back open_for) refl refl refl close
+        let after : Under keys levels access found old t (noted ++ Tagged message ∷ [])
+        (tagged_entry keys message ∷ []) =
+        put_back_on keys levels access found old s t noted message x back u in
+        close_by (Some message) t (noted ++ Tagged message ∷ []) (tagged_entry keys message ∷ []) after (notes + 1)
+        (open_put keys levels access message (notes + 1) s t x back open_for) refl refl refl
+        (subst (λ (c : Contents). Always keys t.tap.log c) (sym after.contents_are)
+        (put_always keys lawful after.mid t.tap.log after.between after.start access.address.0 (Some access.asked)
+        access.counter found after.altered after.joined after.altered_are after.noted after.read after.of_shape
+        after.found_is after.right
+        (always_under t (noted ++ Tagged message ∷ []) (tagged_entry keys message ∷ []) after)
+        access.next line.0 inside wide after.events_are)) close
 
-    close_after : (purpose : Purpose) (s t : PortState) (x : Unit {0})
+    close_after : (purpose : Purpose) → access.purpose ≡ purpose → (s t : PortState) (x : Unit {0})
         → Ends (PortStep keys.leaf_of levels) (back_plan keys access (found_line found) purpose) s t x
         → Stops (PortStep keys.leaf_of levels) (close_plan keys (found_line found)) t new stop tt
         → IsOpenFor keys levels access (notes + 1 + 1) s
         → Under keys levels access found old s (accepted access.address.0 access.counter found) []
         → StopsReplayed keys old.tree.stash stop new
-    close_after Refill s t x back close open_for u =
+    close_after Refill is s t x back close open_for u =
         close_by None s noted [] u (notes + 1 + 1) open_for (sym (append-nil noted)) refl tt
+        (subst (λ (c : Contents). Always keys s.tap.log c)
+        (sym (u.contents_are ∙ ap (λ (h : List Entry). record u.between { hand = h })
+        (append-nil (without u.joined access.address))))
+        (taken_always keys lawful u.mid s.tap.log u.between u.start access.address.0 (Some access.asked)
+        access.counter found u.altered u.joined u.altered_are u.noted u.read u.of_shape u.found_is u.right
+        (always_under s noted [] u) u.events_are))
         (subst (λ v. Stops (PortStep keys.leaf_of levels) (close_plan keys (found_line found)) v new stop tt) back.1
         close)
-    close_after Keep s t x back close open_for u = put_by (found_line found) s t x back close open_for u
-    close_after (Replace value) s t x back close open_for u = put_by value s t x back close open_for u
+    close_after Keep is s t x back close open_for u =
+        put_by (found_line found) (found_whole keys u.joined access.address.0 found u.of_shape u.found_is) s t x back
+        close open_for u
+    close_after (Replace value) is s t x back close open_for u =
+        put_by value (wide value is) s t x back close open_for u
 
     finish_left : (one two : PortState) → Opened keys.leaf_of levels access.asked point old one
         → Taken keys.leaf_of levels access.address found one two
@@ -246,7 +282,7 @@ module _ (keys : Keys) (lawful : AreKeys keys) (levels notes : ℕ) (old new : P
               (back_plan keys access (found_line found) access.purpose) _ s new stop tt rest) [
                 | inl back ↦ absurd (back_passes (found_line found) access.purpose s new stop back.1)
                 | inr (y, t, back, close) ↦
-                    close_after access.purpose s t y back close
+                    close_after access.purpose refl s t y back close
                     (open_accepted keys levels access found (notes + 1 + 1) two s x first (
                       notes + 3,
                       omega arith,

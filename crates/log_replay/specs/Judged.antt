@@ -1,6 +1,8 @@
 -- What a log says of the stop that ended it, and of the buckets then.
 use Rattle.std.specs.Prelude.{◌≡◌, ◌≤◌, ◌+◌, ◌⊎◌, ℕ, false, List, [], ◌∷◌, ◌++◌, length, All, Option, None, Some}
 use Rattle.std.specs.List.{count_by}
+use Rattle.asc_base.specs.Has.{Has}
+use Rattle.asc_base.specs.declared.block.Entry.{Entry}
 use Rattle.asc_base.specs.declared.block.Leaf.{Leaf}
 use Rattle.asc_base.specs.declared.block.Message.{Message}
 use Rattle.asc_base.specs.declared.block.Point.{Point}
@@ -12,8 +14,9 @@ use Rattle.bus_watch.specs.declared.log.Altered.{Altered}
 use Rattle.bus_watch.specs.declared.log.Event.{Event}
 use Rattle.bus_watch.specs.declared.log.Event.TheVariants.{Access, Drawn, Tagged}
 use Rattle.oram_contents.specs.Decided.{draws}
-use Rattle.oram_contents.specs.Entries.{Keys}
+use Rattle.oram_contents.specs.Entries.{Keys, entries_at, OnPath}
 use Rattle.oram_contents.specs.Fold.{LogEnd, Whole, LastFailed, RanOut, contents_of_log}
+use Rattle.oram_contents.specs.Provenance.{Came}
 use Rattle.oram_contents.specs.Starts.{first_fold}
 use Rattle.oram_contents.specs.Steps.{Adds}
 use Rattle.oram_contents.specs.Verdict.{log_verdict}
@@ -86,3 +89,10 @@ EndsLog NoMemory end = (end ≡ Whole) ⊎ (end ≡ RanOut)
 -- gave it then, under a seed that counts the buckets written until then, from 1; and zero bytes where it never was.
 abbrev pub SaysMirror : Keys → LogLists → LogEnd → List (List ℕ) → Type 0
 SaysMirror keys log end mirror = (contents_of_log keys (first_fold keys) log end).mirror ≡ mirror
+
+-- Each entry in these buckets stands on the path of its leaf, and came to stand there as the log notes: a message with
+-- its address, line and tag was tagged, or it stood in an altered reply.
+pub record HaveOrigins (keys : Keys) (log : LogLists) (mirror : List (List ℕ)) : Type 0 where
+  pub placed : (bucket : ℕ) (e : Entry) → Has e (entries_at keys mirror bucket)
+      → OnPath keys.shape.levels e.leaf.0 bucket
+  pub came : (bucket : ℕ) (e : Entry) → Has e (entries_at keys mirror bucket) → Came keys log e

@@ -3,4 +3,5 @@ pub mod LastSlot
 pub mod Judged
 pub mod Replayed
 pub mod Given
+pub mod Few
 pub mod Rows

@@ -5,6 +5,8 @@ use Rattle.std.specs.List.{count_by}
 use Rattle.asc_base.specs.declared.block.Counter.{Counter}
 use Rattle.asc_base.specs.declared.block.Message.{Message}
 use Rattle.asc_base.specs.declared.stop.Stop.{Stop}
+use Rattle.asc_base.specs.declared.stop.Stop.TheVariants.{Integrity, StashFull, TimeUp, Device, NoMemory}
+use Rattle.oram_contents.specs.Contents.{Contents}
 use Rattle.oram_contents.specs.Entries.{Keys, real}
 use Rattle.oram_contents.specs.Fold.{LogEnd, is_open_for, fold_events, whole}
 use Rattle.oram_contents.specs.Provenance.{Always}
@@ -52,11 +54,21 @@ pub record IsReplayed (keys : Keys) (o : OramState) : Type 0 where
   pub room : 1 ≤ o.front.plb
   pub port : IsReplayedPort keys o.port
 
+-- Hand and buckets as a stop leaves them. After evidence and a full stash the hand is left free: no entry of it is used
+-- any more.
+abbrev pub left_by : Stop → Contents → Contents
+left_by (Integrity evidence) now = record now { hand = [] }
+left_by (StashFull held) now = record now { hand = [] }
+left_by (TimeUp at) now = now
+left_by Device now = now
+left_by NoMemory now = now
+
 -- What a stop leaves: the log notes slots in order, which were done as far as the stop says, shows the stop, and says
--- the buckets.
+-- the buckets, of which holds what holds always.
 pub record StopsReplayed (keys : Keys) (stash : ℕ) (stop : Stop) (s : PortState) : Type 0 where
   pub slots : StopsInOrder keys stop s.tap.log
   pub shows : ShowsStop keys stash stop s.tap.log
   pub end : LogEnd
   pub ends : EndsLog stop end
   pub mirror : SaysMirror keys s.tap.log end s.tap.mirror
+  pub always : Always keys s.tap.log (left_by stop (contents s))

@@ -1,6 +1,6 @@
--- A play whose log shows a full stash: behind two slots that leave nothing at hand a message is appended, where none may
--- stay.
-use Rattle.std.proofs.Common.{◌≡◌, ◌≤◌, ℕ, Some, List, [], ◌∷◌, ◌++◌, refl, sym, ◌∙◌, ap, subst, arith}
+-- A play whose log shows a full stash: behind two slots that leave nothing at hand a message is appended, where none
+-- may stay.
+use Rattle.std.proofs.Common.{◌≡◌, Some, List, [], ◌∷◌, ◌++◌, refl, sym, ◌∙◌, ap, subst, arith}
 use Rattle.std.proofs.Common.{map, replicate}
 use Rattle.asc_base.specs.Greatest.{greatest}
 use Rattle.asc_base.specs.Lookup.{without_first, promoted_first}
@@ -11,7 +11,6 @@ use Rattle.asc_base.specs.declared.shape.Shape.{Shape}
 use Rattle.asc_base.specs.declared.stop.Stop.TheVariants.{StashFull}
 use Rattle.bus_schedule.specs.Shown.{code_of}
 use Rattle.bus_schedule.specs.Timetable.{bits_of, most_of, epoch_at}
-use Rattle.bus_watch.specs.Log.{LogLists}
 use Rattle.log_replay.specs.Judged.{IsFirstVerdict, verdict_on}
 use Rattle.log_replay.proofs.EmptySlots.{appended_full}
 use Rattle.oram_contents.specs.Entries.{Keys}
@@ -64,5 +63,6 @@ module _ (keys : Keys) (shape : keys.shape ≡ without_stash.shape) where
 
   pub full : NoSlotIsFull keys 0 (play_at without_stash 0 load_words) → ⊥
   full room = room 2 (AppendOverfull 1) 1 refl
-      (ap (λ n. verdict_on keys 0 (log_of keys (halt n (play_at without_stash 0 load_words) 2 (AppendOverfull 1)))) levels
+      (ap (λ n. verdict_on keys 0 (log_of keys (halt n (play_at without_stash 0 load_words) 2 (AppendOverfull 1))))
+      levels
       ∙ stops.wrong)

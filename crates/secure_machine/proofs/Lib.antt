@@ -26,3 +26,9 @@ pub mod Full
 pub mod HomeEnds
 pub mod Roomy
 pub mod FullPlays
+pub mod UntaggedPlays
+pub mod ShortPlays
+pub mod EndingRows
+pub mod FlatRows
+pub mod FedRows
+pub mod ExitPlay

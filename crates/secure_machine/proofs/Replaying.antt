@@ -15,11 +15,12 @@ use Rattle.log_replay.specs.Judged.{verdict_on, ShowsStop, EndsLog, SaysMirror}
 use Rattle.log_replay.specs.LastSlot.{StopsInOrder}
 use Rattle.log_replay.specs.Order.{LogOrder}
 use Rattle.log_replay.specs.Replayed.{IsReplayed, StopsReplayed}
+use Rattle.log_replay.proofs.StopAlways.{origins_of, origins_left}
 use Rattle.oram_contents.specs.Entries.{Keys}
 use Rattle.oram_contents.specs.Fold.{LogEnd, Whole}
 use Rattle.oram_frontend.specs.Oram.{OramState, Fetch as OramFetch, Store as OramStore}
 use Rattle.play_run.specs.Timed.{TimedState, TimedStep, CanAsk}
-use Rattle.rate_enforcer.specs.PortStep.{PortState, Resting}
+use Rattle.rate_enforcer.specs.PortStep.{PortState, Resting, contents}
 use Rattle.secure_machine.specs.Finish.{IsOwnEnding}
 use Rattle.secure_machine.specs.FlatEnds.{ending_by}
 use Rattle.secure_machine.specs.Judged.{ShowsEnding, AreDoneAt, EndsInOrder, EndsReplayed, WantsReplayed, log_end}
@@ -74,6 +75,7 @@ own_replayed keys levels budget time instructions cycles until ending o calls no
       shows = shows;
       mirror = subst (λ (x : LogEnd). SaysMirror keys o.port.tap.log x o.port.tap.mirror) (sym end)
           (calls.between o now rests);
+      origins = origins_of keys o.port.tap.log (contents o.port) now.port.always;
     }
 
     by : (ending : Ending) → IsOwnEnding budget time instructions cycles until ending
@@ -97,6 +99,7 @@ stop_replayed keys stash stop ending s named h = by stop h.slots h.shows h.ends 
       slots = slots;
       shows = shows;
       mirror = subst (λ (x : LogEnd). SaysMirror keys s.tap.log x s.tap.mirror) end h.mirror;
+      origins = origins_left keys s.tap.log stop (contents s) h.always;
     })
 
     by : (stop : Stop) → StopsInOrder keys stop s.tap.log → ShowsStop keys stash stop s.tap.log → EndsLog stop h.end
@@ -119,7 +122,12 @@ pub stopped_replayed : {E : Type 0} (keys : Keys) (stash : ℕ) (stop : Stop) (s
 stopped_replayed keys stash stop s (Ok (ending, last)) named wants h = stop_replayed keys stash stop ending s named h
 stopped_replayed keys stash stop s (Err e) named wants h =
     let now = subst (λ (x : Stop). StopsReplayed keys stash x s) wants h in
-    record { slots = now.slots; shows = now.shows; mirror = (now.end, now.ends, now.mirror) }
+    record {
+      slots = now.slots;
+      shows = now.shows;
+      mirror = (now.end, now.ends, now.mirror);
+      origins = origins_left keys s.tap.log why.NoMemory (contents s) now.always;
+    }
 
 -- ---- before the first slot
 pub start_order : (keys : Keys) (log : LogLists) → log.events ≡ [] → log.altered ≡ [] → LogOrder keys log

@@ -3,6 +3,7 @@ use Rattle.std.specs.Prelude.{◌≡◌, ◌⊎◌, ℕ, List, [], None}
 use Rattle.asc_base.specs.declared.stop.Stop.TheVariants as why
 use Rattle.bus_watch.specs.Log.{TapState, LogLists}
 use Rattle.log_replay.specs.Judged.{verdict_on, IsFirstVerdict, BreaksOffReading, ShowsStop, EndsLog, SaysMirror}
+use Rattle.log_replay.specs.Judged.{HaveOrigins}
 use Rattle.log_replay.specs.LastSlot.{AreDoneBy, StopsInOrder}
 use Rattle.log_replay.specs.Order.{SlotNotes, AreDone, LogOrder}
 use Rattle.log_replay.specs.Replayed.{IsReplayed, StopsReplayed}
@@ -60,17 +61,20 @@ abbrev pub SaysWanting : Keys → LogLists → List (List ℕ) → Type 0
 SaysWanting keys log mirror = (end : LogEnd) × EndsLog why.NoMemory end × SaysMirror keys log end mirror
 
 module _ (keys : Keys) (stash : ℕ) where
-  -- A run that ended so leaves a log of slots in order, which shows the ending and says the buckets.
+  -- A run that ended so leaves a log of slots in order, which shows the ending, says the buckets, and notes where what
+  -- stands in them comes from.
   pub record EndsReplayed (ending : Ending) (tap : TapState) : Type 0 where
     pub slots : EndsInOrder keys ending tap.log
     pub shows : ShowsEnding keys stash ending tap.log
     pub mirror : SaysMirror keys tap.log (log_end ending) tap.mirror
+    pub origins : HaveOrigins keys tap.log tap.mirror
 
   -- so does one that wanted memory
   pub record WantsReplayed (tap : TapState) : Type 0 where
     pub slots : StopsInOrder keys why.NoMemory tap.log
     pub shows : ShowsStop keys stash why.NoMemory tap.log
     pub mirror : SaysWanting keys tap.log tap.mirror
+    pub origins : HaveOrigins keys tap.log tap.mirror
 
   -- No more instructions come: by itself, where an encrypted memory is what its log says; or by a stop, which the log
   -- shows.

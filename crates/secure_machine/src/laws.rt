@@ -1,7 +1,9 @@
 //! Laws of what requests leave, and of plays that have room. The functions do nothing: each states its laws in its
 //! contract.
 
-ghost use Rattle.std.specs.Prelude.{◌≡◌, ◌<◌, ℕ, [], Ok, Err};
+ghost use Rattle.std.specs.Prelude.{◌≡◌, ◌<◌, ◌≤◌, ◌*◌, ◌^◌, ℕ, [], length, Ok, Err};
+ghost use Rattle.asc_base.specs.Has.{Has};
+ghost use Rattle.asc_base.specs.Shape.{IsShape};
 ghost use Rattle.asc_base.specs.declared.stop.Stop.{Stop};
 ghost use Rattle.asc_base.specs.declared.stop.Stop.TheVariants.{StashFull};
 ghost use Rattle.epoch_learner.specs.Stands.{KeepsPace};
@@ -11,8 +13,10 @@ ghost use Rattle.oram_frontend.specs.Oram.{OramState, OramRequest, OramStep, Tol
 ghost use Rattle.oram_frontend.specs.Slots.{FitKeys};
 ghost use Rattle.run_play.specs.Halt.{AppendOverfull, halt};
 ghost use Rattle.run_play.specs.Play.{Play};
-ghost use Rattle.run_play.specs.Programs.{load_words, play_at};
-ghost use Rattle.secure_machine.specs.Full.{log_of, NoSlotIsFull};
+ghost use Rattle.run_play.specs.Programs.{jump_words, load_words, play_at};
+ghost use Rattle.run_play.specs.Rows.{short_time, small};
+ghost use Rattle.run_play.specs.Slots.{Slot};
+ghost use Rattle.secure_machine.specs.Full.{log_of, slot_entries, NoSlotIsFull, TagsNothing};
 ghost use Rattle.secure_machine.specs.Goes.{Goes, Breaks};
 ghost use Rattle.secure_machine.specs.Rows.{without_stash};
 ghost use Rattle.play_run.specs.Timed.{Serving};
@@ -38,6 +42,26 @@ pub fn requests_keep_pace()
 /// A play without slots never finds too many blocks to keep.
 pub fn plays_without_slots_have_room()
     ensures { (keys : Keys) (stash : ℕ) (whole : Play) → whole.slots ≡ [] → NoSlotIsFull keys stash whole }
+{}
+
+/// A play in whose slots nothing is tagged, as where all are dummies, never finds too many blocks to keep, whatever its
+/// program and its settings are, under any keys of a shape and with any stash. So it is with the eight dummies that
+/// pass while a program jumps to itself.
+pub fn plays_without_tags_have_room()
+    ensures any { (keys : Keys) → IsShape keys.shape → (stash : ℕ) (whole : Play) → length whole.slots ≤ 2 ^ 53
+        → ((slot : Slot) → Has slot whole.slots → TagsNothing slot) → NoSlotIsFull keys stash whole }
+    ensures dummies { (keys : Keys) → IsShape keys.shape → (stash : ℕ)
+        → NoSlotIsFull keys stash (play_at short_time 0 jump_words) }
+{}
+
+/// A play of so few slots that all the blocks that they can bring to hand find room never finds too many, whatever its
+/// program is, under any keys. So it is with a load over four slots, three blocks of which are put back, with the stash
+/// of the default settings.
+pub fn short_plays_have_room()
+    ensures any { (keys : Keys) (stash : ℕ) (whole : Play)
+        → length whole.slots * slot_entries keys.shape.levels ≤ stash → NoSlotIsFull keys stash whole }
+    ensures load { (keys : Keys) → keys.shape ≡ small.shape
+        → NoSlotIsFull keys small.stash (play_at small 0 load_words) }
 {}
 
 /// A play of which a slot finds too many blocks to keep, under any keys of its shape. It loads a line of 64 under one

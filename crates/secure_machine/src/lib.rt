@@ -12,11 +12,18 @@ mod laws;
 mod lines;
 mod machine;
 mod report;
+mod rows;
 mod store;
 
-pub use laws::{plays_without_slots_have_room, requests_keep_pace};
+pub use laws::{
+    full_plays_have_rows, plays_without_slots_have_room, plays_without_tags_have_room,
+    requests_keep_pace, short_plays_have_room,
+};
 pub use lines::{Stopped, TimedLines};
 pub use report::{Ending, Report};
+pub use rows::{
+    endings_have_rows, fed_reports_have_rows, flat_reports_have_rows, reports_have_rows,
+};
 
 #[cfg(test)]
 mod tests;
@@ -51,7 +58,7 @@ ghost use Rattle.rate_enforcer.specs.Counts.{IsCounted, is_dummy, is_real, is_an
 ghost use Rattle.secure_machine.specs.Answered.{answered_lines};
 ghost use Rattle.secure_machine.specs.Fed.{IsFed};
 ghost use Rattle.log_replay.specs.Given.{CallsReplay};
-ghost use Rattle.log_replay.specs.Judged.{verdict_on, BreaksOffReading, SaysMirror};
+ghost use Rattle.log_replay.specs.Judged.{verdict_on, BreaksOffReading, SaysMirror, HaveOrigins};
 ghost use Rattle.log_replay.specs.LastSlot.{StopsInOrder};
 ghost use Rattle.log_replay.specs.Order.{LogOrder};
 ghost use Rattle.play_run.specs.Given.{CallsPlay};
@@ -262,7 +269,8 @@ fn run_prepared<M: UntrustedMemory, W: Watch, L: LeafFn>(
 /// cycles after the time of the settings.
 ///
 /// Whatever the memory replies, the log tells how the run ended: it notes slots in order, each of which was done, the
-/// last one as far as the ending says, the verdict on them is the ending, and the buckets are those that it says. For
+/// last one as far as the ending says, the verdict on them is the ending, and the buckets are those that it says. Each
+/// entry in them stands on the path of its leaf, and was tagged or stood in an altered reply, whatever was forged. For
 /// each point a leaf is drawn at most once, however the run ends, or the log shows a forgery. Where the bus was
 /// prepared and the memory tells its buckets afterwards, they are the mirror's. After a report as many buckets count as
 /// prepared as the shape has, and after want of memory so many, or none. Over a memory that tells its buckets and
@@ -372,6 +380,12 @@ pub fn run<M: UntrustedMemory, W: Watch, L: LeafFn>(
         (W.state bus.new.tap.now).log (log_end report.ending) (W.state bus.new.tap.now).mirror
         ⊎ IsUnprepared report (W.state bus.old.tap.now) (W.state bus.new.tap.now)) }
     ensures contents_err { OnErr result (SaysWanting (chip_keys config.now codec tagger (L.leaf_of leaf))
+        (W.state bus.new.tap.now).log (W.state bus.new.tap.now).mirror
+        ⊎ (W.state bus.new.tap.now ≡ W.state bus.old.tap.now)) }
+    ensures origins { IfOk result (λ report. HaveOrigins (chip_keys config.now codec tagger (L.leaf_of leaf))
+        (W.state bus.new.tap.now).log (W.state bus.new.tap.now).mirror
+        ⊎ IsUnprepared report (W.state bus.old.tap.now) (W.state bus.new.tap.now)) }
+    ensures origins_err { OnErr result (HaveOrigins (chip_keys config.now codec tagger (L.leaf_of leaf))
         (W.state bus.new.tap.now).log (W.state bus.new.tap.now).mirror
         ⊎ (W.state bus.new.tap.now ≡ W.state bus.old.tap.now)) }
 {

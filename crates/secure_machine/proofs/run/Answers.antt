@@ -673,6 +673,9 @@ returns-in_err-files-clause-verdict_err g c =
 pub returns-in_err-files-clause-contents_err : goal.returns-in_err-files-clause-contents_err
 returns-in_err-files-clause-contents_err g c = on_err_with c.from_residual.result (inr refl)
 
+pub returns-in_err-files-clause-origins_err : goal.returns-in_err-files-clause-origins_err
+returns-in_err-files-clause-origins_err g c = on_err_with c.from_residual.result (inr refl)
+
 pub returns-in_err-cache-clause-order : goal.returns-in_err-cache-clause-order
 returns-in_err-cache-clause-order g c =
     start_order (chip_keys c.args.config.now c.args.codec c.args.tagger (g.L.LeafFn.leaf_of c.args.leaf))
@@ -694,6 +697,9 @@ returns-in_err-cache-clause-verdict_err g c =
 pub returns-in_err-cache-clause-contents_err : goal.returns-in_err-cache-clause-contents_err
 returns-in_err-cache-clause-contents_err g c = on_err_with c.from_residual-in_err-cache.result (inr refl)
 
+pub returns-in_err-cache-clause-origins_err : goal.returns-in_err-cache-clause-origins_err
+returns-in_err-cache-clause-origins_err g c = on_err_with c.from_residual-in_err-cache.result (inr refl)
+
 pub returns-in_err-oram-clause-order : goal.returns-in_err-oram-clause-order
 returns-in_err-oram-clause-order g c =
     start_order (chip_keys c.args.config.now c.args.codec c.args.tagger (g.L.LeafFn.leaf_of c.args.leaf))
@@ -714,6 +720,9 @@ returns-in_err-oram-clause-verdict_err g c =
 
 pub returns-in_err-oram-clause-contents_err : goal.returns-in_err-oram-clause-contents_err
 returns-in_err-oram-clause-contents_err g c = on_err_with c.from_residual-in_err-oram.result (inr refl)
+
+pub returns-in_err-oram-clause-origins_err : goal.returns-in_err-oram-clause-origins_err
+returns-in_err-oram-clause-origins_err g c = on_err_with c.from_residual-in_err-oram.result (inr refl)
 
 pub returns-in-Err-Device-clause-order : goal.returns-in-Err-Device-clause-order
 returns-in-Err-Device-clause-order g c =
@@ -757,6 +766,15 @@ returns-in-Err-Device-clause-contents g c =
     (g.M.UntrustedMemory.state c.prepare.new.self.memory.now) old (g.W.Watch.state c.prepare.new.self.tap.now)
     c.in-Err-Device.ensures.prepared)) (c.unprepared.ensures old))
 
+pub returns-in-Err-Device-clause-origins : goal.returns-in-Err-Device-clause-origins
+returns-in-Err-Device-clause-origins g c =
+    let old = g.W.Watch.state c.args.bus.now.tap.now in
+    inr (subst (λ (t : TapState). IsUnprepared c.unprepared.result old t)
+    (sym (refused_tap c.in-Err-Device.field-0 c.args.config.now.shape.buckets c.args.config.now.shape.levels
+    c.most_slots.result (g.M.UntrustedMemory.state c.args.bus.now.memory.now)
+    (g.M.UntrustedMemory.state c.prepare.new.self.memory.now) old (g.W.Watch.state c.prepare.new.self.tap.now)
+    c.in-Err-Device.ensures.prepared)) (c.unprepared.ensures old))
+
 pub returns-in-Err-NoMemory-clause-done_err : goal.returns-in-Err-NoMemory-clause-done_err
 returns-in-Err-NoMemory-clause-done_err g c =
     start_done (chip_keys c.args.config.now c.args.codec c.args.tagger (g.L.LeafFn.leaf_of c.args.leaf))
@@ -773,6 +791,13 @@ returns-in-Err-NoMemory-clause-verdict_err g c =
 
 pub returns-in-Err-NoMemory-clause-contents_err : goal.returns-in-Err-NoMemory-clause-contents_err
 returns-in-Err-NoMemory-clause-contents_err g c =
+    inr (refused_tap c.in-Err-NoMemory.field-0 c.args.config.now.shape.buckets c.args.config.now.shape.levels
+    c.most_slots.result (g.M.UntrustedMemory.state c.args.bus.now.memory.now)
+    (g.M.UntrustedMemory.state c.prepare.new.self.memory.now) (g.W.Watch.state c.args.bus.now.tap.now)
+    (g.W.Watch.state c.prepare.new.self.tap.now) c.in-Err-NoMemory.ensures.prepared)
+
+pub returns-in-Err-NoMemory-clause-origins_err : goal.returns-in-Err-NoMemory-clause-origins_err
+returns-in-Err-NoMemory-clause-origins_err g c =
     inr (refused_tap c.in-Err-NoMemory.field-0 c.args.config.now.shape.buckets c.args.config.now.shape.levels
     c.most_slots.result (g.M.UntrustedMemory.state c.args.bus.now.memory.now)
     (g.M.UntrustedMemory.state c.prepare.new.self.memory.now) (g.W.Watch.state c.args.bus.now.tap.now)
@@ -838,9 +863,17 @@ pub returns-in-Ok-clause-contents : goal.returns-in-Ok-clause-contents
 returns-in-Ok-clause-contents g c =
     IfOk-weaker c.run_prepared.result _ _ (λ report r. inl r.mirror) (replayed g c).0
 
+pub returns-in-Ok-clause-origins : goal.returns-in-Ok-clause-origins
+returns-in-Ok-clause-origins g c =
+    IfOk-weaker c.run_prepared.result _ _ (λ report r. inl r.origins) (replayed g c).0
+
 pub returns-in-Ok-clause-contents_err : goal.returns-in-Ok-clause-contents_err
 returns-in-Ok-clause-contents_err g c =
     on_err_so _ _ c.run_prepared.result (replayed g c).1 (λ w. inl w.mirror)
+
+pub returns-in-Ok-clause-origins_err : goal.returns-in-Ok-clause-origins_err
+returns-in-Ok-clause-origins_err g c =
+    on_err_so _ _ c.run_prepared.result (replayed g c).1 (λ w. inl w.origins)
 
 pub returns-in-Ok-clause-spent : goal.returns-in-Ok-clause-spent
 returns-in-Ok-clause-spent g c =

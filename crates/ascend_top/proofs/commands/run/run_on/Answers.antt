@@ -7,7 +7,7 @@ use Rattle.oram_contents.specs.Entries.{Keys}
 use Rattle.oram_contents.specs.Forgery.{Forgery}
 use Rattle.oram_lines.specs.Standing.{DrawnOnce}
 use Rattle.pmmac_tags.specs.Tag.{tag_key}
-use Rattle.log_replay.specs.Judged.{BreaksOffReading, SaysMirror, verdict_on}
+use Rattle.log_replay.specs.Judged.{BreaksOffReading, HaveOrigins, SaysMirror, verdict_on}
 use Rattle.log_replay.specs.LastSlot.{StopsInOrder}
 use Rattle.log_replay.specs.Order.{LogOrder}
 use Rattle.asc_base.specs.declared.stop.Stop.TheVariants as why
@@ -77,7 +77,9 @@ returns-clause-ran g c =
     (IfOk-weaker c.run.result _ _ (λ report. subst (λ (z : Keys). EndsAtHome z program.config
     (play_with program.config program.image c.as_slice.result.now) report.instructions report.cycles report.ending
     lent.tap'.log) same)
-    c.run.ensures.home))
+    c.run.ensures.home)
+    (IfOk-weaker c.run.result _ _ (λ report. subst (λ (z : Keys). HaveOrigins z lent.tap'.log lent.tap'.mirror
+    ⊎ IsUnprepared report lent.tap lent.tap') same) c.run.ensures.origins))
 
 pub returns-clause-wanting : goal.returns-clause-wanting
 returns-clause-wanting g c =
@@ -98,3 +100,5 @@ returns-clause-wanting g c =
     (subst (λ (z : Keys). OnErr c.run.result (SaysWanting z lent.tap'.log lent.tap'.mirror ⊎ (lent.tap' ≡ lent.tap)))
     same c.run.ensures.contents_err) c.run.ensures.count_err
     (subst (λ (z : Keys). OnErr c.run.result (StopsInOrder z why.NoMemory lent.tap'.log)) same c.run.ensures.done_err)
+    (subst (λ (z : Keys). OnErr c.run.result (HaveOrigins z lent.tap'.log lent.tap'.mirror ⊎ (lent.tap' ≡ lent.tap)))
+    same c.run.ensures.origins_err)
