@@ -17,10 +17,12 @@ use Rattle.oram_contents.specs.Shapes.{AreOfShape}
 use Rattle.oram_contents.specs.Slots.{drawn_events, HasSeeds, IsRefill}
 use Rattle.oram_contents.specs.Steps.{accepted}
 use Rattle.oram_contents.specs.Verdict.{judged}
-use Rattle.oram_contents.proofs.Access.{drawn_always, read_always, take_always, part_always}
+use Rattle.oram_contents.proofs.ReadSteps.{drawn_always, read_always}
+use Rattle.oram_contents.proofs.TakeSteps.{take_always}
+use Rattle.oram_contents.proofs.StopSteps.{part_always}
+use Rattle.oram_contents.proofs.RefillSteps.{refill_log, refill_read, refill_found}
 use Rattle.oram_contents.proofs.Ends.{always_ends}
 use Rattle.oram_contents.proofs.Final.{put_hand_always}
-use Rattle.oram_contents.proofs.Passes.{refill_log, refill_read, refill_found}
 use Rattle.oram_stash.specs.Entries.{held, without}
 use Rattle.oram_stash.proofs.Apart.{AreApart-nil}
 use Rattle.rate_enforcer.specs.Breaks.{Begins, WritesBreak}

@@ -19,7 +19,7 @@ use Rattle.oram_contents.specs.Fold.{written_ok, partly}
 use Rattle.oram_contents.specs.Starts.{first_fold}
 use Rattle.oram_contents.specs.Verdict.{first_of, append_verdict}
 use Rattle.oram_contents.specs.Provenance.{Always}
-use Rattle.oram_contents.proofs.Access.{refused_always}
+use Rattle.oram_contents.proofs.StopSteps.{refused_always}
 use Rattle.oram_contents.proofs.Folding.{fold_append}
 use Rattle.oram_contents.proofs.VerdictLaws.{append_shows}
 use Rattle.oram_frontend.specs.Access.{SlotStep}

@@ -24,7 +24,7 @@ use Rattle.oram_contents.specs.Slots.{drawn_events, HasSeeds}
 use Rattle.oram_contents.specs.Starts.{first_ghost}
 use Rattle.oram_contents.specs.Steps.{Adds}
 use Rattle.oram_contents.specs.Verdict.{read_verdict, put_entries, IsOfPoint}
-use Rattle.oram_contents.proofs.Access.{read_always}
+use Rattle.oram_contents.proofs.ReadSteps.{read_always}
 use Rattle.rate_enforcer.specs.Breaks.{Begins, IsRefused, ReadsBreak, HasWholeSlots, ReadStops, WritesBreak}
 use Rattle.rate_enforcer.specs.Breaks.{IsOverfull, WriteStops, DummyStops}
 use Rattle.log_replay.specs.Judged.{IsBeforeLast, BreaksOffReading, ShowsStop, EndsLog, SaysMirror}
