@@ -1,6 +1,9 @@
--- Words of which the premises of completeness hold, over any files that have their key.
+-- Words of which the premises of completeness hold, over any files that have their key; and what a memory means whose
+-- calls never fail.
 use Rattle.std.specs.Prelude.{◌≡◌, ℕ, List, [], ◌∷◌, length, codes, Some}
 use Rattle.asc_outside.specs.Host.{Files}
+use Rattle.asc_outside.specs.Memories.{BucketsState, told_by_buckets}
+use Rattle.asc_outside.specs.Memory.{MemoryState}
 use Rattle.ascend_words.specs.Grammar.{Read}
 use Rattle.ascend_words.specs.declared.table.Command.TheVariants.{Gen}
 use Rattle.ascend_words.specs.declared.table.Name.TheVariants.{Key, Output, Seed, Time, Words}
@@ -23,3 +26,7 @@ short_read = record {
 -- the file that they name for the key has the length of one
 abbrev pub HaveKey : Files → Type 0
 HaveKey files = (bytes : List ℕ) × (files (codes "k") ≡ Some bytes) × (length bytes ≡ key_length)
+
+-- it tells its buckets, and never counts a fault
+abbrev pub without_faults : BucketsState → MemoryState
+without_faults memory = record (told_by_buckets memory) { faults = 0 }
