@@ -1,7 +1,9 @@
--- Words of which the premises of completeness hold, over any files that have their key; and a program, a report and
--- what they leave, of which the headline holds.
+-- Words of which the premises of completeness hold, over any files that have their key; what a memory means whose calls
+-- never fail; and a program, a report and what they leave, of which the headline holds.
 use Rattle.std.specs.Prelude.{◌≡◌, ℕ, List, [], ◌∷◌, length, codes, Some}
 use Rattle.asc_outside.specs.Host.{Files}
+use Rattle.asc_outside.specs.Memories.{BucketsState, told_by_buckets}
+use Rattle.asc_outside.specs.Memory.{MemoryState}
 use Rattle.run_play.specs.Programs.{exit_words}
 use Rattle.run_play.specs.Rows.{small}
 use Rattle.secure_machine.specs.Rows.{IsLoaded, IsSaid}
@@ -31,6 +33,10 @@ short_read = record {
 -- the file that they name for the key has the length of one
 abbrev pub HaveKey : Files → Type 0
 HaveKey files = (bytes : List ℕ) × (files (codes "k") ≡ Some bytes) × (length bytes ≡ key_length)
+
+-- it tells its buckets, and never counts a fault
+abbrev pub without_faults : BucketsState → MemoryState
+without_faults memory = record (told_by_buckets memory) { faults = 0 }
 
 -- a program that exits at once, in a memory of 64 lines, without input
 pub record IsExit (program : Program) : Type 0 where

@@ -37,7 +37,7 @@ use crate::refusal::Refusal;
 use asc_outside::{Host, HostFault, UntrustedMemory};
 use ascend_words::{Command, WordFault, Words, read_words};
 use bus_watch::Recorder;
-pub use instance::{Outside, outside_with_key};
+pub use instance::{Outside, Unfailing, ascend_over_honest_memory, outside_with_key};
 pub use laws::{
     assembled_files_are_accepted, completeness_can_be_met, headlines_have_rows,
     reported_runs_leave_their_files, runs_over_honest_memory_are_plays,
