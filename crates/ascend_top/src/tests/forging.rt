@@ -155,6 +155,9 @@ fn stood(
 
 /// The messages that a log shows as forged, in order, where the memory has this key and shape: accepted under the point
 /// drawn last and with a valid tag, never tagged before, and in a slot of an altered reply before.
+///
+/// These are the four parts of `Forgery` of oram_contents, one by one. Nothing is proved of this search: that it finds
+/// what the definition says is only tested, by the two runs below.
 fn forgeries(
     alloc: Global,
     key: &[u8; 32],
@@ -179,6 +182,17 @@ fn forgeries(
     Ok(found)
 }
 
+/// The first bytes of what the fetches of line 1 were answered, in order.
+fn answers(alloc: Global, log: &Log) -> Result<Vec<u8>, AllocError> {
+    let mut bytes = Vec::new(alloc);
+    for event in &log.events {
+        if let Event::Answered { line: 1, value } = event {
+            bytes.push(value.0[0])?;
+        }
+    }
+    Ok(bytes)
+}
+
 /// Stores `S` at 64, loads it, stores the next letter behind it, writes the two, and exits. Each access of line 1 lets
 /// the line of the code go from a cache of one line, and the code's next word lets line 1 go.
 const STORE: [u32; 13] = [
@@ -200,15 +214,17 @@ const STORE: [u32; 13] = [
 /// Settings of 4,096 bytes at 0 and a cache of one line.
 const LINE: &str = "run elf=a key=k output=o size=4096 sets=1 ways=1 first=0";
 
-/// Runs `STORE` over a memory, and compares the output and the number of altered replies. There are twelve slots, of a
-/// position-map block, the store of line 0, two stores of line 1 and four fetches of either line; the last one ends at
-/// 256 + 11 * 752 + 496, and then come two steps of one cycle and one of ten.
+/// Runs `STORE` over a memory, and compares the output, the number of altered replies, and the first bytes that the
+/// fetches of line 1 were answered: those of the first store, the load, the second store and the write. There are twelve
+/// slots, of a position-map block, the store of line 0, two stores of line 1 and four fetches of either line; the last
+/// one ends at 256 + 11 * 752 + 496, and then come two steps of one cycle and one of ten.
 fn store_over<R: Abort, M: UntrustedMemory>(
     rt: &R,
     alloc: Global,
     memory: &mut M,
     tap: &mut Recorder,
     altered: u64,
+    answered: &str,
     output: &str,
 ) -> Result<(), Fail>
     requires fresh { (M.state memory.old).count ≡ 0 }
@@ -229,7 +245,9 @@ fn store_over<R: Abort, M: UntrustedMemory>(
         0,
         &printed,
         Some(output),
-    )
+    )?;
+    assert!(rt; answers(alloc, tap.log())?.as_slice() == answered.as_bytes());
+    Ok(())
 }
 
 #[test]
@@ -238,20 +256,21 @@ fn stored_lines_are_loaded(rt: HostRuntime) -> Result<(), Fail> {
     let shape = Shape::new(64, 16).ok_or("shape")?;
     let mut memory = HonestMemory::new(alloc);
     let mut tap = Recorder::new(alloc);
-    store_over(&rt, alloc, &mut memory, &mut tap, 0, "ST")?;
+    store_over(&rt, alloc, &mut memory, &mut tap, 0, "\0SSS", "ST")?;
     assert!(rt; forgeries(alloc, &[7; 32], &shape, tap.log())?.is_empty());
     Ok(())
 }
 
 /// The line is forged after its first access, which leaves zeros, and after the store: these two were never tagged. The
-/// load puts the second one back under a tag of its own.
+/// load puts the second one back under a tag of its own. The core computes on the forged line, which the log says that
+/// the load was answered.
 #[test]
 fn forged_lines_are_loaded(rt: HostRuntime) -> Result<(), Fail> {
     let alloc = rt.alloc();
     let shape = Shape::new(64, 16).ok_or("shape")?;
     let mut memory = Forging::new(alloc, &[7; 32], shape);
     let mut tap = Recorder::new(alloc);
-    store_over(&rt, alloc, &mut memory, &mut tap, 2, "FG")?;
+    store_over(&rt, alloc, &mut memory, &mut tap, 2, "\0FFF", "FG")?;
     let mut line = Line([0; 64]);
     line.0[0] = b'F';
     let found = forgeries(alloc, &[7; 32], &shape, tap.log())?;

@@ -146,6 +146,24 @@ fn made_programs_run(rt: HostRuntime) -> Result<(), Fail> {
     Ok(())
 }
 
+/// The greatest program. Its output is the last hash of its data words from 7 on, and the report's numbers are those of a
+/// model in Python of cache, walk, timetable and learner.
+#[test]
+fn the_greatest_program_runs(rt: HostRuntime) -> Result<(), Fail> {
+    let alloc = rt.alloc();
+    let mut host = host(alloc, &[], b"")?;
+    let mut memory = HonestMemory::new(alloc);
+    let mut tap = Recorder::new(alloc);
+    let words = words(alloc, "gen seed=7 words=65536 key=k output=o")?;
+    let ended = ascend(alloc, words.as_slice(), &mut host, &mut memory, &mut tap);
+    let numbers = [524_309, 16_917_492, 16_917_492, 4_099, 12_107, 0, 8, 0, 0];
+    let printed = report(alloc, "exit 0", numbers)?;
+    assert!(rt; ended == 0);
+    assert!(rt; host.printed() == printed.as_bytes());
+    assert!(rt; host.file("o") == Some([0xbe, 0xc4, 0x33, 0xdc].as_slice()));
+    Ok(())
+}
+
 #[test]
 fn nothing_runs_where_the_program_is_not_saved(rt: HostRuntime) -> Result<(), Fail> {
     let alloc = rt.alloc();

@@ -1,8 +1,9 @@
 //! The command `run`, by rows that were worked out by hand.
 
-ghost use Rattle.std.specs.Prelude.{◌≤◌};
+ghost use Rattle.std.specs.Prelude.{◌≡◌, ◌<◌, ◌≤◌, ◌^◌};
 
 use super::*;
+use asc_outside::{BUCKET_BYTES, Failed, MemStop, ScriptedMemory, empty_bucket};
 
 /// Settings of 4,096 bytes at 0 and a cache of one line, whose slots take 496 cycles and start at 256, 1,008, 1,760 and
 /// so on.
@@ -301,14 +302,46 @@ fn end_at(number: u64) -> u64
     }
 }
 
+/// Runs `LOAD` with words behind those of `SMALL` over a memory, and compares the status, the report, and how many moves
+/// the tap noted.
+fn load_over<R: Abort, M: UntrustedMemory>(
+    rt: &R,
+    alloc: Global,
+    more: &str,
+    memory: &mut M,
+    status: u8,
+    end: &str,
+    numbers: [u64; 9],
+    moves: u64,
+) -> Result<(), Fail>
+    requires fresh { (M.state memory.old).count ≡ 0 }
+    requires moved { (M.state memory.old).moved < 2 ^ 62 }
+{
+    let file = elf_at(alloc, 0, &LOAD, "")?;
+    let mut host = host(alloc, &[], file.as_slice())?;
+    let mut tap = Recorder::new(alloc);
+    let line = format!(in alloc; "{SMALL} {more}")?;
+    let printed = report(alloc, end, numbers)?;
+    compare_over(
+        rt,
+        alloc,
+        &line,
+        &mut host,
+        memory,
+        &mut tap,
+        status,
+        &printed,
+        Some(""),
+    )?;
+    assert!(rt; tap.log().moves.len() as u64 == moves, "{end}");
+    Ok(())
+}
+
 #[test]
 fn each_move_fails_in_turn(rt: HostRuntime) -> Result<(), Fail> {
     let alloc = rt.alloc();
-    let file = elf_at(alloc, 0, &LOAD, "")?;
     for number in 1..=48u64 {
-        let mut host = host(alloc, &[], file.as_slice())?;
         let mut memory = FaultyMemory::new(alloc, vec![in alloc; number]?);
-        let mut tap = Recorder::new(alloc);
         let last = end_at(number);
         let real = (number - 1) / 12 + 1;
         let numbers = if real < 4 {
@@ -316,19 +349,85 @@ fn each_move_fails_in_turn(rt: HostRuntime) -> Result<(), Fail> {
         } else {
             [1, 2_258, last, 1, real, 0, 0, 0, 0]
         };
-        let printed = report(alloc, "device", numbers)?;
-        compare_over(
-            &rt,
-            alloc,
-            SMALL,
-            &mut host,
-            &mut memory,
-            &mut tap,
-            10,
-            &printed,
-            Some(""),
-        )?;
-        assert!(rt; tap.log().moves.len() as u64 == number);
+        load_over(&rt, alloc, "", &mut memory, 10, "device", numbers, number)?;
     }
     Ok(())
+}
+
+/// One block at the top above two: line 0's parent displaces it after the second slot, which ends at 1,504, and there is
+/// no room for it.
+#[test]
+fn a_displaced_block_finds_no_room(rt: HostRuntime) -> Result<(), Fail> {
+    let alloc = rt.alloc();
+    let mut memory = HonestMemory::new(alloc);
+    load_over(
+        &rt,
+        alloc,
+        "plb=1 roots=1 stash=0",
+        &mut memory,
+        7,
+        "stash 1",
+        [0, 1, 1_504, 0, 2, 0, 0, 0, 0],
+        24,
+    )
+}
+
+/// Every bucket of the paths of the leaves 6, 11, 6 and 0 is answered with zero bytes. Of their buckets 0, 2, 6 and 3
+/// were written before. The first block that should be there is line 0, which the second slot wrote; its fetch's reads
+/// end at 2,512 + 6 * 40.
+#[test]
+fn a_lost_block_is_missed(rt: HostRuntime) -> Result<(), Fail> {
+    let alloc = rt.alloc();
+    let replies = vec![in alloc; empty_bucket(); 24]?;
+    let mut memory = ScriptedMemory::new(alloc, replies, 42)?;
+    load_over(
+        &rt,
+        alloc,
+        "",
+        &mut memory,
+        6,
+        "integrity Missing 0",
+        [1, 2_258, 2_752, 1, 4, 0, 0, 0, 11],
+        42,
+    )
+}
+
+/// A memory that can't be prepared. It tells no buckets, and counts as many faults as it was asked to prepare.
+#[derive(Drop)]
+struct Unprepared {
+    memory: HonestMemory,
+}
+
+impl UntrustedMemory for Unprepared {
+    ghost use Rattle.std.specs.Prelude.{None};
+    ghost use Rattle.asc_outside.specs.Memories.{told_by_buckets};
+
+    ghost state = { λ m. record (told_by_buckets m.memory) { faults = m.memory.count; told = None } };
+
+    fn prepare(&mut self, buckets: u32) -> Result<(), MemStop> {
+        let _ = self.memory.prepare(buckets);
+        Err(MemStop::Failed)
+    }
+
+    fn read(
+        &mut self,
+        time: u64,
+        bucket: u32,
+        into: &mut [u8; BUCKET_BYTES],
+    ) -> Result<(), Failed> {
+        self.memory.read(time, bucket, into)
+    }
+
+    fn write(&mut self, time: u64, bucket: u32, bytes: &[u8; BUCKET_BYTES]) -> Result<(), MemStop> {
+        self.memory.write(time, bucket, bytes)
+    }
+}
+
+#[test]
+fn nothing_runs_over_an_unprepared_memory(rt: HostRuntime) -> Result<(), Fail> {
+    let alloc = rt.alloc();
+    let mut memory = Unprepared {
+        memory: HonestMemory::new(alloc),
+    };
+    load_over(&rt, alloc, "", &mut memory, 10, "device", [0; 9], 0)
 }
