@@ -4,3 +4,6 @@ pub mod Replies
 pub mod Slots
 pub mod Written
 pub mod Silent
+pub mod JoinedLaws
+pub mod Kept
+pub mod CutKept

@@ -6,7 +6,6 @@ use Rattle.bus_watch.specs.Made.{Ran}
 use Rattle.bus_watch.specs.RunEnd.{Whole, end_at}
 use Rattle.bus_watch.specs.declared.bus.Bus.{Bus}
 use Rattle.bus_watch.specs.declared.bus.BusStop.{BusStop}
-use Rattle.bus_watch.specs.declared.log.Event.{Event}
 use Rattle.bus_watch.specs.declared.log.Move.{Move}
 use Rattle.bus_watch.proofs.MadeLaws.{silent_events}
 use Rattle.unified_tree.specs.Cut.{CutRead, CutWrite}

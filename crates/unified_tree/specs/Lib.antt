@@ -1,6 +1,7 @@
 pub mod Cut
 pub mod Inside
 pub mod Joined
+pub mod Left
 pub mod Reads
 pub mod Slot
 pub mod Stopped

@@ -9,7 +9,6 @@ use Rattle.bus_watch.specs.RunEnd.{Whole, end_at}
 use Rattle.bus_watch.specs.declared.bus.Bus.{Bus}
 use Rattle.bus_watch.specs.declared.log.Event.TheVariants.{Access, Drawn}
 use Rattle.oram_contents.specs.PathWritten.{rest_of}
-use Rattle.unified_tree.specs.declared.stop.OpenPath.{OpenPath}
 use Rattle.unified_tree.specs.declared.stop.TreeStop.{TreeStop}
 use Rattle.unified_tree.specs.Cut.{CutRead, CutWrite}
 use Rattle.unified_tree.specs.Slot.{WasRead}
