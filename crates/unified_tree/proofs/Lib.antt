@@ -7,3 +7,4 @@ pub mod Silent
 pub mod JoinedLaws
 pub mod Kept
 pub mod CutKept
+pub mod Passed

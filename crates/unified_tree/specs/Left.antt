@@ -19,7 +19,7 @@ use Rattle.unified_tree.specs.Tree.{TreeState}
 use Rattle.unified_tree.specs.declared.stop.TreeStop.{TreeStop}
 
 module _ (keys : Keys) (tap tap' : TapState) (tree tree' : TreeState) where
-  -- The start of a slot and its point were noted in a log, and nothing else; then the path of the point's leaf was read.
+  -- The start of a slot and its point were noted in a log, and nothing else. Then the path of its leaf was read.
   pub record LeftByRead (old : LogLists) (start : ℕ) (asked : Option ℕ) (p : Point) : Type 0 where
     pub shape : keys.shape ≡ tree.shape
     pub pads : keys.pads ≡ tree.key

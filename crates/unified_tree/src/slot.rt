@@ -1,6 +1,7 @@
 //! A whole slot made of a path's read and its write: how the contracts of the two compose.
 
-ghost use Rattle.std.specs.Prelude.{◌≡◌, ◌<◌, ◌≤◌, ◌+◌, ◌*◌, ◌^◌, ◌∷◌, [], None, length, IfErr, IsErrOf, OnOk, ◌++◌};
+ghost use Rattle.std.specs.Prelude.{◌≡◌, ◌<◌, ◌≤◌, ◌+◌, ◌*◌, ◌^◌, ◌++◌, ◌∷◌, [], None, length};
+ghost use Rattle.std.specs.Prelude.{IfErr, IsErrOf, OnOk, OnErr};
 ghost use Rattle.asc_base.specs.declared.block.Point.TheVariants.{Dummy};
 ghost use Rattle.bus_watch.specs.Made.{Ran};
 ghost use Rattle.bus_watch.specs.Path.{slot_moves};
@@ -9,8 +10,10 @@ ghost use Rattle.bus_watch.specs.RunEnd.{Whole};
 ghost use Rattle.bus_watch.specs.declared.log.Event.TheVariants.{Access, Drawn};
 ghost use Rattle.oram_contents.specs.Counts.{Ghost};
 ghost use Rattle.oram_contents.specs.Entries.{Keys, AreKeys};
+ghost use Rattle.oram_contents.specs.Home.{Home};
 ghost use Rattle.oram_contents.specs.Provenance.{Always, Sound};
 ghost use Rattle.oram_contents.specs.Slots.{IsPass, passed};
+ghost use Rattle.oram_contents.specs.Steps.{opened_at};
 ghost use Rattle.unified_tree.specs.Slot.{contents_of};
 ghost use Rattle.unified_tree.specs.Stopped.{StopsSlot};
 ghost use Rattle.unified_tree.specs.Tree.{IsSameTree};
@@ -52,6 +55,22 @@ pub fn pass_by<M: UntrustedMemory, W: Watch>(
         → Sound keys (W.state bus.old.tap.now).log g (contents_of tree.old (W.state bus.old.tap.now))
         → Always keys (W.state bus.new.tap.now).log (contents_of tree.new (W.state bus.new.tap.now))
         × Sound keys (W.state bus.new.tap.now).log (passed g) (contents_of tree.new (W.state bus.new.tap.now))) }
+    ensures home { OnOk result ((keys : Keys) → AreKeys keys → keys.shape ≡ tree.old.shape → keys.pads ≡ tree.old.key
+        → keys.leaf_of (Dummy number) ≡ leaf.0 → (W.state bus.new.tap.now).log.altered ≡ []
+        → (g : Ghost) → g.path ≡ None
+        → Always keys (W.state bus.old.tap.now).log (contents_of tree.old (W.state bus.old.tap.now))
+        → Home keys g (contents_of tree.old (W.state bus.old.tap.now))
+        → Home keys (passed g) (contents_of tree.new (W.state bus.new.tap.now))) }
+    ensures always { (keys : Keys) → AreKeys keys → keys.shape ≡ tree.old.shape → keys.pads ≡ tree.old.key
+        → keys.leaf_of (Dummy number) ≡ leaf.0
+        → Always keys (W.state bus.old.tap.now).log (contents_of tree.old (W.state bus.old.tap.now))
+        → Always keys (W.state bus.new.tap.now).log (contents_of tree.new (W.state bus.new.tap.now)) }
+    ensures sound_err { OnErr result ((keys : Keys) → AreKeys keys → keys.shape ≡ tree.old.shape
+        → keys.pads ≡ tree.old.key → keys.leaf_of (Dummy number) ≡ leaf.0
+        → (g : Ghost) → g.path ≡ None → number ≡ g.dummies
+        → Sound keys (W.state bus.old.tap.now).log g (contents_of tree.old (W.state bus.old.tap.now))
+        → Sound keys (W.state bus.new.tap.now).log (opened_at g (Dummy number) leaf.0)
+        (contents_of tree.new (W.state bus.new.tap.now))) }
     ensures noted { (W.state bus.new.tap.now).log.events
         ≡ (W.state bus.old.tap.now).log.events ++ (Access start None ∷ Drawn (Dummy number) leaf ∷ []) }
     ensures stopped { IfErr result (λ stop. StopsSlot M.state W.state start number leaf.0 stop tree.old tree.new bus.old
