@@ -78,20 +78,20 @@ impl Watch for Keeping {
 }
 
 // The first buckets of a path were changed in the mirror, so many of them, and no other bucket: each to the text of its
-// slots under the seed that follows that of the one above. The root has these slots, the others are empty.
+// slots under the seed that follows that of the one above. The two upper ones have these slots, the others are empty.
 fn compare_mirror(
     rt: &impl Abort,
     tap: &Keeping,
     count: usize,
     path: &[u32; 6],
-    root: &[Option<Entry>; 4],
+    upper: &[[Option<Entry>; 4]; 2],
 ) {
     let codec = Codec::new(&KEY);
     assert_eq!(rt; tap.changed.len(), count);
     for level in 0..6usize {
         let mut text = empty_bucket();
         match level {
-            0 => codec.seal(1, root, &mut text),
+            0 | 1 => codec.seal(level as u64 + 1, &upper[level], &mut text),
             _ => codec.seal(level as u64 + 1, &[None; 4], &mut text),
         }
         if level < count {
@@ -197,7 +197,18 @@ fn full_before_a_write(rt: HostRuntime) -> Result<(), Fail> {
         for place in 0..made.len() {
             assert_eq!(rt; made[place].write, place / 6 == 1);
         }
-        compare_mirror(&rt, &tap, changed, &[0, 1, 3, 7, 15, 31], &four);
+        compare_mirror(
+            &rt,
+            &tap,
+            changed,
+            &[0, 1, 3, 7, 15, 31],
+            &[four, [None; 4]],
+        );
+        // what is at hand then is as it was put there
+        for entry in &five[..number] {
+            assert_eq!(rt; tree.take(entry.address), Some(*entry));
+        }
+        assert_eq!(rt; tree.held(), 0);
     }
     Ok(())
 }
@@ -206,45 +217,69 @@ fn full_before_a_write(rt: HostRuntime) -> Result<(), Fail> {
 fn failed_moves_end(rt: HostRuntime) -> Result<(), Fail> {
     let alloc = rt.alloc();
     let shape = Shape::new(64, 16).ok_or("shape")?;
+    // the fifth may go to level 1, the others to the root alone, where the last finds no place
+    let six = [
+        entry(1, 31),
+        entry(2, 31),
+        entry(5, 12),
+        entry(3, 31),
+        entry(4, 31),
+        entry(6, 31),
+    ];
+    let root = [Some(six[0]), Some(six[1]), Some(six[3]), Some(six[4])];
+    let upper = [root, [Some(six[2]), None, None, None]];
     for number in 1..13u64 {
-        let mut tree = filled(alloc, &shape, 200, &[entry(1, 3)])?;
+        let mut tree = filled(alloc, &shape, 200, &six)?;
         let mut memory = FaultyMemory::new(alloc, vec![in alloc; number]?);
         let mut tap = Keeping::new(alloc);
         let mut bus = Bus::new(&mut memory, &mut tap);
         let answer = slot_and_read(&mut tree, &mut bus, &shape, Leaf(3), Leaf(3))?;
-        assert_eq!(rt; answer, (Err(TreeStop::Device), 1, 1));
+        assert_eq!(rt; answer, (Err(TreeStop::Device), 6, 6));
         let turn = if number > 6 { 16 } else { 0 };
         assert_eq!(rt; tree.ended(), 256 + 40 * (number - 1) + turn + 1);
         assert_eq!(rt; tap.tap.log().moves.len() as u64, number);
         // the buckets above the failed write are changed, and its own is as it was
         let changed = number.saturating_sub(7) as usize;
-        compare_mirror(&rt, &tap, changed, &[0, 1, 3, 7, 16, 34], &[None; 4]);
+        compare_mirror(&rt, &tap, changed, &[0, 1, 3, 7, 16, 34], &upper);
     }
     Ok(())
 }
 
-// The replies of a path whose first two buckets have these slots, and one byte of a slot changed, if one is named.
+// An entry in a slot of a path's bucket: the bucket's level, the slot, and the entry's address and leaf.
+type Placed = (usize, usize, u32, u32);
+
+// The slots of the bucket at a level.
+fn slots_at(level: usize, placed: &[Placed]) -> [Option<Entry>; 4] {
+    let mut slots = [None; 4];
+    for (at, slot, address, leaf) in placed {
+        if *at == level && *slot < 4 {
+            slots[*slot] = Some(entry(*address, *leaf));
+        }
+    }
+    slots
+}
+
+// One byte is changed of each slot of the bucket at a level that is named.
+fn break_slots(level: usize, broken: &[(usize, usize)], text: &mut [u8; BUCKET_BYTES]) {
+    for (at, slot) in broken {
+        if *at == level && *slot < 4 {
+            text[8 + 92 * *slot + 1] ^= 1;
+        }
+    }
+}
+
+// The replies of a path whose buckets have these entries, and these slots broken.
 fn replies_of(
     alloc: Global,
-    root: [Option<Entry>; 4],
-    next: [Option<Entry>; 4],
-    broken: Option<(usize, usize)>,
+    placed: &[Placed],
+    broken: &[(usize, usize)],
 ) -> Result<Vec<[u8; BUCKET_BYTES]>, Fail> {
     let codec = Codec::new(&KEY);
     let mut replies = Vec::new(alloc);
     for level in 0..6usize {
         let mut text = empty_bucket();
-        if level == 0 {
-            codec.seal(7, &root, &mut text);
-        }
-        if level == 1 {
-            codec.seal(8, &next, &mut text);
-        }
-        if let Some((at, slot)) = broken {
-            if at == level && slot < 4 {
-                text[8 + 92 * slot + 1] ^= 1;
-            }
-        }
+        codec.seal(level as u64 + 7, &slots_at(level, placed), &mut text);
+        break_slots(level, broken, &mut text);
         replies.push(text)?;
     }
     Ok(replies)
@@ -254,75 +289,51 @@ fn replies_of(
 fn first_evidence_is_named(rt: HostRuntime) -> Result<(), Fail> {
     let alloc = rt.alloc();
     let shape = Shape::new(64, 16).ok_or("shape")?;
-    let none: Option<Entry> = None;
-    let one = Some(entry(1, 0));
-    let off = Some(entry(2, 31));
-    // what the buckets of levels 0 and 1 hold, which slot of which of them is broken, and how many entries join
-    for (root, next, broken, wanted, held) in [
+    let bad = |bucket: u32, slot: u32| TreeStop::BadSlot { bucket, slot };
+    let off = |bucket: u32, slot: u32| TreeStop::OffPath { bucket, slot };
+    let doubled = |address: u32| TreeStop::Doubled {
+        address: Address(address),
+    };
+    // On the path of leaf 0, whose buckets are 0, 1, 3 and so on: what they hold, which slots are broken, the first
+    // evidence, and how many entries are at hand then, where that of address 9 was before.
+    let rows: [(&[Placed], &[(usize, usize)], TreeStop, u32); 12] = [
+        // a bucket's broken slot comes before what its other slots hold
+        (&[(0, 0, 1, 0), (1, 0, 2, 31)], &[(1, 2)], bad(1, 2), 2),
+        (&[(0, 0, 9, 0)], &[(0, 3)], bad(0, 3), 1),
+        // what the buckets above hold has joined, and of two broken ones the upper one is named
+        (&[(0, 0, 1, 0)], &[(2, 1)], bad(3, 1), 2),
         (
-            [one, none, none, none],
-            [off, none, none, none],
-            Some((1, 2)),
-            TreeStop::BadSlot { bucket: 1, slot: 2 },
+            &[(0, 0, 1, 0), (2, 0, 3, 0)],
+            &[(1, 3), (2, 0)],
+            bad(1, 3),
             2,
         ),
+        // slot by slot
+        (&[(0, 0, 1, 0), (1, 0, 2, 31)], &[], off(1, 0), 2),
+        (&[(0, 0, 1, 0), (1, 1, 2, 31)], &[], off(1, 1), 2),
         (
-            [one, none, none, none],
-            [off, none, none, none],
-            None,
-            TreeStop::OffPath { bucket: 1, slot: 0 },
+            &[(0, 0, 1, 0), (1, 0, 1, 0), (1, 1, 2, 31)],
+            &[],
+            doubled(1),
             2,
         ),
-        (
-            [one, none, none, none],
-            [one, off, none, none],
-            None,
-            TreeStop::Doubled {
-                address: Address(1),
-            },
-            2,
-        ),
-        (
-            [one, none, none, none],
-            [none, off, none, none],
-            None,
-            TreeStop::OffPath { bucket: 1, slot: 1 },
-            2,
-        ),
-        (
-            [one, Some(entry(1, 3)), none, none],
-            [none; 4],
-            Some((1, 0)),
-            TreeStop::Doubled {
-                address: Address(1),
-            },
-            2,
-        ),
-        (
-            [Some(entry(9, 0)), none, none, none],
-            [none; 4],
-            Some((0, 3)),
-            TreeStop::BadSlot { bucket: 0, slot: 3 },
-            1,
-        ),
-        (
-            [one, Some(entry(9, 0)), none, none],
-            [none; 4],
-            None,
-            TreeStop::Doubled {
-                address: Address(9),
-            },
-            2,
-        ),
-    ] {
+        (&[(0, 0, 1, 0), (0, 1, 9, 0)], &[], doubled(9), 2),
+        // the evidence of an upper bucket comes before a broken one below
+        (&[(0, 0, 1, 0), (0, 1, 1, 3)], &[(1, 0)], doubled(1), 2),
+        (&[(0, 0, 1, 0), (1, 0, 2, 31)], &[(2, 2)], off(1, 0), 2),
+        // an entry of leaf 8 has the path's bucket at level 1, and not that at level 2
+        (&[(1, 0, 3, 8), (2, 1, 4, 8)], &[(3, 0)], off(3, 1), 2),
+        (&[(1, 3, 1, 0), (2, 0, 1, 0)], &[], doubled(1), 2),
+    ];
+    for (placed, broken, wanted, held) in rows {
         let mut tree = filled(alloc, &shape, 200, &[entry(9, 5)])?;
-        let mut memory = ScriptedMemory::new(alloc, replies_of(alloc, root, next, broken)?, 0)?;
+        let mut memory = ScriptedMemory::new(alloc, replies_of(alloc, placed, broken)?, 0)?;
         let mut tap = Recorder::new(alloc);
         let mut bus = Bus::new(&mut memory, &mut tap);
         let answer = slot_and_read(&mut tree, &mut bus, &shape, Leaf(0), Leaf(0))?;
         assert_eq!(rt; answer, (Err(wanted), held, held));
         assert_eq!(rt; tree.ended(), 496);
-        assert_eq!(rt; (tap.log().moves.len(), tap.log().altered.len()), (6, 2));
+        assert_eq!(rt; (tap.log().moves.len(), tap.log().altered.len()), (6, 6));
     }
     Ok(())
 }
