@@ -4,7 +4,8 @@ memory that misses the cache on every load, at the default rates and at a rate o
 
 For each: instructions and slots a second, the most memory that the process held, and the time of `flat` on the same
 file; at the end how many slots a second the hashes and pads of a slot alone would allow by openssl's SHA-256 and
-ChaCha20 on this machine. Times are user times. `rt` must be on the path: it builds the program first.
+ChaCha20 on this machine, and how many its pads alone. Times are user times. `rt` must be on the path: it builds the
+program first.
 """
 import os
 import re
@@ -77,12 +78,14 @@ def openssl_bytes(name, size):
     return float(found[-1]) * 1000 if found else 0.0
 
 
-def limit(levels):
-    """How many slots a second their hashes and pads alone would allow, of a path that is opened and sealed."""
+def limits(levels):
+    """How many slots a second the hashes and pads alone would allow, of a path that is opened and sealed, and how many
+    its pads alone."""
     hashing, padding = openssl_bytes("sha256", 64 * HASHED), openssl_bytes("chacha20", PADDED)
     if not hashing or not padding:
         return None
-    return 1 / (64 * HASHED / hashing + 2 * (levels + 1) * PADDED / padding)
+    padded = 2 * (levels + 1) * PADDED / padding
+    return 1 / (64 * HASHED / hashing + padded), 1 / padded
 
 
 def build():
@@ -115,8 +118,11 @@ def main():
                 show(f"{name}, {' '.join(rates) or 'default rates'}", *timed(command))
             flat = [program, "flat", elf_word, f"output={files['output']}", "budget=100000000"]
             show(f"{name}, flat", *timed(flat))
-        allowed = limit(LEVELS)
-        print("openssl: not installed" if allowed is None else f"hashes and pads alone: {allowed:.0f} slots a second")
+        allowed = limits(LEVELS)
+        if allowed is None:
+            print("openssl: not installed")
+        else:
+            print(f"hashes and pads alone: {allowed[0]:.0f} slots a second, pads alone: {allowed[1]:.0f}")
 
 
 if __name__ == "__main__":

@@ -1,7 +1,8 @@
 #!/usr/bin/python3
 """Runs a program that misses the cache at each turn over trees of 5, 13 and 17 levels, and prints for each how many
 slots a second that makes, beside how many the hashes and pads of such a slot alone would allow by openssl's SHA-256 and
-ChaCha20 on this machine, and their ratio.
+ChaCha20 on this machine, and their ratio; and the same beside ChaCha20 alone, over the bytes that the pads of such a
+slot cover.
 
 The slots are 64 cycles apart, the least that the settings take. Times are user times, and each speed is that between a
 short run and a long one, so that neither the start nor the making of the tree counts. `rt` must be on the path: it
@@ -11,7 +12,7 @@ import os
 import sys
 import tempfile
 
-from machine import AT, build, elf, immediate, jump_back, limit, register, timed
+from machine import AT, build, elf, immediate, jump_back, limits, register, timed
 
 RATE = 64
 # The levels of a tree, and the bytes of the memory that has such a tree.
@@ -56,9 +57,10 @@ def main():
             many, long = seconds_of(command, levels, most)
             speed = (many - few) / (long - short)
             line = f"{levels} levels: {many} slots in {long:.2f} s, {speed:.0f} a second"
-            allowed = limit(levels)
+            allowed = limits(levels)
             if allowed is not None:
-                line += f"; hashes and pads alone: {allowed:.0f}, ratio {speed / allowed:.2f}"
+                for name, most_a_second in zip(("hashes and pads", "pads"), allowed):
+                    line += f"; {name} alone: {most_a_second:.0f}, ratio {speed / most_a_second:.2f}"
             print(line)
 
 
