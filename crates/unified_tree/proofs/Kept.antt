@@ -9,7 +9,7 @@ use Rattle.bus_watch.specs.Log.{LogLists, TapState}
 use Rattle.bus_watch.specs.declared.log.Altered.{Altered}
 use Rattle.oram_contents.specs.Contents.{Contents, IsReadTo, after_write}
 use Rattle.oram_contents.specs.Counts.{Ghost, line_at}
-use Rattle.oram_contents.specs.Entries.{Keys, AreKeys, real}
+use Rattle.oram_contents.specs.Entries.{Keys, AreKeys, real, message_of}
 use Rattle.oram_contents.specs.Forgery.{Forgery, LastDrawn}
 use Rattle.oram_contents.specs.Home.{Home}
 use Rattle.oram_contents.specs.Provenance.{Always, Sound}
@@ -22,11 +22,13 @@ use Rattle.oram_contents.proofs.HomeLaws.{home_read, home_write}
 use Rattle.oram_contents.proofs.HomeSteps.{home_take, home_put}
 use Rattle.oram_contents.proofs.PutSteps.{put_back_sound, put_always}
 use Rattle.oram_contents.proofs.ReadSteps.{read_sound, read_always}
+use Rattle.oram_contents.proofs.StopSteps.{refused_sound, refused_always}
 use Rattle.oram_contents.proofs.TakeSteps.{take_keeps, take_always}
 use Rattle.oram_contents.proofs.WriteSteps.{write_sound, write_always}
 use Rattle.oram_stash.specs.Entries.{without}
 use Rattle.oram_stash.proofs.Held.{held-none}
 use Rattle.unified_tree.specs.Left.{LeftByRead, LeftByTake, LeftByPut, LeftByWrite}
+use Rattle.unified_tree.specs.Left.{LeftByPutCut}
 use Rattle.unified_tree.specs.Slot.{contents_of}
 use Rattle.unified_tree.specs.Tree.{TreeState}
 use Rattle.unified_tree.proofs.Slots.{read_is, put_is, write_is}
@@ -146,6 +148,23 @@ put_keeps_home keys tap tap' tree tree' g a l x flying home =
     subst (λ d. Home keys (landed (stored g a l)) d)
     (sym (is_put keys tap tap' tree tree' a (g.count a) l x).after_is)
     (home_put keys (stored g a l) (contents_of tree tap) a _ refl flying home)
+
+-- a put that was refused
+
+pub put_cut_keeps_always : (keys : Keys) (tap tap' : TapState) (tree tree' : TreeState) (a : ℕ) (c : Counter)
+    (l : List ℕ) → LeftByPutCut keys tap tap' tree tree' a c l → Always keys tap.log (contents_of tree tap)
+    → Always keys tap'.log (contents_of tree' tap')
+put_cut_keeps_always keys tap tap' tree tree' a c l x w =
+    subst (λ d. Always keys tap'.log d) (sym (same_contents x.hand x.mirror x.seed))
+    (refused_always keys tap.log tap'.log (contents_of tree tap) (message_of a c l) x.noted w)
+
+pub put_cut_keeps_sound : (keys : Keys) (tap tap' : TapState) (tree tree' : TreeState) (g : Ghost) (a : ℕ) (l : List ℕ)
+    → LeftByPutCut keys tap tap' tree tree' a (g.count a) l → g.flight ≡ Some a → (Has a g.held → ⊥)
+    → l ≡ line_at keys.shape g a → Sound keys tap.log g (contents_of tree tap)
+    → Sound keys tap'.log (landed g) (contents_of tree' tap')
+put_cut_keeps_sound keys tap tap' tree tree' g a l x flying unheld is s =
+    subst (λ d. Sound keys tap'.log (landed g) d) (sym (same_contents x.hand x.mirror x.seed))
+    (refused_sound keys tap.log tap'.log g (contents_of tree tap) a l flying unheld is x.noted s)
 
 -- a write
 

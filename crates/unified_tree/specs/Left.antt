@@ -83,3 +83,10 @@ module _ (keys : Keys) (tap tap' : TapState) (tree tree' : TreeState) where
     pub seed : tree'.seed ≡ tree.seed
     pub mirror : tap'.mirror ≡ tap.mirror
     pub noted : Adds tap.log tap'.log (Tagged (message_of a c l) ∷ []) []
+
+  -- The same where one of the block was at hand: its message was noted, and nothing was put.
+  pub record LeftByPutCut (a : ℕ) (c : Counter) (l : List ℕ) : Type 0 where
+    pub hand : tree'.hand ≡ tree.hand
+    pub seed : tree'.seed ≡ tree.seed
+    pub mirror : tap'.mirror ≡ tap.mirror
+    pub noted : Adds tap.log tap'.log (Tagged (message_of a c l) ∷ []) []

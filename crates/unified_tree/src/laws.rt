@@ -22,7 +22,7 @@ ghost use Rattle.oram_contents.specs.Slots.{MayDraw, MayRise};
 ghost use Rattle.oram_contents.specs.Steps.{Adds, opened_at, taken, stored, landed, closed};
 ghost use Rattle.oram_contents.specs.Verdict.{line_found};
 ghost use Rattle.unified_tree.specs.Left.{LeftByRead, LeftByReadCut, LeftByTake, LeftByPut, LeftByWrite};
-ghost use Rattle.unified_tree.specs.Left.{LeftByWriteCut};
+ghost use Rattle.unified_tree.specs.Left.{LeftByPutCut, LeftByWriteCut};
 ghost use Rattle.unified_tree.specs.Slot.{contents_of, WasRead};
 ghost use Rattle.unified_tree.specs.Tree.{TreeState};
 ghost use Rattle.unified_tree.specs.declared.stop.TreeStop.{TreeStop};
@@ -71,7 +71,8 @@ pub fn parts_make_slots()
 /// a refusal, what holds always and what is known unless the log shows a forgery; and where no reply was altered each
 /// block has one place. After a refused read what joined up to the first evidence is known too; where no reply was
 /// altered there is no evidence, and each block stands where it stood. So it does after a write that broke off, whose
-/// entries are still at hand. What is found by a take is the block's line, or the log shows a forgery.
+/// entries are still at hand. What is found by a take is the block's line, or the log shows a forgery. A refused put
+/// has noted its message, and the hand is as it was.
 pub fn calls_keep_contents()
     ensures read_always { (keys : Keys) (old : LogLists) (tap tap2 : TapState) (tree tree2 : TreeState) (start : ℕ)
         (asked : Option ℕ) (p : Point) → LeftByRead keys tap tap2 tree tree2 old start asked p
@@ -123,6 +124,13 @@ pub fn calls_keep_contents()
     ensures put_home { (keys : Keys) (tap tap2 : TapState) (tree tree2 : TreeState) (g : Ghost) (a : ℕ) (l : List ℕ)
         → LeftByPut keys tap tap2 tree tree2 a (g.count a) l → g.flight ≡ Some a
         → Home keys g (contents_of tree tap) → Home keys (landed (stored g a l)) (contents_of tree2 tap2) }
+    ensures put_cut_always { (keys : Keys) (tap tap2 : TapState) (tree tree2 : TreeState) (a : ℕ) (c : Counter)
+        (l : List ℕ) → LeftByPutCut keys tap tap2 tree tree2 a c l
+        → Always keys tap.log (contents_of tree tap) → Always keys tap2.log (contents_of tree2 tap2) }
+    ensures put_cut_sound { (keys : Keys) (tap tap2 : TapState) (tree tree2 : TreeState) (g : Ghost) (a : ℕ)
+        (l : List ℕ) → LeftByPutCut keys tap tap2 tree tree2 a (g.count a) l → g.flight ≡ Some a
+        → (Has a g.held → ⊥) → l ≡ line_at keys.shape g a → Sound keys tap.log g (contents_of tree tap)
+        → Sound keys tap2.log (landed g) (contents_of tree2 tap2) }
     ensures write_always { (keys : Keys) → AreKeys keys → (tap tap2 : TapState) (tree tree2 : TreeState) (leaf : ℕ)
         → LeftByWrite keys tap tap2 tree tree2 leaf → leaf < 2 ^ keys.shape.levels → tree.seed < 2 ^ 63
         → Always keys tap.log (contents_of tree tap) → Always keys tap2.log (contents_of tree2 tap2) }

@@ -321,9 +321,9 @@ fn first_evidence_is_named(rt: HostRuntime) -> Result<(), Fail> {
         // the evidence of an upper bucket comes before a broken one below
         (&[(0, 0, 1, 0), (0, 1, 1, 3)], &[(1, 0)], doubled(1), 2),
         (&[(0, 0, 1, 0), (1, 0, 2, 31)], &[(2, 2)], off(1, 0), 2),
+        (&[(1, 3, 1, 0), (2, 0, 1, 0)], &[], doubled(1), 2),
         // an entry of leaf 8 has the path's bucket at level 1, and not that at level 2
         (&[(1, 0, 3, 8), (2, 1, 4, 8)], &[(3, 0)], off(3, 1), 2),
-        (&[(1, 3, 1, 0), (2, 0, 1, 0)], &[], doubled(1), 2),
     ];
     for (placed, broken, wanted, held) in rows {
         let mut tree = filled(alloc, &shape, 200, &[entry(9, 5)])?;

@@ -3,6 +3,7 @@ use Rattle.unified_tree.proofs.CutKept.{write_cut_keeps_always, write_cut_keeps_
 use Rattle.unified_tree.proofs.Kept.{read_keeps_always, read_keeps_sound, read_keeps_home, take_keeps_always}
 use Rattle.unified_tree.proofs.Kept.{take_keeps_sound, take_keeps_home, put_keeps_always, put_keeps_sound}
 use Rattle.unified_tree.proofs.Kept.{put_keeps_home, write_keeps_always, write_keeps_sound, write_keeps_home}
+use Rattle.unified_tree.proofs.Kept.{put_cut_keeps_always, put_cut_keeps_sound}
 use Rattle.unified_tree.proofs.laws.calls_keep_contents.Goals as goal
 
 pub returns-clause-read_always : goal.returns-clause-read_always
@@ -61,3 +62,9 @@ returns-clause-write_cut_sound c = write_cut_keeps_sound
 
 pub returns-clause-write_cut_home : goal.returns-clause-write_cut_home
 returns-clause-write_cut_home c = write_cut_keeps_home
+
+pub returns-clause-put_cut_always : goal.returns-clause-put_cut_always
+returns-clause-put_cut_always c = put_cut_keeps_always
+
+pub returns-clause-put_cut_sound : goal.returns-clause-put_cut_sound
+returns-clause-put_cut_sound c = put_cut_keeps_sound
