@@ -27,7 +27,7 @@ count-step p e es = both (p e) refl
     both false is = count_by-no p e es is
 
 -- four slots hold up to four entries
-four-all : (es : List Entry) → length es ≤ 4 → flat_map option_to_list (four_slots es) ≡ es
+pub four-all : (es : List Entry) → length es ≤ 4 → flat_map option_to_list (four_slots es) ≡ es
 four-all [] few = refl
 four-all (a ∷ []) few = refl
 four-all (a ∷ b ∷ []) few = refl

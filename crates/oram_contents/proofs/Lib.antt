@@ -28,6 +28,8 @@ pub mod GroupLaws
 pub mod SmallLaws
 pub mod ChipLaws
 pub mod HomeLaws
+pub mod EntryLaws
+pub mod BucketLaws
 pub mod HomeSteps
 pub mod StartLaws
 pub mod KeyLaws

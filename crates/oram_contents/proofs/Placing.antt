@@ -31,7 +31,7 @@ get_has (x ∷ entries) zero e (inl is) = inl is
 get_has (x ∷ entries) zero e (inr none) = absurd none
 get_has (x ∷ entries) (suc i) e h = inr (get_has entries i e h)
 
-four_has : (entries : List Entry) (e : Entry) → Has e (flat_map option_to_list (four_slots entries)) → Has e entries
+pub four_has : (entries : List Entry) (e : Entry) → Has e (flat_map option_to_list (four_slots entries)) → Has e entries
 four_has entries e h =
     let slot = has_flat_map option_to_list e (four_slots entries) h in
     let at = has_map (slice_get entries) slot.0 (0 ∷ 1 ∷ 2 ∷ 3 ∷ []) slot.1 in

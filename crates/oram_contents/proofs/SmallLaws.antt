@@ -10,7 +10,7 @@ use Rattle.asc_base.specs.declared.shape.Shape.{Shape}
 use Rattle.bus_watch.specs.Log.{LogLists}
 use Rattle.bus_watch.specs.declared.log.Altered.{Altered}
 use Rattle.bus_watch.specs.declared.log.Event.{Event}
-use Rattle.posmap_counters.specs.Counters.{first_counter}
+use Rattle.posmap_counters.specs.Counters.{IsBefore, first_counter, next_group, next_own}
 use Rattle.oram_contents.specs.Counts.{put_at}
 use Rattle.oram_contents.specs.Decided.{draws}
 use Rattle.oram_contents.specs.Groups.{AreSmall}
@@ -79,6 +79,39 @@ small_raised shape ic log count a c at_top own_fits fits s = record {
     drawn_of b inside (inr other) =
         subst (λ (x : Counter). x.group + x.own ≤ count_by draws log.events) (sym (put_other count a c b other))
         (s.drawn b inside)
+
+-- a point more is drawn, and its block comes to the next group, or to the next own count where that has room
+pub small_drawn : (shape : Shape) (ic : ℕ) (old new : LogLists) (count : ℕ → Counter) (a : ℕ) (c : Counter)
+    → a < shape.total → count_by draws old.events < count_by draws new.events
+    → (c ≡ next_group (count a)) ⊎ ((c ≡ next_own (count a)) × ((count a).own < 2 ^ ic - 1)
+    × (parent_of shape.lines shape.layers a ≡ None → ⊥))
+    → AreSmall shape ic old count → AreSmall shape ic new (put_at count a c)
+small_drawn shape ic old new count a c inside more rises s = by rises
+  where
+    later : AreSmall shape ic new count
+    later = record { top = s.top; own = s.own; drawn = λ b within. omega (arith, s.drawn b within, more) }
+
+    by : (c ≡ next_group (count a)) ⊎ ((c ≡ next_own (count a)) × ((count a).own < 2 ^ ic - 1)
+        × (parent_of shape.lines shape.layers a ≡ None → ⊥)) → AreSmall shape ic new (put_at count a c)
+    by (inl is) = subst (λ (x : Counter). AreSmall shape ic new (put_at count a x)) (sym is)
+        (small_raised shape ic new count a (next_group (count a)) (λ none. refl) (omega arith)
+        (omega (arith, s.drawn a inside, more)) later)
+    by (inr own) = subst (λ (x : Counter). AreSmall shape ic new (put_at count a x)) (sym own.0)
+        (small_raised shape ic new count a (next_own (count a)) (λ none. absurd (own.2 none)) (omega (arith, own.1))
+        (omega (arith, s.drawn a inside, more)) later)
+
+-- a held child is renumbered, and a sibling is past the first counter of its group
+pub small_renumbered : (shape : Shape) (ic : ℕ) (log : LogLists) (count : ℕ → Counter) (a sibling : ℕ)
+    → a < shape.total → sibling < shape.total
+    → IsBefore (record { group = (count a).group; own = 0 }) (count sibling)
+    → AreSmall shape ic log count → AreSmall shape ic log (put_at count a (next_group (count a)))
+small_renumbered shape ic log count a sibling inside within past s =
+    small_raised shape ic log count a (next_group (count a)) (λ none. refl) (omega arith) (fits past) s
+  where
+    fits : IsBefore (record { group = (count a).group; own = 0 }) (count sibling)
+        → (next_group (count a)).group + 0 ≤ count_by draws log.events
+    fits (inl less) = omega (arith, s.drawn sibling within, less)
+    fits (inr same) = omega (arith, s.drawn sibling within, same.0, same.1)
 
 -- so no counter wraps, and each fits its place in a line
 pub small_fits : (shape : Shape) (ic : ℕ) (log : LogLists) (count : ℕ → Counter) → ic ≤ 14

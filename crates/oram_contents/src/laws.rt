@@ -2,7 +2,7 @@
 
 ghost use Rattle.std.specs.Prelude.{IsTrue, ◌↔◌, true, count_by, ◌==◌, ◌*◌, ◌≡◌, ◌<◌, ◌≤◌, ◌+◌, ◌-◌, ◌%◌, ◌^◌, ◌⊎◌, ℕ};
 ghost use Rattle.std.specs.Prelude.{suc, false, List, [], ◌∷◌, ◌++◌, length, All, replicate, slice_index, slice_set};
-ghost use Rattle.std.specs.Prelude.{Option, None, Some};
+ghost use Rattle.std.specs.Prelude.{Bool, Option, None, Some, Ok, flat_map, slice_get, slice_index_or};
 ghost use Rattle.asc_base.specs.Shape.{IsShape, shape_of};
 ghost use Rattle.bucket_codec.specs.Pad.{pad_key};
 ghost use Rattle.leaf_function.specs.Leaf.{leaf_key};
@@ -23,22 +23,28 @@ ghost use Rattle.posmap_counters.specs.Counters.{IsBefore, first_counter, next_g
 ghost use Rattle.posmap_counters.specs.Group.{group_of, own_of};
 ghost use Rattle.oram_contents.specs.Contents.{Contents, after_write, IsReadTo};
 ghost use Rattle.oram_contents.specs.Entries.{Keys, AreKeys, keys_by, real, message_of, entry_of};
+ghost use Rattle.oram_contents.specs.Entries.{entries_in, entries_at};
 ghost use Rattle.asc_base.specs.Has.{Has};
 ghost use Rattle.oram_contents.specs.Counts.{Ghost, IsAway, line_at, put_at};
 ghost use Rattle.oram_contents.specs.Chip.{HeldBlock, Chip, AreGroups, first_chip, root_place, root_stepped};
 ghost use Rattle.oram_contents.specs.Chip.{with_group};
 ghost use Rattle.oram_contents.specs.Chip.{addresses, recount_held, with_held, with_used};
 ghost use Rattle.oram_contents.specs.Groups.{IsGroupOf, AreCounters, AreSmall, moved_of};
-ghost use Rattle.oram_contents.specs.Home.{Home, AreInForm, flying};
+ghost use Rattle.oram_contents.specs.Home.{Home, AreInForm, copies, flying, total};
 ghost use Rattle.oram_contents.specs.Fold.{Fold, IsCut, LogEnd, Whole, with_entry, is_open_for, fold_events, whole};
 ghost use Rattle.oram_contents.specs.Fold.{contents_of_log};
 ghost use Rattle.bus_watch.specs.Path.{along, reads, slot_moves, writes_start};
-ghost use Rattle.oram_contents.specs.PathWritten.{sealed};
+ghost use Rattle.asc_base.specs.TreeShape.{bucket_of, move_cycles};
+ghost use Rattle.bucket_codec.specs.Bucket.{bucket_text, opened, seed_in, slot_entries};
+ghost use Rattle.oram_contents.specs.Copies.{copies_to};
+ghost use Rattle.oram_contents.specs.PathWritten.{places_of, sealed, slots_at, stays};
+ghost use Rattle.path_evict.specs.Placed.{taken_at};
+ghost use Rattle.oram_stash.specs.Entries.{AreApart};
 ghost use Rattle.oram_stash.specs.Entries.{held};
 ghost use Rattle.oram_contents.specs.Shapes.{AreOfShape};
 ghost use Rattle.asc_base.specs.TreeShape.{layer_first};
 ghost use Rattle.asc_base.specs.declared.block.Line.{Line};
-ghost use Rattle.oram_contents.specs.PathRead.{path_read, replies};
+ghost use Rattle.oram_contents.specs.PathRead.{path_read, replies, reply_at};
 ghost use Rattle.oram_contents.specs.Verdict.{judged, line_found, first_of, append_verdict, log_verdict, note_events};
 ghost use Rattle.oram_contents.specs.Verdict.{put_events, IsOfPoint, slot_verdict};
 ghost use Rattle.oram_contents.specs.Decided.{draws, shows_forgery};
@@ -350,10 +356,10 @@ pub fn buckets_stay_in_form()
         → Always keys new after × AreInForm keys after.mirror }
 {}
 
-/// The start is sound and at home, and there is a first slot of each kind. Of the logs of two slots with an altered reply one shows a forgery: the line that
-/// stood in the reply is accepted, and another one was put back. None is shown where the line that was put back is
-/// accepted, whether it stood in the reply or another one did, nor where a line is accepted that didn't stand there.
-/// The test of lists says so.
+/// The start is sound and at home, and there is a first slot of each kind. Of the logs of two slots with an altered
+/// reply one shows a forgery: the line that stood in the reply is accepted, and another one was put back. None is shown
+/// where the line that was put back is accepted, whether it stood in the reply or another one did, nor where a line is
+/// accepted that didn't stand there. The test of lists says so.
 pub fn instances_are_there()
     ensures sound { (keys : Keys) → Sound keys empty_log first_ghost (first_contents keys) }
     ensures always { (keys : Keys) → Always keys empty_log (first_contents keys) }
@@ -506,6 +512,68 @@ pub fn chip_shows_moves()
         → AreGroups shape plb (record g { held = addresses (with_used p chip).held }) (with_used p chip) }
 {}
 
+/// What stands in the buckets after the first w writes of a path, and so after all of them. A bucket on the path at a
+/// level that was written is the seal of what the rule places there, under a seed of its own; every other bucket is as
+/// before; and a bucket that was written opens to just these slots, and has that seed.
+pub fn buckets_are_as_written()
+    ensures path { (keys : Keys) → AreKeys keys → (leaf w level : ℕ) (now : Contents) → leaf < 2 ^ keys.shape.levels
+        → w ≤ keys.shape.levels + 1 → level < w → length now.mirror ≡ keys.shape.buckets
+        → slice_get (sealed keys.pads keys.shape.levels leaf now.seed now.hand now.mirror w)
+        (bucket_of keys.shape.levels leaf level)
+        ≡ Some (bucket_text keys.pads (now.seed + level) (slots_at keys.shape.levels leaf now.hand level)) }
+    ensures others { (keys : Keys) (leaf w bucket : ℕ) (now : Contents)
+        → ((level : ℕ) → level < w → bucket_of keys.shape.levels leaf level ≡ bucket → ⊥)
+        → slice_get (sealed keys.pads keys.shape.levels leaf now.seed now.hand now.mirror w) bucket
+        ≡ slice_get now.mirror bucket }
+    ensures opened { (keys : Keys) → AreKeys keys → (leaf w level : ℕ) (now : Contents) → leaf < 2 ^ keys.shape.levels
+        → w ≤ keys.shape.levels + 1 → level < w → length now.mirror ≡ keys.shape.buckets
+        → AreOfShape keys.shape now.hand → 0 < now.seed → HasSeeds now
+        → let bytes = slice_index_or (sealed keys.pads keys.shape.levels leaf now.seed now.hand now.mirror w)
+        (bucket_of keys.shape.levels leaf level) [] in
+        (opened keys.pads keys.shape bytes ≡ Ok (slots_at keys.shape.levels leaf now.hand level))
+        × (seed_in bytes ≡ now.seed + level) }
+    ensures sized { (keys : Keys) (leaf w : ℕ) (now : Contents)
+        → length (sealed keys.pads keys.shape.levels leaf now.seed now.hand now.mirror w) ≡ length now.mirror }
+{}
+
+/// What a path's read leaves at hand: the entries that were there, and behind them those of the path's replies in
+/// order, and nothing else. So each block's copies add up, and addresses at hand go on to differ.
+pub fn entries_are_joined()
+    ensures joined { (keys : Keys) (start leaf : ℕ) (altered : List Altered) (now : Contents) (joined : List Entry)
+        → IsReadTo keys.pads keys.shape start leaf altered now joined
+        → joined ≡ now.hand ++ flat_map (entries_in keys)
+        (replies keys.shape.levels start leaf now.mirror altered) }
+    ensures copies { (keys : Keys) (start leaf : ℕ) (altered : List Altered) (now : Contents) (joined : List Entry)
+        → IsReadTo keys.pads keys.shape start leaf altered now joined → (a : ℕ)
+        → copies a joined ≡ copies a now.hand + total (λ level. copies a (entries_in keys
+        (reply_at now.mirror altered (start + move_cycles * level) (bucket_of keys.shape.levels leaf level))))
+        (keys.shape.levels + 1) }
+    ensures unaltered { (keys : Keys) (start leaf : ℕ) (now : Contents) (joined : List Entry)
+        → IsReadTo keys.pads keys.shape start leaf [] now joined → (a : ℕ)
+        → copies a joined ≡ copies a now.hand + total
+        (λ level. copies a (entries_at keys now.mirror (bucket_of keys.shape.levels leaf level)))
+        (keys.shape.levels + 1) }
+    ensures apart { (keys : Keys) (start leaf : ℕ) (altered : List Altered) (now : Contents) (joined : List Entry)
+        → IsReadTo keys.pads keys.shape start leaf altered now joined → AreApart now.hand → AreApart joined }
+{}
+
+/// What a path's write makes of the entries at hand: each that is placed was at hand, and its bucket is on the path of
+/// its own leaf too; a bucket takes four at most, and has them all in its slots; what stays was at hand; and none is
+/// lost or doubled, whatever is counted: of each block, those that stay and those that are placed are those before.
+pub fn entries_are_placed()
+    ensures on_path { (keys : Keys) → AreKeys keys → (leaf level : ℕ) (hand : List Entry) (e : Entry)
+        → leaf < 2 ^ keys.shape.levels → level ≤ keys.shape.levels → AreOfShape keys.shape hand
+        → Has e (slot_entries (slots_at keys.shape.levels leaf hand level))
+        → Has e hand × (bucket_of keys.shape.levels leaf level ≡ bucket_of keys.shape.levels e.leaf.0 level) }
+    ensures number { (levels leaf level : ℕ) (hand : List Entry)
+        → (length (taken_at level (places_of levels leaf hand) hand) ≤ 4)
+        × (slot_entries (slots_at levels leaf hand level) ≡ taken_at level (places_of levels leaf hand) hand) }
+    ensures stay { (levels leaf : ℕ) (hand : List Entry) (e : Entry) → Has e (stays levels leaf hand) → Has e hand }
+    ensures copies { (test : Entry → Bool) (levels leaf : ℕ) (hand : List Entry)
+        → count_by test (stays levels leaf hand) + copies_to test levels leaf hand (levels + 1)
+        ≡ count_by test hand }
+{}
+
 /// Counters keep their room, and siblings their common group: at the start, where a counter changes within its room,
 /// and where a group move begins or ends.
 pub fn counters_keep_room()
@@ -525,7 +593,11 @@ pub fn counters_keep_room()
 {}
 
 /// Counters stay small: from the start on, however the log goes on, and where a counter changes within its room. So
-/// while fewer than 2 ^ 28 points are drawn no group count wraps, and each own count fits its place in a line.
+/// they do where a point more is drawn and its block comes to the next group, or to the next own count where that has
+/// room; and where a held child is renumbered, though nothing is drawn, since a sibling is past its group's first
+/// counter: the one whose own count is the greatest, or one that was moved. So while fewer than 2 ^ 28 points are drawn
+/// no group count wraps, and each own count fits its place in a line; that fewer are drawn is known of a port, whose
+/// slots take their cycles (`counters_are_low` of oram_lines).
 pub fn counters_stay_small()
     ensures start { (shape : Shape) (ic : ℕ) → AreSmall shape ic empty_log (λ a. first_counter) }
     ensures grown { (shape : Shape) (ic : ℕ) (old new : LogLists) (events : List Event) (altered : List Altered)
@@ -535,6 +607,15 @@ pub fn counters_stay_small()
         → (parent_of shape.lines shape.layers a ≡ None → c.own ≡ 0) → c.own ≤ 2 ^ ic - 1
         → c.group + c.own ≤ count_by draws log.events → AreSmall shape ic log count
         → AreSmall shape ic log (put_at count a c) }
+    ensures drawn { (shape : Shape) (ic : ℕ) (old new : LogLists) (count : ℕ → Counter) (a : ℕ) (c : Counter)
+        → a < shape.total → count_by draws old.events < count_by draws new.events
+        → (c ≡ next_group (count a)) ⊎ ((c ≡ next_own (count a)) × ((count a).own < 2 ^ ic - 1)
+        × (parent_of shape.lines shape.layers a ≡ None → ⊥))
+        → AreSmall shape ic old count → AreSmall shape ic new (put_at count a c) }
+    ensures renumbered { (shape : Shape) (ic : ℕ) (log : LogLists) (count : ℕ → Counter) (a sibling : ℕ)
+        → a < shape.total → sibling < shape.total
+        → IsBefore (record { group = (count a).group; own = 0 }) (count sibling)
+        → AreSmall shape ic log count → AreSmall shape ic log (put_at count a (next_group (count a))) }
     ensures fits { (shape : Shape) (ic : ℕ) (log : LogLists) (count : ℕ → Counter) → ic ≤ 14
         → count_by draws log.events < 2 ^ 28 → AreSmall shape ic log count → (a : ℕ) → a < shape.total
         → ((count a).group < 2 ^ 28) × ((count a).own < 16384) }
