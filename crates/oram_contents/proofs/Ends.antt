@@ -1,4 +1,4 @@
--- The end of a slot, with a choice or without, changes no contents.
+-- The end of a slot, with a choice or without, changes no contents, and an answered line doesn't.
 use Rattle.std.proofs.Common.{◌≡◌, ◌≤◌, ℕ, [], ◌∷◌, length, sym, subst, ◌∙◌, ap, arith}
 use Rattle.std.proofs.Common.{append-nil, length-append, inl, inr}
 use Rattle.asc_base.specs.declared.block.Counter.{Counter}
@@ -7,7 +7,8 @@ use Rattle.asc_base.specs.declared.block.Message.{Message}
 use Rattle.asc_base.specs.declared.block.Point.{Point}
 use Rattle.asc_base.specs.declared.block.Leaf.{Leaf}
 use Rattle.bus_watch.specs.Log.{LogLists}
-use Rattle.bus_watch.specs.declared.log.Event.TheVariants.{Chosen, Tagged, Drawn}
+use Rattle.asc_base.specs.declared.block.Line.{Line}
+use Rattle.bus_watch.specs.declared.log.Event.TheVariants.{Answered, Chosen, Tagged, Drawn}
 use Rattle.oram_contents.specs.Contents.{Contents}
 use Rattle.oram_contents.specs.Fold.{Fold, fold_events, settle, whole}
 use Rattle.oram_contents.specs.Counts.{Ghost}
@@ -20,6 +21,7 @@ use Rattle.asc_base.proofs.Members.{has_left, has_last}
 use Rattle.oram_contents.proofs.GrowSteps.{forgery_more}
 use Rattle.oram_contents.proofs.Folding.{fold_append}
 use Rattle.oram_contents.specs.Slots.{IsEnd}
+use Rattle.oram_contents.specs.Steps.{Adds}
 
 pub whole_ends : (keys : Keys) (first : Fold) (old new : LogLists) → IsEnd old new
     → whole keys first new ≡ whole keys first old
@@ -30,6 +32,14 @@ whole_ends keys first old new e =
       | inr x ↦ ap (λ l. (settle keys (fold_events keys old.altered 0 l first)).now) x.1
           ∙ ap (λ f. (settle keys f).now) (fold_append keys old.altered 0 old.events (Chosen x.0 ∷ []) first)
     ]
+
+-- nor does an answer
+pub whole_answered : (keys : Keys) (first : Fold) (old new : LogLists) (line : ℕ) (value : Line)
+    → Adds old new (Answered line value ∷ []) [] → whole keys first new ≡ whole keys first old
+whole_answered keys first old new line value more =
+    ap (λ l. (settle keys (fold_events keys l 0 new.events first)).now) (more.altered_are ∙ append-nil old.altered)
+    ∙ ap (λ l. (settle keys (fold_events keys old.altered 0 l first)).now) more.events_are
+    ∙ ap (λ f. (settle keys f).now) (fold_append keys old.altered 0 old.events (Answered line value ∷ []) first)
 
 not_tagged : (m : Message) (index : ℕ) → Tagged m ≡ Chosen index → ⊥
 not_tagged m index is = cc

@@ -16,6 +16,7 @@ pub mod WriteSteps
 pub mod StopSteps
 pub mod Deciding
 pub mod Final
+pub mod ForgedLines
 pub mod Folding
 pub mod VerdictLaws
 pub mod Ends

@@ -35,7 +35,7 @@ ghost use Rattle.oram_contents.specs.Fold.{Fold, IsCut, LogEnd, Whole, with_entr
 ghost use Rattle.oram_contents.specs.Fold.{contents_of_log};
 ghost use Rattle.bus_watch.specs.Path.{along, reads, slot_moves, writes_start};
 ghost use Rattle.asc_base.specs.TreeShape.{bucket_of, move_cycles};
-ghost use Rattle.bucket_codec.specs.Bucket.{bucket_text, opened, seed_in, slot_entries};
+ghost use Rattle.bucket_codec.specs.Bucket.{Holds, bucket_text, opened, seed_in, slot_entries};
 ghost use Rattle.oram_contents.specs.Copies.{copies_to};
 ghost use Rattle.oram_contents.specs.PathWritten.{places_of, sealed, slots_at, stays};
 ghost use Rattle.path_evict.specs.Placed.{taken_at};
@@ -110,6 +110,13 @@ pub fn verdicts_are_the_first()
 pub fn forgeries_stay()
     ensures { (keys : Keys) (old new : LogLists) (events : List Event) (altered : List Altered)
         → Adds old new events altered → Forgery keys old → Forgery keys new }
+{}
+
+/// What a forgery accepts stood in a slot of an altered reply that is in the form, with address, line and tag.
+pub fn forged_lines_were_held()
+    ensures { (keys : Keys) (log : LogLists) (f : Forgery keys log)
+        → (e : Entry) × Holds keys.pads keys.shape f.reply.bytes e × (e.address.0 ≡ f.message.address.0)
+        × (e.line.0 ≡ f.message.line.0) × (e.tag ≡ f.found) }
 {}
 
 /// Whether a log shows a forgery is a test of its lists.
@@ -238,6 +245,8 @@ pub fn ends_keep()
         → Adds old new (Answered line value ∷ []) [] → (g : Ghost) → Sound keys old g now → Sound keys new g now }
     ensures answered_always { (keys : Keys) (old new : LogLists) (now : Contents) (line : ℕ) (value : Line)
         → Adds old new (Answered line value ∷ []) [] → Always keys old now → Always keys new now }
+    ensures answered_contents { (keys : Keys) (first : Fold) (old new : LogLists) (line : ℕ) (value : Line)
+        → Adds old new (Answered line value ∷ []) [] → whole keys first new ≡ whole keys first old }
 {}
 
 /// Dummies, however many, each with the choice at its end where one falls, keep what is known, whichever block waits

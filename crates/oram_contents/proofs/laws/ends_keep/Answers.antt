@@ -1,5 +1,5 @@
 use Rattle.oram_contents.proofs.Answers.{answered_sound, answered_always}
-use Rattle.oram_contents.proofs.Ends.{whole_ends, sound_ends, always_ends, forgery_ends}
+use Rattle.oram_contents.proofs.Ends.{whole_ends, whole_answered, sound_ends, always_ends, forgery_ends}
 use Rattle.oram_contents.proofs.laws.ends_keep.Goals as goal
 
 pub returns-clause-contents : goal.returns-clause-contents
@@ -19,3 +19,6 @@ returns-clause-answered c = answered_sound
 
 pub returns-clause-answered_always : goal.returns-clause-answered_always
 returns-clause-answered_always c = answered_always
+
+pub returns-clause-answered_contents : goal.returns-clause-answered_contents
+returns-clause-answered_contents c = whole_answered
