@@ -2,7 +2,7 @@
 -- came by a reply.
 use Rattle.std.proofs.Common.{◌≡◌, ◌+◌, ◌*◌, ◌⊎◌, inl, inr, ℕ, Bool, true, false, if◌then◌else◌, ◌==◌, List, [], ◌∷◌}
 use Rattle.std.proofs.Common.{◌++◌, map, flat_map, get_or, Option, None, Some, Result, Ok, Err, is_some, refl, sym, ◌∙◌}
-use Rattle.std.proofs.Common.{subst}
+use Rattle.std.proofs.Common.{zero, suc, take, ap, subst, append-nil, append_assoc}
 use Rattle.std.specs.List.{range_with_len}
 use Rattle.std.specs.Option.{option_to_list}
 use Rattle.std.proofs.lemmas.Bool.Decides.{eqb_tells}
@@ -18,6 +18,8 @@ use Rattle.bus_watch.specs.declared.log.Altered.{Altered}
 use Rattle.oram_contents.specs.Contents.{entries_of}
 use Rattle.oram_contents.specs.Entries.{Keys, entries_in}
 use Rattle.oram_contents.specs.PathRead.{reply_at, replies, then_join, join_slots, join_bucket}
+use Rattle.oram_contents.specs.PathRead.{join_buckets}
+use Rattle.oram_contents.proofs.JoinLaws.{buckets-joined}
 use Rattle.oram_contents.proofs.Joined.{CameBy}
 use Rattle.oram_stash.specs.Entries.{held, AreApart}
 use Rattle.oram_stash.proofs.Apart.{AreApart-append}
@@ -154,3 +156,91 @@ joined_came keys start leaf mirror altered hand e h = elim (from e h) [ inl l �
         (bucket_of keys.shape.levels leaf level)) of_text.0 (range_with_len 0 (keys.shape.levels + 1)) of_text.1 in
         by_reply of_text.0 (subst (λ b. Has e (entries_of b)) of_text.2 of_bucket.2) (start + 40 * of_level.0)
         (bucket_of keys.shape.levels leaf of_level.0) of_level.2
+
+-- a beginning of a list is one of a longer list, and goes on behind a list
+begin_left : (n : ℕ) (xs ys : List Entry) → (k : ℕ) × (take k (xs ++ ys) ≡ take n xs)
+begin_left zero xs ys = (0, refl)
+begin_left (suc n) [] ys = (0, refl)
+begin_left (suc n) (x ∷ xs) ys = let later = begin_left n xs ys in (suc later.0, ap (λ l. x ∷ l) later.1)
+
+begin_more : (n : ℕ) (xs ys : List Entry) → (k : ℕ) × (take k (xs ++ ys) ≡ xs ++ take n ys)
+begin_more n [] ys = (n, refl)
+begin_more n (x ∷ xs) ys = let later = begin_more n xs ys in (suc later.0, ap (λ l. x ∷ l) later.1)
+
+slots_begin : (levels leaf level slot : ℕ) (slots : List (Option Entry)) (hand : List Entry)
+    → (n : ℕ) × (slots_joined levels leaf level slot slots hand ≡ hand ++ take n (flat_map option_to_list slots))
+slots_begin levels leaf level slot [] hand = (0, sym (append-nil hand))
+slots_begin levels leaf level slot (None ∷ rest) hand = slots_begin levels leaf level (slot + 1) rest hand
+slots_begin levels leaf level slot (Some entry ∷ rest) hand = both
+    (bucket_of levels entry.leaf.0 level == bucket_of levels leaf level) (is_some (held hand entry.address))
+    (slots_begin levels leaf level (slot + 1) rest (hand ++ entry ∷ []))
+  where
+    both : (b c : Bool)
+        → ((n : ℕ) × (slots_joined levels leaf level (slot + 1) rest (hand ++ entry ∷ [])
+        ≡ (hand ++ entry ∷ []) ++ take n (flat_map option_to_list rest)))
+        → (n : ℕ) × (hand_then (slot_by b c (bucket_of levels leaf level) slot entry hand) hand
+        (slots_joined levels leaf level (slot + 1) rest)
+        ≡ hand ++ take n (entry ∷ flat_map option_to_list rest))
+    both true true later = (0, sym (append-nil hand))
+    both true false later = (
+      suc later.0,
+      later.1 ∙ append_assoc hand (entry ∷ []) (take later.0 (flat_map option_to_list rest)),
+    )
+    both false c later = (0, sym (append-nil hand))
+
+-- where all slots of a bucket join, they are all its entries
+slots_whole : (levels leaf level : ℕ) (slots : List (Option Entry)) (hand joined : List Entry)
+    → join_bucket levels leaf level (Ok slots) hand ≡ Ok joined → joined ≡ hand ++ flat_map option_to_list slots
+slots_whole levels leaf level slots hand joined is =
+    buckets-joined levels leaf level (Ok slots ∷ []) hand joined
+    (ap (λ r. then_join r (join_buckets levels leaf (level + 1) [])) is)
+    ∙ ap (λ l. hand ++ l) (append-nil (flat_map option_to_list slots))
+
+-- behind the hand joins a beginning of what the buckets hold
+pub buckets_begin : (levels leaf level : ℕ) (buckets : List (Result (List (Option Entry)) Bad)) (hand : List Entry)
+    → (n : ℕ) × (buckets_joined levels leaf level buckets hand ≡ hand ++ take n (flat_map entries_of buckets))
+buckets_begin levels leaf level [] hand = (0, sym (append-nil hand))
+buckets_begin levels leaf level (Err bad ∷ rest) hand = (0, sym (append-nil hand))
+buckets_begin levels leaf level (Ok slots ∷ rest) hand = both (join_bucket levels leaf level (Ok slots) hand) refl
+    (λ next. buckets_begin levels leaf (level + 1) rest next)
+  where
+    here : List Entry
+    here = flat_map option_to_list slots
+
+    below : List Entry
+    below = flat_map entries_of rest
+
+    both : (r : Result (List Entry) Evidence) → join_bucket levels leaf level (Ok slots) hand ≡ r
+        → ((next : List Entry) → (n : ℕ)
+        × (buckets_joined levels leaf (level + 1) rest next ≡ next ++ take n below))
+        → (n : ℕ) × (hand_then r (slots_joined levels leaf level 0 slots hand)
+        (buckets_joined levels leaf (level + 1) rest) ≡ hand ++ take n (here ++ below))
+    both (Ok next) is later =
+        let rest_of = later next in
+        let more = begin_more rest_of.0 here below in (
+          more.0,
+          rest_of.1 ∙ ap (λ h. h ++ take rest_of.0 below) (slots_whole levels leaf level slots hand next is)
+              ∙ append_assoc hand here (take rest_of.0 below) ∙ ap (λ l. hand ++ l) (sym more.1),
+        )
+    both (Err evidence) is later =
+        let part = slots_begin levels leaf level 0 slots hand in
+        let left = begin_left part.0 here below in (left.0, part.1 ∙ ap (λ l. hand ++ l) (sym left.1))
+
+-- where there is no evidence this is the hand after the read
+pub buckets_same : (levels leaf level : ℕ) (buckets : List (Result (List (Option Entry)) Bad))
+    (hand joined : List Entry) → join_buckets levels leaf level buckets hand ≡ Ok joined
+    → buckets_joined levels leaf level buckets hand ≡ joined
+buckets_same levels leaf level [] hand joined is = ok_is is
+buckets_same levels leaf level (Err bad ∷ rest) hand joined is = not_ok is
+buckets_same levels leaf level (Ok slots ∷ rest) hand joined is = both
+    (join_bucket levels leaf level (Ok slots) hand) (λ next same. buckets_same levels leaf (level + 1) rest next joined
+    same) is
+  where
+    both : (r : Result (List Entry) Evidence)
+        → ((next : List Entry) → join_buckets levels leaf (level + 1) rest next ≡ Ok joined
+        → buckets_joined levels leaf (level + 1) rest next ≡ joined)
+        → then_join r (join_buckets levels leaf (level + 1) rest) ≡ Ok joined
+        → hand_then r (slots_joined levels leaf level 0 slots hand) (buckets_joined levels leaf (level + 1) rest)
+        ≡ joined
+    both (Ok next) later is = later next is
+    both (Err evidence) later is = not_ok is

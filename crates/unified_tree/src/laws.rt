@@ -1,19 +1,23 @@
 //! Laws of a slot's parts. The functions do nothing: each states a law in its contract.
 
 ghost use Rattle.std.specs.Prelude.{◌≡◌, ◌<◌, ◌+◌, ◌^◌, ◌⊎◌, ℕ, List, [], ◌∷◌, ◌++◌, length, Option, None, Some, Ok};
+ghost use Rattle.std.specs.Prelude.{map, flat_map, take};
 ghost use Rattle.asc_base.specs.Has.{Has};
 ghost use Rattle.asc_base.specs.declared.block.Counter.{Counter};
 ghost use Rattle.asc_base.specs.declared.block.Entry.{Entry};
 ghost use Rattle.asc_base.specs.declared.block.Point.{Point};
 ghost use Rattle.asc_base.specs.declared.block.Point.TheVariants.{Dummy};
+ghost use Rattle.asc_base.specs.declared.shape.Shape.{Shape};
+ghost use Rattle.bucket_codec.specs.Bucket.{opened};
 ghost use Rattle.bus_watch.specs.Log.{LogLists, TapState};
 ghost use Rattle.bus_watch.specs.declared.log.Event.TheVariants.{Tagged};
 ghost use Rattle.oram_stash.specs.Entries.{without};
-ghost use Rattle.oram_contents.specs.Contents.{Contents, after_write};
+ghost use Rattle.oram_contents.specs.Contents.{Contents, after_write, entries_of};
 ghost use Rattle.oram_contents.specs.Counts.{Ghost, line_at};
 ghost use Rattle.oram_contents.specs.Entries.{Keys, AreKeys, real, message_of, entry_of};
 ghost use Rattle.oram_contents.specs.Forgery.{Forgery, LastDrawn};
 ghost use Rattle.oram_contents.specs.Home.{Home, AreInForm};
+ghost use Rattle.oram_contents.specs.PathRead.{path_read};
 ghost use Rattle.oram_contents.specs.PathWritten.{stays, sealed};
 ghost use Rattle.oram_contents.specs.Provenance.{Always, Sound};
 ghost use Rattle.oram_contents.specs.Shapes.{AreOfShape};
@@ -21,6 +25,7 @@ ghost use Rattle.oram_contents.specs.Slots.{drawn_events, IsRead, IsFound, IsPut
 ghost use Rattle.oram_contents.specs.Slots.{MayDraw, MayRise};
 ghost use Rattle.oram_contents.specs.Steps.{Adds, opened_at, taken, stored, landed, closed};
 ghost use Rattle.oram_contents.specs.Verdict.{line_found};
+ghost use Rattle.unified_tree.specs.Joined.{path_joined};
 ghost use Rattle.unified_tree.specs.Left.{LeftByRead, LeftByReadCut, LeftByTake, LeftByPut, LeftByWrite};
 ghost use Rattle.unified_tree.specs.Left.{LeftByPutCut, LeftByWriteCut};
 ghost use Rattle.unified_tree.specs.Slot.{contents_of, WasRead};
@@ -65,6 +70,16 @@ pub fn parts_make_slots()
         → Adds looked new [] [] → after ≡ after_write keys.pads keys.shape.levels (keys.leaf_of (real a c))
         (record now { hand = without joined (record { 0 = a }) })
         → IsRefill keys old new now after start a c found }
+{}
+
+/// What is at hand after a path's read, up to its first evidence, is what was there, and behind it a beginning of the
+/// entries that the replies have, by level and slot. Where there is no evidence it is the hand that the read says.
+pub fn reads_join_a_beginning()
+    ensures beginning { (key : List ℕ) (shape : Shape) (leaf : ℕ) (texts : List (List ℕ)) (hand : List Entry)
+        → (n : ℕ) × (path_joined key shape leaf texts hand
+        ≡ hand ++ take n (flat_map entries_of (map (opened key shape) texts))) }
+    ensures whole { (key : List ℕ) (shape : Shape) (leaf : ℕ) (texts : List (List ℕ)) (hand joined : List Entry)
+        → path_read key shape leaf texts hand ≡ Ok joined → path_joined key shape leaf texts hand ≡ joined }
 {}
 
 /// The tree's calls keep what is known of the contents, for every tag key and leaf function: after an answer, and after
