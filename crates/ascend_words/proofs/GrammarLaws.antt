@@ -11,6 +11,7 @@ use Rattle.std.proofs.lemmas.Grind.{common_steps}
 use Rattle.std.proofs.lemmas.List.{take-map, map-append, take-append-drop, length-map}
 use Rattle.std.proofs.lemmas.Option.{same_Some}
 use Rattle.std.proofs.lemmas.Slice.Eq.{bytes_eq-Decides}
+use Rattle.asc_base.proofs.Bytes.{both}
 use Rattle.ascend_words.specs.Grammar.{Pair, Read, AllFollow, AreGiven, IsFault, IsWords, KeepRules, Keeps}
 use Rattle.ascend_words.specs.Grammar.{MayFollow, has_required, texts, value_in, word_of, breaks, missing}
 use Rattle.ascend_words.specs.Reading.{pair_of, pairs, IsMisfit}
@@ -22,7 +23,6 @@ use Rattle.ascend_words.specs.declared.table.Name.{Name}
 use Rattle.ascend_words.specs.declared.table.Name.TheVariants.{Elf, Key, Output, Input, Text, Trace, At, Size, Base}
 use Rattle.ascend_words.specs.declared.table.Name.TheVariants.{Sets, Ways, Plb, Roots, Ic, Stash, Budget, Time, Leak}
 use Rattle.ascend_words.specs.declared.table.Name.TheVariants.{Rates, First, Epoch, Save, Seed, Words}
-use Rattle.ascend_words.proofs.NumberLaws.{both_true}
 
 -- The laws of the tables, each with one case for each row.
 
@@ -140,8 +140,8 @@ first_split (x ∷ xs) [] v w a b e =
 first_split (x ∷ xs) (y ∷ ys) v w a b e =
     let same : x ≡ y = cc in
     let tail : xs ++ 61 ∷ v ≡ ys ++ 61 ∷ w = cc in
-    let rest = first_split xs ys v w (both_true (not (eqb x 61)) (lacks xs) a).1
-    (both_true (not (eqb y 61)) (lacks ys) b).1 tail in
+    let rest = first_split xs ys v w (both (not (eqb x 61)) (lacks xs) a).1
+    (both (not (eqb y 61)) (lacks ys) b).1 tail in
     (ap (λ z. z ∷ xs) same ∙ ap (λ l. y ∷ l) rest.0, rest.1)
 
 pub word_of-one : (p q : Pair) → word_of p ≡ word_of q → p ≡ q

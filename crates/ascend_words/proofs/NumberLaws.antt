@@ -1,5 +1,5 @@
 -- What `parse` gives at a number of the command line.
-use Rattle.std.proofs.Common.{◌≡◌, ℕ, ◌<◌, ◌≤◌, ◌^◌, Bool, true, false, ◌&&◌, cond, not, List, [], ◌∷◌, length}
+use Rattle.std.proofs.Common.{◌≡◌, ℕ, ◌<◌, ◌≤◌, ◌^◌, true, false, ◌&&◌, cond, not, List, [], ◌∷◌, length}
 use Rattle.std.proofs.Common.{Some, None, Result, Ok, refl, sym, ap, ◌∙◌, arith}
 use Rattle.std.specs.Prelude.{◌||◌, ◌==◌, nat_le}
 use Rattle.std.proofs.lemmas.Bool.Decides.{nat_tests}
@@ -10,16 +10,12 @@ use Rattle.std.specs.Str.{all_ascii_digits}
 use Rattle.std.specs.Str.Parse.{digits_value, ParsesUnsigned}
 use Rattle.std.proofs.lemmas.Str.Parse.{IsNumeralModel, numerals_by_value, tells_all_ascii_digits, parse_gives}
 use Rattle.std.proofs.lemmas.Str.Parse.{digits_value_short}
+use Rattle.asc_base.proofs.Bytes.{both}
 use Rattle.ascend_words.specs.Numbers.{is_number, number_of}
 
 digits_same : (text : List ℕ) → list_all is_ascii_digit text ≡ all_ascii_digits text
 digits_same [] = refl
 digits_same (c ∷ cs) = ap (λ rest. is_ascii_digit c && rest) (digits_same cs)
-
-pub both_true : (a b : Bool) → (a && b) ≡ true → (a ≡ true) × (b ≡ true)
-both_true true true e = (refl, refl)
-both_true true false e = absurd (let no : ⊥ = cc in no)
-both_true false b e = absurd (let no : ⊥ = cc in no)
 
 own : IsNumeralModel (λ ds. all_ascii_digits ds ≡ true) (digits_value 10)
 own = numerals_by_value _ tells_all_ascii_digits
@@ -42,9 +38,9 @@ pub parsed : {E : Type 0} (text : List ℕ) (r : Result ℕ E) → ParsesUnsigne
     → result_ok r ≡ number_of text
 parsed [] r h e = absurd (let no : ⊥ = cc in no)
 parsed (first ∷ more) r h e =
-    let form = both_true (list_all is_ascii_digit (first ∷ more) && nat_le (length more) 9)
+    let form = both (list_all is_ascii_digit (first ∷ more) && nat_le (length more) 9)
     (not (first == 48) || length more == 0) e in
-    let short = both_true (list_all is_ascii_digit (first ∷ more)) (nat_le (length more) 9) form.0 in
+    let short = both (list_all is_ascii_digit (first ∷ more)) (nat_le (length more) 9) form.0 in
     let nine = le_nine (length more) short.1 in
     ap result_ok (ten_digits (first ∷ more) r h (sym (digits_same (first ∷ more)) ∙ short.0) (omega arith)
     (omega (arith, nine)))

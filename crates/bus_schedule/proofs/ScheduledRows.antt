@@ -9,7 +9,7 @@ use Rattle.bus_watch.specs.Path.{along}
 use Rattle.bus_schedule.specs.Schedule.{moves_of, schedule}
 use Rattle.bus_schedule.specs.Shown.{code_of}
 use Rattle.bus_schedule.specs.Scheduled.{log_code, IsScheduled}
-use Rattle.bus_schedule.specs.Rows.{two_rates, first_slot_log, idle_log}
+use Rattle.bus_schedule.specs.Rows.{two_rates, longer_epoch, first_slot_log, idle_log}
 use Rattle.bus_schedule.proofs.TimetableLaws.{start-first}
 use Rattle.bus_schedule.proofs.TimetableParts.{fallen-inside}
 use Rattle.bus_schedule.proofs.ScheduledLaws.{scheduled-few}
@@ -71,3 +71,23 @@ pub none-yet : IsScheduled two_rates 0 (idle_log [])
 unfolding greatest bits_of most_of epoch_at beat_at starts_from starts timetable ended_by
     along moves_of schedule code_of
 none-yet = record { starts = refl; leaves = refl; moves = refl; indices = All-nil (λ index. index < 2); fell = refl }
+
+-- where epoch 1 starts at 400
+pub no-choice : IsScheduled longer_epoch 304 (first_slot_log [])
+unfolding greatest bits_of most_of epoch_at beat_at starts_from starts timetable ended_by
+    along moves_of schedule code_of
+no-choice =
+    record { starts = refl; leaves = refl; moves = refl; indices = All-nil (λ index. index < 2); fell = refl }
+
+pub longer-start : IsScheduled longer_epoch 0 (idle_log [])
+unfolding greatest bits_of most_of epoch_at beat_at starts_from starts timetable ended_by
+    along moves_of schedule code_of
+longer-start =
+    record { starts = refl; leaves = refl; moves = refl; indices = All-nil (λ index. index < 2); fell = refl }
+
+fallen-none : fallen longer_epoch (log_code longer_epoch (idle_log (Chosen 1 ∷ Chosen 1 ∷ []))) 0 ≡ 0
+unfolding greatest bits_of most_of epoch_at beat_at starts_from starts timetable ended_by code_of
+fallen-none = refl
+
+pub longer-twice : IsScheduled longer_epoch 0 (idle_log (Chosen 1 ∷ Chosen 1 ∷ [])) → ⊥
+longer-twice h = absurd (omega (arith, h.fell, fallen-none))

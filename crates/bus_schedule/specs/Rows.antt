@@ -15,6 +15,10 @@ four_rates = record { levels = 5; rates = 256 ∷ 1024 ∷ 4096 ∷ 16384 ∷ []
 abbrev pub two_rates : Public
 two_rates = record { levels = 1; rates = 64 ∷ 128 ∷ []; first = 1; epoch = 304; leak = 1 }
 
+-- The same but for epoch 1, which starts at 400, so that none starts by the end of the first slot.
+abbrev pub longer_epoch : Public
+longer_epoch = record { levels = 1; rates = 64 ∷ 128 ∷ []; first = 1; epoch = 400; leak = 1 }
+
 -- the first slot, whose leaf is 0, and these events after it
 abbrev pub first_slot_log : List Event → LogLists
 first_slot_log events = record {

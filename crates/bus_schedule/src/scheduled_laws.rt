@@ -16,7 +16,7 @@ ghost use Rattle.bus_watch.specs.Log.{LogLists, with_event};
 ghost use Rattle.bus_schedule.specs.Timetable.{Public, public_of, count_of, choices_of, rate_at, falls_next};
 ghost use Rattle.bus_schedule.specs.Timetable.{beat_with, beat_at, start_at, end_at};
 ghost use Rattle.bus_watch.specs.Path.{along, reads, writes_start, slot_moves};
-ghost use Rattle.bus_schedule.specs.Rows.{two_rates, first_slot_log, idle_log};
+ghost use Rattle.bus_schedule.specs.Rows.{two_rates, longer_epoch, first_slot_log, idle_log};
 ghost use Rattle.bus_schedule.specs.Shown.{starts_of, leaves_of, indices_of, AreSilent};
 ghost use Rattle.bus_schedule.specs.Scheduled.{log_code, IsScheduled, HasChosen, Between, Inside, ShowsNoMore};
 
@@ -53,7 +53,7 @@ pub fn log_is_scheduled()
 /// The choice at a slot's end is noted by the time of that end, and not before; and no more choices are noted than
 /// fall. So the log of one slot, at whose end a choice falls, is scheduled up to the cycle before the end without the
 /// choice alone, and up to the end with it alone; and a log of two choices, where one is allowed, is scheduled up to
-/// no time.
+/// no time. Where epoch 1 starts later, at 400, no choice falls at that end, none before the first slot, and so not two.
 pub fn scheduled_rows()
     ensures before { IsScheduled two_rates 303 (first_slot_log []) }
     ensures early { (index : ℕ) → IsScheduled two_rates 303 (first_slot_log (Chosen index ∷ [])) → ⊥ }
@@ -65,6 +65,9 @@ pub fn scheduled_rows()
     ensures twice_after { (end first second : ℕ)
         → IsScheduled two_rates end (first_slot_log (Chosen first ∷ Chosen second ∷ [])) → ⊥ }
     ensures idle { IsScheduled two_rates 0 (idle_log []) }
+    ensures longer { IsScheduled longer_epoch 304 (first_slot_log []) }
+    ensures longer_idle { IsScheduled longer_epoch 0 (idle_log []) }
+    ensures longer_twice { IsScheduled longer_epoch 0 (idle_log (Chosen 1 ∷ Chosen 1 ∷ [])) → ⊥ }
 {}
 
 /// A slot begins at its time, and its leaf is drawn.

@@ -1,6 +1,5 @@
 -- The moves of a slot along the path of its leaf: reads from the root down, one after another, a turn, and writes in
--- the
--- same order.
+-- the same order.
 use Rattle.std.specs.Prelude.{ℕ, zero, suc, ◌+◌, ◌*◌, Bool, true, false, List, [], ◌∷◌, ◌++◌}
 use Rattle.asc_base.specs.TreeShape.{bucket_of, move_cycles, turn_cycles}
 use Rattle.bus_watch.specs.declared.log.Move.{Move}

@@ -1,12 +1,12 @@
 //! Laws of entries in order of arrival. The functions do nothing: each states a law in its contract.
 
-ghost use Rattle.std.specs.Prelude.{◌≡◌, ◌≢◌, ℕ, ◌+◌, ◌≤◌, Bool, List, [], ◌∷◌, ◌++◌, Option, Some, None, is_some};
-ghost use Rattle.std.specs.Prelude.{length, count_by, if◌then◌else◌};
+ghost use Rattle.std.specs.Prelude.{◌≡◌, ◌≢◌, ℕ, ◌+◌, ◌≤◌, Bool, true, false, List, [], ◌∷◌, ◌++◌, Option, Some, None};
+ghost use Rattle.std.specs.Prelude.{is_some, is_none, length, count_by, slice_get, if◌then◌else◌};
 ghost use Rattle.asc_base.specs.Has.{Has};
 ghost use Rattle.asc_base.specs.declared.block.Address.{Address};
 ghost use Rattle.asc_base.specs.declared.block.Entry.{Entry};
 ghost use Rattle.path_evict.specs.Placed.{where_placed};
-ghost use Rattle.oram_stash.specs.Entries.{is_of, held, without, AreApart};
+ghost use Rattle.oram_stash.specs.Entries.{is_of, held, without, AreApart, IsPlacedAmong};
 
 /// What is held under an address is the first entry of that address, and where addresses differ the only one.
 pub fn addresses_find_entries()
@@ -69,4 +69,25 @@ pub fn placed_entries_are_found()
         → held entries address ≡ Some entry }
     ensures apart { (test : Option ℕ → Bool) (places : List (Option ℕ)) (entries : List Entry) → AreApart entries
         → AreApart (where_placed test places entries) }
+{}
+
+/// The entries whose place meets a test are as many as the places that do, each stands beside such a place, and an
+/// entry beside a place is found exactly where that place does. So of two entries of which the first alone has a place,
+/// the first is placed, and the second stays.
+pub fn places_decide_entries()
+    ensures counts { (test : Option ℕ → Bool) (places : List (Option ℕ)) (entries : List Entry)
+        → length places ≡ length entries → length (where_placed test places entries) ≡ count_by test places }
+    ensures placed { (test : Option ℕ → Bool) (places : List (Option ℕ)) (entries : List Entry) (entry : Entry)
+        → Has entry (where_placed test places entries) → IsPlacedAmong test places entries entry }
+    ensures found { (test : Option ℕ → Bool) (places : List (Option ℕ)) (entries : List Entry) (at : ℕ)
+        (place : Option ℕ) (entry : Entry) → AreApart entries → slice_get places at ≡ Some place
+        → slice_get entries at ≡ Some entry → test place ≡ true
+        → held (where_placed test places entries) entry.address ≡ Some entry }
+    ensures absent { (test : Option ℕ → Bool) (places : List (Option ℕ)) (entries : List Entry) (at : ℕ)
+        (place : Option ℕ) (entry : Entry) → AreApart entries → slice_get places at ≡ Some place
+        → slice_get entries at ≡ Some entry → test place ≡ false
+        → held (where_placed test places entries) entry.address ≡ None }
+    ensures two { (first second : Entry) (level : ℕ)
+        → (where_placed is_some (Some level ∷ None ∷ []) (first ∷ second ∷ []) ≡ first ∷ [])
+        × (where_placed is_none (Some level ∷ None ∷ []) (first ∷ second ∷ []) ≡ second ∷ []) }
 {}

@@ -18,7 +18,7 @@ use Rattle.asc_base.proofs.Families.{child_of_parent, parent_above}
 use Rattle.asc_base.proofs.Layers.{layer_of-lt, layer_of_is, index_of-lt, layer_first-next}
 use Rattle.asc_base.proofs.Layers.{layer_count-next}
 use Rattle.asc_base.proofs.Layers.{parent_of-top, parent_of-below}
-use Rattle.asc_base.proofs.Lookups.{find-yes, find-no}
+use Rattle.asc_base.proofs.Lookups.{find-yes, find-no, some_is, none_is_not}
 use Rattle.posmap_counters.specs.Counters.{Counters, counter_at, Change, Access, MoveChild, RenumberChild, child_move}
 use Rattle.posmap_counters.specs.Counters.{after, after_all, asked_changes, group_move, siblings, is_among}
 use Rattle.posmap_counters.specs.Families.{HasCounters}
@@ -42,13 +42,10 @@ use Rattle.oram_walk.proofs.Fresh.{take_out, front_out, used_out}
 use Rattle.oram_walk.proofs.Played.{Lines, Goes, goes_on}
 use Rattle.oram_walk.proofs.Refills.{appended, shown_last, hold_goes, AreHeld, used_held, put_held, last_shown}
 use Rattle.oram_walk.proofs.Refills.{inserted_stands, appended_same}
-use Rattle.oram_walk.proofs.Standing.{Stands, none_some, held_among, not_held, used_stands}
+use Rattle.oram_walk.proofs.Standing.{Stands, held_among, not_held, used_stands}
 use Rattle.oram_walk.proofs.Visits.{front, shown_all, HasParent, Visited, visit_goes}
 use Rattle.oram_walk.proofs.Visits.{counter_under_parent, counter_of_root, has_group, under_of}
 use Rattle.oram_walk.proofs.WalkLists.{absent_used}
-
-some_is : {A : Type 0} {a b : A} → Some a ≡ Some b → a ≡ b
-some_is e = cc
 
 module _ (cycles : ℕ) (shape : Shape) (ic plb : ℕ) (put : Purpose) where
   abbrev pub sizes : WalkSizes
@@ -199,7 +196,7 @@ module _ (cycles : ℕ) (shape : Shape) (ic plb : ℕ) (put : Purpose) where
       → IsGroup block.group × HasCounters (counter_at now) first number block.group =
       λ first number children.
       let shown = subst (λ (o : Option Held). IsShown o (lines b) (counter_at now) first number) none
-      (visited.stands.groups_are address first number low (λ e. none_some e) children) in
+      (visited.stands.groups_are address first number low (λ e. none_is_not e) children) in
       let is : block.group ≡ shown.0 = ap group_in shown.3 ∙ read_line (shown.0) shown.1 in
       subst (λ (g : GroupState). IsGroup g × HasCounters (counter_at now) first number g) (sym is) (shown.1, shown.2) in
       let is_counter = known b visited.roots' visited.later lines list now low still visited.stands in
@@ -331,7 +328,7 @@ module _ (cycles : ℕ) (shape : Shape) (ic plb : ℕ) (put : Purpose) where
       let less = layer_of-lt shape.lines shape.layers b low in
       let index = index_of-lt shape.lines shape.layers b low in
       elim (cases_eq (layer + 1) shape.layers) [
-        | inl top ↦ absurd (none_some (sym (parent_of-top shape.lines shape.layers b layer refl top) ∙ above))
+        | inl top ↦ absurd (none_is_not (sym (parent_of-top shape.lines shape.layers b layer refl top) ∙ above))
         | inr under ↦
             let place : p ≡ layer_first shape.lines (layer + 1) + index_of shape.lines shape.layers b / 32 =
             some_is (sym above ∙ parent_of-below shape.lines shape.layers b layer refl under) in
@@ -361,7 +358,7 @@ module _ (cycles : ℕ) (shape : Shape) (ic plb : ℕ) (put : Purpose) where
   childless : (a : ℕ) (list : List ℕ) → children_of shape.lines shape.layers a ≡ None → AreHeld shape plb list
       → is_among list a ≡ false
   childless a list none are = elim (cases_Bool (is_among list a)) [
-    | inl there ↦ absurd (none_some (sym none ∙ (are.blocks a there).2))
+    | inl there ↦ absurd (none_is_not (sym none ∙ (are.blocks a there).2))
     | inr absent ↦ absent
   ]
 
@@ -481,7 +478,7 @@ module _ (cycles : ℕ) (shape : Shape) (ic plb : ℕ) (put : Purpose) where
     out = λ x below absent. absent;
     same = λ x below absent. refl;
     stored = λ a none. refl;
-    parent = λ p above. absurd (none_some (sym reach ∙ above));
+    parent = λ p above. absurd (none_is_not (sym reach ∙ above));
   }
   climb (suc above) b roots held lines list counters asked bits bits_to some low reach h s =
       subst (λ (o : Option ℕ). Climbs
@@ -524,7 +521,7 @@ module _ (cycles : ℕ) (shape : Shape) (ic plb : ℕ) (put : Purpose) where
         out = λ x below absent. absent;
         same = λ x below absent. refl;
         stored = λ a none. refl;
-        parent = λ p above. absurd (none_some (sym top ∙ above));
+        parent = λ p above. absurd (none_is_not (sym top ∙ above));
       }
       by (Some p) parent again =
           climb_parent above b p roots held lines list counters asked bits bits_to some low parent h s

@@ -2,7 +2,7 @@
 use Rattle.std.proofs.Common.{◌≡◌, ◌≢◌, ℕ, zero, suc, ◌<◌, ◌≤◌, Bool, true, false, List, [], ◌∷◌, take}
 use Rattle.std.proofs.Common.{nat_eq}
 use Rattle.std.proofs.Common.{Result, Option, Some, None, IsNone, is_some, option_map, inl, inr, ne_eqb}
-use Rattle.std.proofs.Common.{refl, sym, ap, ◌∙◌, arith}
+use Rattle.std.proofs.Common.{refl, ap, ◌∙◌, arith}
 use Rattle.std.specs.Prelude.{if◌then◌else◌, ◌||◌}
 use Rattle.std.specs.List.{find}
 use Rattle.std.specs.Option.{option_map_or}
@@ -17,7 +17,7 @@ use Rattle.asc_base.specs.declared.shape.Shape.{Shape}
 use Rattle.asc_base.specs.declared.block.Address.{Address}
 use Rattle.asc_base.specs.declared.stop.Stop.{Stop}
 use Rattle.asc_base.proofs.Families.{parent_above}
-use Rattle.asc_base.proofs.Lookups.{find-has, promoted_first-some, promoted_first-none}
+use Rattle.asc_base.proofs.Lookups.{find-has, promoted_first-some, promoted_first-none, some_is, none_is_not}
 use Rattle.asc_base.proofs.ShapeFacts.{IsLayered, shape_layered}
 use Rattle.posmap_counters.specs.Counters.{is_among}
 use Rattle.posmap_lookaside.specs.Addresses.{used}
@@ -32,20 +32,14 @@ use Rattle.oram_walk.specs.declared.slots.Purpose.{Purpose}
 use Rattle.oram_walk.specs.declared.slots.Seen.{Seen}
 use Rattle.oram_walk.proofs.Held.{walk_held, Holds, holds_now, visit_plan-holds, walk_plan-holds}
 
-address_is : {a b : Address} → Some a ≡ Some b → a ≡ b
-address_is e = cc
-
-some_none : {a : Address} → Some a ≡ None → ⊥
-some_none e = cc
-
 -- the parent in a shape, by its number
 pub parent_is : (shape : Shape) (address parent : Address) → parent_in shape address ≡ Some parent
     → parent_of shape.lines shape.layers address.0 ≡ Some parent.0
 parent_is shape address parent is = by (parent_of shape.lines shape.layers address.0) is
   where
     by : (o : Option ℕ) → option_map (λ n. let x : Address = record { 0 = n } in x) o ≡ Some parent → o ≡ Some parent.0
-    by None e = absurd (some_none (sym e))
-    by (Some p) e = ap (λ (a : Address). Some a.0) (address_is e)
+    by None e = absurd (none_is_not e)
+    by (Some p) e = ap (λ (a : Address). Some a.0) (some_is e)
 
 -- a parent is a block further up
 pub parent_of_block : (shape : Shape) (address parent : Address) → IsShape shape → IsAddress shape address

@@ -15,6 +15,7 @@ use Rattle.asc_base.specs.declared.block.Address.{Address}
 use Rattle.asc_base.specs.declared.block.Counter.{Counter}
 use Rattle.asc_base.specs.declared.block.Line.{Line}
 use Rattle.asc_base.proofs.Families.{children_few}
+use Rattle.asc_base.proofs.Lookups.{some_is, none_is_not}
 use Rattle.posmap_counters.specs.Counters.{Counters, counter_at, is_among}
 use Rattle.posmap_counters.specs.Families.{HasCounters, family_line}
 use Rattle.posmap_counters.specs.Group.{GroupState, IsGroup, line_in}
@@ -33,11 +34,8 @@ use Rattle.oram_walk.specs.Request.{Room}
 use Rattle.oram_walk.specs.Shows.{IsShown, displaced_by}
 use Rattle.oram_walk.proofs.Fresh.{take_out, used_out}
 use Rattle.oram_walk.proofs.Played.{Lines, Goes}
-use Rattle.oram_walk.proofs.Standing.{Stands, none_some, at_number, held_among}
+use Rattle.oram_walk.proofs.Standing.{Stands, at_number, held_among}
 use Rattle.oram_walk.proofs.Visits.{front}
-
-some_is : {A : Type 0} {a b : A} → Some a ≡ Some b → a ≡ b
-some_is e = cc
 
 yes_no : true ≡ false → ⊥
 yes_no e = cc
@@ -149,7 +147,7 @@ module _ (shape : Shape) (plb : ℕ) where
             let number : ℕ = (is.1).1 in
             let children : children_of shape.lines shape.layers last.address.0 ≡ Some (first, number) = is.2 in
             let shown = subst (λ (o : Option Held). IsShown o (lines last.address.0) (counter_at counters) first number)
-            at (s.groups_are last.address first number is.0 (λ f. none_some f) children) in
+            at (s.groups_are last.address first number is.0 (λ f. none_is_not f) children) in
             let few = children_few shape.lines shape.layers last.address.0 first number is.0 children in
             let group = family_only (counter_at counters) first number last.group few.0 (shown.0).children shown.1 in
             let family : children_of sizes.lines sizes.layers last.address.0 ≡ Some (first, number) =
@@ -169,7 +167,7 @@ module _ (shape : Shape) (plb : ℕ) where
         s.counters_are a found (sym (inserted_room plb block held a e (apart_block a other)) ∙ at)
     other_counter (Some last) e a found other at =
         elim (eqb_tells a.0 last.address.0) [
-          | inl same ↦ absurd (none_some (sym (inserted_gone plb block last held held_fits e held_distinct held_absent)
+          | inl same ↦ absurd (none_is_not (sym (inserted_gone plb block last held held_fits e held_distinct held_absent)
               ∙ ap (held_at (inserted plb block held)) (sym (at_number a last.address same.1)) ∙ at))
           | inr kept ↦
               s.counters_are a found
@@ -184,7 +182,7 @@ module _ (shape : Shape) (plb : ℕ) where
     other_group None e a first number low children other =
         subst (λ (o : Option Held). IsShown o (lines a.0) (counter_at counters) first number)
         (sym (inserted_room plb block held a e (apart_block a other)))
-        (s.groups_are a first number low (λ f. none_some f) children)
+        (s.groups_are a first number low (λ f. none_is_not f) children)
     other_group (Some last) e a first number low children other =
         elim (eqb_tells a.0 last.address.0) [
           | inl same ↦
@@ -195,7 +193,7 @@ module _ (shape : Shape) (plb : ℕ) where
               ap (held_at (inserted plb block held)) (at_number a last.address same.1)
               ∙ inserted_gone plb block last held held_fits e held_distinct held_absent in
               let shown = subst (λ (o : Option Held). IsShown o (lines a.0) (counter_at counters) first number) was
-              (s.groups_are a first number low (λ f. none_some f) children) in
+              (s.groups_are a first number low (λ f. none_is_not f) children) in
               subst (λ (o : Option Held). IsShown o (appended (Some last) lines a.0) (counter_at counters) first number)
               (sym gone) (
                 last.group,
@@ -210,7 +208,7 @@ module _ (shape : Shape) (plb : ℕ) where
               (subst (λ (l : Line). IsShown (held_at held a) l (counter_at counters) first number)
               (sym
               (ap (λ (t : Bool). if t then (let x : Line = record { 0 = line_in last.group } in x) else lines a.0)
-              kept.0)) (s.groups_are a first number low (λ f. none_some f) children))
+              kept.0)) (s.groups_are a first number low (λ f. none_is_not f) children))
         ]
 
     -- and all stays shown

@@ -5,6 +5,7 @@ use Rattle.asc_base.specs.declared.block.Address.{Address}
 use Rattle.asc_base.specs.declared.shape.Shape.{Shape}
 use Rattle.asc_base.specs.Shape.{IsShape, IsAddress, parent_in}
 use Rattle.asc_base.specs.TreeShape.{layer_count, layer_first, parent_of}
+use Rattle.asc_base.proofs.Lookups.{none_is_not}
 use Rattle.asc_base.proofs.ShapeFacts.{IsLayered, shape_layered}
 use Rattle.oram_walk.specs.Front.{FrontState, IsFront}
 use Rattle.posmap_counters.proofs.RootLaws.{top_place}
@@ -16,9 +17,6 @@ pub record IsRoot (shape : Shape) (address : Address) : Type 0 where
   pub from : layer_first shape.lines (shape.layers - 1) ≤ address.0
   pub below : address.0 - layer_first shape.lines (shape.layers - 1) < layer_count shape.lines (shape.layers - 1)
 
-some_none : {a : Address} → Some a ≡ None → ⊥
-some_none e = cc
-
 -- a block without a parent in the shape has none
 pub no_parent : (shape : Shape) (address : Address) → parent_in shape address ≡ None
     → parent_of shape.lines shape.layers address.0 ≡ None
@@ -26,7 +24,7 @@ no_parent shape address none = by (parent_of shape.lines shape.layers address.0)
   where
     by : (o : Option ℕ) → option_map (λ n. let x : Address = record { 0 = n } in x) o ≡ None → o ≡ None
     by None e = refl
-    by (Some p) e = absurd (some_none e)
+    by (Some p) e = absurd (none_is_not (sym e))
 
 pub root_of : (shape : Shape) (address : Address) → IsShape shape → IsAddress shape address
     → parent_in shape address ≡ None → IsRoot shape address

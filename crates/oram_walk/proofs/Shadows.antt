@@ -15,6 +15,7 @@ use Rattle.asc_base.specs.Shape.{parent_in, children_in, IsAddress}
 use Rattle.asc_base.specs.declared.shape.Shape.{Shape}
 use Rattle.asc_base.specs.declared.block.Address.{Address}
 use Rattle.asc_base.specs.declared.block.Counter.{Counter}
+use Rattle.asc_base.proofs.Lookups.{none_is_not}
 use Rattle.posmap_counters.specs.Counters.{first_counter, next_group, is_among}
 use Rattle.posmap_counters.specs.Group.{GroupState, child_counter, moved_group, stepped_group, asked_group, line_in}
 use Rattle.posmap_lookaside.specs.Held.{held_at, changed, with_group, with_counter, addresses_of, inserted, displaced}
@@ -67,12 +68,9 @@ renumbered_group held next c q =
           ap (option_map (λ (h : Held). h.group)) (changed_other (with_counter next) held c q (λ h. refl) other.1)
     ]
 
-none_some : {A : Type 0} {a : A} → None ≡ Some a → ⊥
-none_some e = cc
-
 group_here : (o : Option Held) (group now : GroupState) → option_map (λ (h : Held). h.group) o ≡ Some group
     → option_map (λ (h : Held). h.group) (option_map (with_group now) o) ≡ Some now
-group_here None group now e = absurd (none_some e)
+group_here None group now e = absurd (none_is_not e)
 group_here (Some block) group now e = refl
 
 regrouped_here : (held : List Held) (p : Address) (group now : GroupState) → group_at held p ≡ Some group
@@ -91,8 +89,8 @@ counter_here : (o : Option Held) (next : Counter) (change : Counter → Counter)
     → option_map (λ (h : Held). h.counter) o ≡ option_map change was
     → option_map (λ (h : Held). h.counter) (option_map (with_counter next) o) ≡ option_map (λ (c : Counter). next) was
 counter_here None next change None e = refl
-counter_here None next change (Some c) e = absurd (none_some e)
-counter_here (Some block) next change None e = absurd (none_some (sym e))
+counter_here None next change (Some c) e = absurd (none_is_not e)
+counter_here (Some block) next change None e = absurd (none_is_not (sym e))
 counter_here (Some block) next change (Some c) e = refl
 
 group_counter : (o : Option Held) (group : GroupState)
@@ -500,7 +498,7 @@ under_follows state parent address purpose asked None at under =
         λ x. refl,
       );
       leaves = λ seen. record {
-        parent = λ p g above found. absurd (none_some (sym at
+        parent = λ p g above found. absurd (none_is_not (sym at
             ∙ ap (λ (a : Address). group_at state.held a) (address_is (sym under ∙ above)) ∙ found));
         others = λ q apart. ap (λ (s : FrontState). group_at s.held q) same;
         counters = λ q. ap (λ (s : FrontState). counter_held s.held q) same ∙ map_id (counter_held state.held q)
@@ -538,7 +536,7 @@ root_follows state address purpose asked front inside top =
         λ x. refl,
       );
       leaves = λ seen. record {
-        parent = λ p g above found. absurd (none_some (sym top ∙ above));
+        parent = λ p g above found. absurd (none_is_not (sym top ∙ above));
         others = λ q apart. ap (λ (s : FrontState). group_at s.held q) is_later;
         counters = λ q. ap (λ (s : FrontState). counter_held s.held q) is_later ∙ map_id (counter_held state.held q)
             ∙ ap (λ (o : Option (Address × GroupState)). option_map (moved_by state o q.0) (counter_held state.held q))

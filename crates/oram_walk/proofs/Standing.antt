@@ -7,6 +7,7 @@ use Rattle.asc_base.specs.declared.shape.Shape.{Shape}
 use Rattle.asc_base.specs.declared.block.Address.{Address}
 use Rattle.asc_base.specs.declared.block.Counter.{Counter}
 use Rattle.asc_base.specs.declared.block.Line.{Line}
+use Rattle.asc_base.proofs.Lookups.{some_is, none_is_not}
 use Rattle.posmap_counters.specs.Counters.{Counters, counter_at, next_group, Access, block_of, child_move, after}
 use Rattle.posmap_counters.specs.Counters.{is_among}
 use Rattle.posmap_counters.specs.Families.{HasCounters, HasRoots}
@@ -33,9 +34,6 @@ shown_counter : (o : Option Held) (next : Counter) (line : Line) (count : ℕ �
 shown_counter None next line count first number h = h
 shown_counter (Some block) next line count first number h = h
 
-pub none_some : {A : Type 0} {a : A} → None ≡ Some a → ⊥
-none_some e = cc
-
 -- the block of an address whose number is another's
 pub at_number : (a b : Address) → a.0 ≡ b.0 → a ≡ b
 at_number a b e = ap (λ n. let x : Address = record { 0 = n } in x) e
@@ -43,12 +41,12 @@ at_number a b e = ap (λ n. let x : Address = record { 0 = n } in x) e
 -- the counter of a block that was renumbered, and of one that has another group
 renumbered_counter : (o : Option Held) (next : Counter) (block : Held) → option_map (with_counter next) o ≡ Some block
     → block.counter ≡ next
-renumbered_counter None next block e = absurd (none_some e)
+renumbered_counter None next block e = absurd (none_is_not e)
 renumbered_counter (Some old) next block e = cc
 
 regrouped_counter : (o : Option Held) (group : GroupState) (block : Held) (c : Counter)
     → ((old : Held) → o ≡ Some old → old.counter ≡ c) → option_map (with_group group) o ≡ Some block → block.counter ≡ c
-regrouped_counter None group block c each e = absurd (none_some e)
+regrouped_counter None group block c each e = absurd (none_is_not e)
 regrouped_counter (Some old) group block c each e = let same = each old refl in cc
 
 module _ (shape : Shape) where
@@ -91,7 +89,7 @@ module _ (shape : Shape) where
     many = s.many;
     held_is = addresses_of-changed (with_counter next) held (record { 0 = c }) (λ h. refl) ∙ s.held_is;
     roots_are = roots_stay shape.lines shape.layers counters (child_move list c) roots
-        (λ e. none_some (sym e ∙ here)) s.roots_are;
+        (λ e. none_is_not (sym e ∙ here)) s.roots_are;
     counters_are = λ a block at. elim (eqb_tells a.0 c) [
       | inl same ↦
           let found = sym (changed_at (with_counter next) held (record { 0 = c }) (λ h. refl))
@@ -163,9 +161,6 @@ module _ (shape : Shape) where
           (s.groups_are a first number low (λ e. other.1 (sym (some_is e))) children)
     ];
   }
-    where
-      some_is : {x y : ℕ} → Some x ≡ Some y → x ≡ y
-      some_is e = cc
 
   -- an access to a block that isn't held
   pub access_stands : (b : ℕ) (roots roots' : List ℕ) (held : List Held) (lines lines' : ℕ → Line) (list : List ℕ)
@@ -190,7 +185,7 @@ module _ (shape : Shape) where
         (shown_count (held_at held a) (lines a.0) (counter_at counters)
         (counter_at (after shape.lines shape.layers counters (Access b))) first number
         (λ group has. counters_stay shape.lines shape.layers counters (Access b) a.0 first number group low children
-        apart has) (s.groups_are a first number low (λ e. none_some e) children));
+        apart has) (s.groups_are a first number low (λ e. none_is_not e) children));
   }
     where
       yes_no : true ≡ false → ⊥
@@ -218,5 +213,5 @@ module _ (shape : Shape) where
     held_is = s.held_is;
     roots_are = s.roots_are;
     counters_are = s.counters_are;
-    groups_are = λ a first number low apart children. s.groups_are a first number low (λ e. none_some e) children;
+    groups_are = λ a first number low apart children. s.groups_are a first number low (λ e. none_is_not e) children;
   }

@@ -14,6 +14,7 @@ use Rattle.asc_base.specs.declared.block.Counter.{Counter}
 use Rattle.asc_base.specs.declared.block.Line.{Line}
 use Rattle.asc_base.specs.Shape.{children_in}
 use Rattle.asc_base.proofs.Families.{child_of_parent, parent_of_child, parent_above, children_few}
+use Rattle.asc_base.proofs.Lookups.{none_is_not}
 use Rattle.posmap_counters.specs.Counters.{Counters, counter_at, next_group, Change, Access, MoveChild, RenumberChild}
 use Rattle.posmap_counters.specs.Counters.{child_move, after, after_all, asked_changes, group_move, is_among, block_of}
 use Rattle.posmap_counters.specs.Counters.{addresses_from}
@@ -40,7 +41,7 @@ use Rattle.oram_walk.specs.declared.slots.Purpose.{Purpose}
 use Rattle.oram_walk.specs.declared.slots.Purpose.TheVariants.{Keep}
 use Rattle.oram_walk.proofs.Played.{Lines, Goes, goes_on}
 use Rattle.oram_walk.specs.declared.slots.Seen.{Seen}
-use Rattle.oram_walk.proofs.Standing.{Stands, none_some, not_held, opened, child_stands, regroup_stands, access_stands}
+use Rattle.oram_walk.proofs.Standing.{Stands, not_held, opened, child_stands, regroup_stands, access_stands}
 
 module _ (cycles : ℕ) (shape : Shape) (ic plb : ℕ) where
   abbrev pub front : List ℕ → List Held → FrontState
@@ -284,7 +285,7 @@ module _ (cycles : ℕ) (shape : Shape) (ic plb : ℕ) where
       → IsGroup block.group × HasCounters (counter_at counters) first number block.group
   has_group b p first number held block roots lines list counters u s =
       subst (λ (o : Option Held). IsShown o (lines p) (counter_at counters) first number) u.at
-      (s.groups_are (record { 0 = p }) first number u.inside (λ e. none_some e) u.children)
+      (s.groups_are (record { 0 = p }) first number u.inside (λ e. none_is_not e) u.children)
 
   -- A group move of the block's family.
   record Grouped (put : Purpose) (b p first number : ℕ) (group : GroupState) (block : Held) (roots : List ℕ)
@@ -436,7 +437,7 @@ module _ (cycles : ℕ) (shape : Shape) (ic plb : ℕ) where
       (ap (λ (o : Option ℕ). stepped_by (front roots held) address
       (option_map (λ n. let x : Address = record { 0 = n } in x) o)) top)
       (counter_of_root b roots held counters top low s.roots_are) (counter_of_root b roots' held now top low has)
-      (found_is None (Access b) roots held lines list counters low absent (λ e. none_some e) s) in
+      (found_is None (Access b) roots held lines list counters low absent (λ e. none_is_not e) s) in
       let none : full_parent (front roots held) address ≡ None =
       ap (λ (o : Option ℕ). full_by (front roots held) address
       (option_map (λ n. let x : Address = record { 0 = n } in x) o)) top in
@@ -483,7 +484,7 @@ module _ (cycles : ℕ) (shape : Shape) (ic plb : ℕ) where
       (omega (arith, u.few, (has.0).children))
       (ap is_none (ap (parent_of shape.lines shape.layers) (sym u.place) ∙ u.above)) room has.1) in
       let has_roots = roots_stay shape.lines shape.layers counters (Access b) roots
-      (λ e. none_some (sym e ∙ u.above)) s.roots_are in
+      (λ e. none_is_not (sym e ∙ u.above)) s.roots_are in
       let moved : Stands shape (Some p) roots held (put_back lines b put) list now =
       subst (λ (o : Option ℕ). Stands shape o roots held (put_back lines b put) list now) u.above
       (access_stands shape b roots roots held lines (put_back lines b put) list counters absent refl has_roots kept s)
@@ -514,7 +515,7 @@ module _ (cycles : ℕ) (shape : Shape) (ic plb : ℕ) where
             (counter_under_parent b p first number block roots held lines list counters u has.1)
             (counter_under_parent b p first number (with_group group' block) roots later (put_back lines b put) list now
             after_u stepped_has)
-            (found_is None (Access b) roots held lines list counters u.low absent (λ e. none_some e) s),
+            (found_is None (Access b) roots held lines list counters u.low absent (λ e. none_is_not e) s),
         stands,
       )
 

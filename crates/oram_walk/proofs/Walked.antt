@@ -18,6 +18,7 @@ use Rattle.asc_base.specs.TreeShape.{layer_count, layer_first, layer_of, childre
 use Rattle.asc_base.specs.declared.shape.Shape.{Shape}
 use Rattle.asc_base.specs.declared.block.Line.{Line}
 use Rattle.asc_base.proofs.Layers.{layer_of_is, layer_first-zero, layer_first-next, layer_count-zero, children_of-line}
+use Rattle.asc_base.proofs.Lookups.{none_is_not}
 use Rattle.asc_base.proofs.ShapeFacts.{IsLayered, shape_layered}
 use Rattle.posmap_counters.specs.Counters.{Change, asked_changes, is_among}
 use Rattle.posmap_counters.specs.Digits.{digits}
@@ -45,9 +46,6 @@ use Rattle.oram_walk.proofs.Played.{Lines, Goes, goes_on, play-told, play-left}
 use Rattle.oram_walk.proofs.Refills.{AreHeld}
 use Rattle.oram_walk.proofs.Standing.{Stands}
 use Rattle.oram_walk.proofs.Visits.{front, shown_all, Visited, visit_goes}
-
-none_some : {A : Type 0} {a : A} → None ≡ Some a → ⊥
-none_some e = cc
 
 -- what is among a list stands in it, and the other way round
 among-has : (list : List ℕ) (a : ℕ) → is_among list a ≡ true → Has a list
@@ -95,7 +93,7 @@ keeps_lines lines shape line Refill none a first number some = refl
 keeps_lines lines shape line Keep none a first number some = refl
 keeps_lines lines shape line (Replace value) none a first number some =
     elim (eqb_tells a line) [
-      | inl same ↦ absurd (none_some (sym none ∙ ap (children_of shape.lines shape.layers) (sym same.1) ∙ some))
+      | inl same ↦ absurd (none_is_not (sym none ∙ ap (children_of shape.lines shape.layers) (sym same.1) ∙ some))
       | inr other ↦ ap (λ (t : Bool). if t then value else lines a) other.0
     ]
 
@@ -154,7 +152,7 @@ request_goes cycles state asked line put lines chip below shown =
           shown.groups a first number (omega (arith, facts.total, inside)) children;
     } in
     let absent : is_among chip.held line ≡ false = elim (cases_Bool (is_among chip.held line)) [
-      | inl there ↦ absurd (none_some (sym childless ∙ (are.blocks line there).2))
+      | inl there ↦ absurd (none_is_not (sym childless ∙ (are.blocks line there).2))
       | inr none ↦ none
     ] in
     let above = ancestors (sizes_of state) shape.layers line in
@@ -231,7 +229,7 @@ request_goes cycles state asked line put lines chip below shown =
         roots = visited.stands.roots_are;
         counters = visited.stands.counters_are;
         groups = λ a first number inside children.
-            visited.stands.groups_are a first number (omega (arith, facts.total, inside)) (λ e. none_some e) children;
+            visited.stands.groups_are a first number (omega (arith, facts.total, inside)) (λ e. none_is_not e) children;
       });
       answer = up.same line (omega arith) absent;
     }
@@ -306,7 +304,7 @@ start_shown config is =
       held = refl;
       list = record { fits = omega arith; distinct = λ a. omega arith; blocks = λ a has. absurd has };
       roots = start_roots shape.lines shape.layers (layer_count shape.lines (shape.layers - 1));
-      counters = λ a block at. absurd (none_some at);
+      counters = λ a block at. absurd (none_is_not at);
       groups = λ a first number inside children. (
         first_group,
         record { fits = lit< tt; children = refl; own = λ child. omega (arith, zeros_at 32 child) },

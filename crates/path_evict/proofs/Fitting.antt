@@ -1,6 +1,7 @@
 -- What it says of each entry that a placement fits.
 use Rattle.std.proofs.Common.{◌≡◌, ℕ, zero, suc, ◌≤◌, List, [], ◌∷◌, Option, Some, None, length, get_or, refl, ap}
 use Rattle.std.proofs.Common.{arith}
+use Rattle.asc_base.proofs.Lookups.{some_is}
 use Rattle.path_evict.specs.Placement.{Fits}
 
 pub Fits-length : (depths : List ℕ) (places : List (Option ℕ)) → Fits depths places → length places ≡ length depths
@@ -9,9 +10,6 @@ Fits-length [] (place ∷ places) f = absurd f
 Fits-length (depth ∷ depths) [] f = absurd f
 Fits-length (depth ∷ depths) (None ∷ places) f = ap (λ n. suc n) (Fits-length depths places f)
 Fits-length (depth ∷ depths) (Some level ∷ places) f = ap (λ n. suc n) (Fits-length depths places f.1)
-
-some_is : {a b : ℕ} → Some a ≡ Some b → a ≡ b
-some_is e = cc
 
 -- the level of the entry at i is at most its depth
 pub Fits-at : (depths : List ℕ) (places : List (Option ℕ)) (i level : ℕ) → Fits depths places

@@ -10,6 +10,7 @@ use Rattle.std.proofs.lemmas.List.{length-append}
 use Rattle.asc_base.specs.TreeShape.{layer_first, parent_of, children_of, child_index_of}
 use Rattle.asc_base.specs.declared.block.Counter.{Counter}
 use Rattle.asc_base.proofs.Families.{parent_of_child, child_of_parent, children_few}
+use Rattle.asc_base.proofs.Lookups.{some_is, none_is_not}
 use Rattle.posmap_counters.specs.Bounds.{AreCounters}
 use Rattle.posmap_counters.specs.Group.{GroupState, moved_group}
 use Rattle.posmap_counters.specs.Counters.{Counters, counter_at, next_group, next_own, addresses_from, is_among}
@@ -19,7 +20,7 @@ use Rattle.posmap_counters.specs.Counters.{after, after_all, points, all_points,
 use Rattle.posmap_counters.specs.Counters.{asked_changes}
 use Rattle.posmap_counters.specs.Families.{HasCounters, HasOneGroup, IsMoving, family_group}
 use Rattle.posmap_counters.proofs.ChangeLaws.{after_at, after_other, counters_join, points_join, room_joins}
-use Rattle.posmap_counters.proofs.FamilyLaws.{zeros_at, some_is, one_group}
+use Rattle.posmap_counters.proofs.FamilyLaws.{zeros_at, one_group}
 use Rattle.posmap_counters.proofs.FamilyLines.{family_has}
 use Rattle.posmap_counters.proofs.MoveLaws.{move_begins, child_moves, move_is, move_counters}
 use Rattle.posmap_counters.proofs.AskedLaws.{some_room, asked-full, asked-room}
@@ -43,9 +44,6 @@ move_opens lines layers ic count p accesses are = record {
   top = are.top;
   families = λ parent first number inside children still. are.families parent first number inside children none_is_not;
 }
-  where
-    none_is_not : {a : ℕ} → None ≡ Some a → ⊥
-    none_is_not e = cc
 
 pub move_closes : (lines layers ic : ℕ) (count : ℕ → Counter) (p first number accesses : ℕ)
     → children_of lines layers p ≡ Some (first, number)
@@ -148,9 +146,6 @@ module _ (lines layers ic : ℕ) where
           ≡ cond top (next_group (counter_at counters a)) (next_own (counter_at counters a))
       is top same = ap (λ b. cond b (next_group (counter_at counters a)) (next_own (counter_at counters a))) same
 
-      none_some : {p : ℕ} → None ≡ Some p → ⊥
-      none_some e = cc
-
       by : (o : Option ℕ) → parent_of lines layers a ≡ o
           → AreCounters lines layers ic (counter_at (after lines layers counters (Access a))) None (n + 1)
       by None none =
@@ -160,14 +155,14 @@ module _ (lines layers ic : ℕ) where
           (omega (arith, next-le (counter_at counters a), few)))
           (subst (λ (c : Counter). c.own ≤ 2 ^ ic - 1) (sym to) (omega arith))
           (λ inside none. ap (λ (c : Counter). c.own) to)
-          (λ parent above still. absurd (none_some (sym none ∙ above)))
+          (λ parent above still. absurd (none_is_not (sym none ∙ above)))
           are
       by (Some p) some =
           let to = is false (ap is_none some) in
           bounded counters (Access a) None n (n + 1) (omega arith)
           (subst (λ (c : Counter). c.group + c.own ≤ n + 1) (sym to) (omega (arith, few)))
           (subst (λ (c : Counter). c.own ≤ 2 ^ ic - 1) (sym to) (omega (arith, room)))
-          (λ inside none. absurd (none_some (sym none ∙ some)))
+          (λ inside none. absurd (none_is_not (sym none ∙ some)))
           (λ parent above still. ap (λ (c : Counter). c.group) to)
           are
 
@@ -346,9 +341,6 @@ module _ (lines layers ic : ℕ) where
 
       has : HasCounters (counter_at counters) first number group
       has = family_has (counter_at counters) first number few (are.families p first number within children none_is_not)
-        where
-          none_is_not : None ≡ Some p → ⊥
-          none_is_not e = cc
 
       -- the asked block is one of them, so its own count is above 0
       low : group.group < n

@@ -22,9 +22,6 @@ zeros_at zero k = refl
 zeros_at (suc n) zero = refl
 zeros_at (suc n) (suc k) = zeros_at n k
 
-pub some_is : {a b : ℕ} → Some a ≡ Some b → a ≡ b
-some_is e = cc
-
 -- a counter of this group
 abbrev pub under : ℕ → ℕ → Counter
 under group own = record { group = group; own = own }

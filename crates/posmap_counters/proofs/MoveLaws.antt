@@ -9,13 +9,14 @@ use Rattle.std.proofs.lemmas.List.Elements.{All-map}
 use Rattle.asc_base.specs.TreeShape.{layer_first, parent_of, children_of}
 use Rattle.asc_base.specs.declared.block.Point.{Point}
 use Rattle.asc_base.proofs.Families.{parent_of_child, child_of_parent}
+use Rattle.asc_base.proofs.Lookups.{some_is}
 use Rattle.posmap_counters.specs.Group.{GroupState, child_counter, moved_group}
 use Rattle.posmap_counters.specs.Counters.{Counters, counter_at, next_group, point_of, addresses_from, is_among}
 use Rattle.posmap_counters.specs.Counters.{MoveChild, RenumberChild, block_of, child_move, siblings}
 use Rattle.posmap_counters.specs.Counters.{after, after_all, points, all_points, group_move}
 use Rattle.posmap_counters.specs.Families.{HasCounters, IsMoving, move_points}
 use Rattle.posmap_counters.proofs.ChangeLaws.{All-to, after_others}
-use Rattle.posmap_counters.proofs.FamilyLaws.{zeros_at, some_is, under, all_from, length-addresses, take_moves}
+use Rattle.posmap_counters.proofs.FamilyLaws.{zeros_at, under, all_from, length-addresses, take_moves}
 use Rattle.posmap_counters.proofs.FamilyLaws.{block_of-child, moves_at, moves_other}
 
 -- nothing is moved yet

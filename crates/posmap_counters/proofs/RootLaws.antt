@@ -1,20 +1,18 @@
 -- The counters of the top layer.
 use Rattle.std.proofs.Common.{◌≡◌, ◌≢◌, ℕ, ◌+◌, ◌-◌, ◌%◌, ◌^◌, ◌<◌, ◌≤◌, inl, inr, arith, refl, sym, ap, ◌∙◌, subst}
-use Rattle.std.proofs.Common.{cond, List, [], ◌∷◌, length, get_or, set, replicate, None, Some, is_none}
+use Rattle.std.proofs.Common.{cond, List, [], ◌∷◌, length, get_or, set, replicate, None, is_none}
 use Rattle.std.proofs.lemmas.Bool.{cases_eq}
 use Rattle.std.proofs.lemmas.List.{get_or-set_same, get_or-set_other}
 use Rattle.asc_base.specs.TreeShape.{layer_first, layer_count, layer_of, parent_of}
 use Rattle.asc_base.specs.declared.block.Counter.{Counter}
 use Rattle.asc_base.proofs.Layers.{layer_of_in, layer_of-lt, layer_first-next, parent_of-below}
+use Rattle.asc_base.proofs.Lookups.{none_is_not}
 use Rattle.posmap_counters.specs.Counters.{Counters, counter_at, next_group, next_own, Change, Access, block_of, after}
 use Rattle.posmap_counters.specs.Counters.{asked_changes}
 use Rattle.posmap_counters.specs.Families.{HasRoots}
 use Rattle.posmap_counters.proofs.ChangeLaws.{after_at, after_other}
 use Rattle.posmap_counters.proofs.FamilyLaws.{zeros_at}
 use Rattle.posmap_counters.proofs.AskedLaws.{some_room, asked-room}
-
-some_none : {a : ℕ} → Some a ≡ None → ⊥
-some_none e = cc
 
 -- a counter of the top layer
 abbrev root : ℕ → Counter
@@ -30,8 +28,8 @@ module _ (lines layers : ℕ) where
       let top : layer_of lines layers a + 1 ≡ layers =
       elim (cases_eq (layer_of lines layers a + 1) layers) [
         | inl same ↦ same
-        | inr under ↦ absurd (some_none (sym (parent_of-below lines layers a (layer_of lines layers a) refl under)
-            ∙ none))
+        | inr under ↦ absurd (none_is_not (sym none
+            ∙ parent_of-below lines layers a (layer_of lines layers a) refl under))
       ] in
       let last : layer_of lines layers a ≡ layers - 1 = omega arith in
       let next = layer_first-next lines (layers - 1) in

@@ -9,6 +9,7 @@ use Rattle.std.proofs.lemmas.Bool.Decides.{eqb_tells}
 use Rattle.asc_base.specs.declared.block.Address.{Address}
 use Rattle.asc_base.proofs.Lookups.{find-yes, find-no, find-append, find-none, count_by-cons}
 use Rattle.asc_base.proofs.Lookups.{find-changed, find-changed_other, find-promoted, find-promoted_other}
+use Rattle.asc_base.proofs.Lookups.{some_is, none_is_not}
 use Rattle.posmap_counters.specs.Counters.{is_among}
 use Rattle.posmap_lookaside.specs.declared.held.Held.{Held}
 use Rattle.posmap_lookaside.specs.Addresses.{AreDistinct}
@@ -70,24 +71,15 @@ inserted_at (suc n) held list some =
 -- a list is what is taken of it, and the next one
 split_at : (n : ℕ) (xs : List Held) (last : Held) → length xs ≤ n + 1 → slice_get xs n ≡ Some last
     → xs ≡ take n xs ++ last ∷ []
-split_at n [] last fits at = absurd (none_some at)
-  where
-    none_some : None ≡ Some last → ⊥
-    none_some e = cc
+split_at n [] last fits at = absurd (none_is_not at)
 split_at zero (x ∷ []) last fits at = ap (λ y. y ∷ []) (some_is at)
-  where
-    some_is : {a b : Held} → Some a ≡ Some b → a ≡ b
-    some_is e = cc
 split_at zero (x ∷ y ∷ xs) last fits at = absurd (omega arith)
 split_at (suc n) (x ∷ xs) last fits at = ap (λ rest. x ∷ rest) (split_at n xs last (omega arith) at)
 
 whole_at : (n : ℕ) (xs : List Held) → slice_get xs n ≡ None → take n xs ≡ xs
 whole_at zero [] none = refl
 whole_at (suc n) [] none = refl
-whole_at zero (x ∷ xs) none = absurd (some_none none)
-  where
-    some_none : {a : Held} → Some a ≡ None → ⊥
-    some_none e = cc
+whole_at zero (x ∷ xs) none = absurd (none_is_not (sym none))
 whole_at (suc n) (x ∷ xs) none = ap (λ rest. x ∷ rest) (whole_at n xs none)
 
 or_none : (found : Option Held) → (if is_some found then found else None) ≡ found

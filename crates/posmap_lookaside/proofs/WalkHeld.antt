@@ -13,7 +13,7 @@ use Rattle.asc_base.specs.Lookup.{without_first}
 use Rattle.asc_base.specs.TreeShape.{layer_first, parent_of}
 use Rattle.asc_base.proofs.Families.{parent_above, child_of_parent}
 use Rattle.asc_base.proofs.Lookups.{find-yes, find-no, find-has, find-holds, without_first-has, count_by-cons}
-use Rattle.asc_base.proofs.Lookups.{count_by-promoted, promoted_first-some, promoted_first-none}
+use Rattle.asc_base.proofs.Lookups.{count_by-promoted, promoted_first-some, promoted_first-none, none_is_not}
 use Rattle.posmap_counters.specs.Counters.{is_among}
 use Rattle.posmap_lookaside.specs.Addresses.{used, AreDistinct}
 use Rattle.posmap_lookaside.specs.Walk.{WalkSizes, OnChip, ancestors, refill, walk_down, walk, missing}
@@ -256,12 +256,9 @@ used-front held a there = by (find (λ b. nat_eq b a) held) refl
     absent [] none is = absurd (cc)
     absent (x ∷ list) none is =
         elim (eqb_tells x a) [
-          | inl same ↦ absurd (some_none (sym (find-yes (λ b. nat_eq b a) x list same.0) ∙ none))
+          | inl same ↦ absurd (none_is_not (sym none ∙ find-yes (λ b. nat_eq b a) x list same.0))
           | inr other ↦ absent list (sym (find-no (λ b. nat_eq b a) x list other.0) ∙ none) (rw other.0 at is)
         ]
-      where
-        some_none : {y : ℕ} → Some y ≡ None → ⊥
-        some_none e = cc
 
     by : (found : Option ℕ) → find (λ b. nat_eq b a) held ≡ found → (rest : List ℕ) × (used held a ≡ a ∷ rest)
     by None none = absurd (absent held none there)

@@ -1,5 +1,5 @@
 use Rattle.bus_schedule.proofs.ScheduledRows.{before-end, at-end, too-early, not-noted, no-rate, two-idle}
-use Rattle.bus_schedule.proofs.ScheduledRows.{two-after, none-yet}
+use Rattle.bus_schedule.proofs.ScheduledRows.{two-after, none-yet, no-choice, longer-start, longer-twice}
 use Rattle.bus_schedule.proofs.scheduled_laws.scheduled_rows.Goals as goal
 
 pub returns-clause-before : goal.returns-clause-before
@@ -25,3 +25,12 @@ returns-clause-twice_after c = two-after
 
 pub returns-clause-idle : goal.returns-clause-idle
 returns-clause-idle c = none-yet
+
+pub returns-clause-longer : goal.returns-clause-longer
+returns-clause-longer c = no-choice
+
+pub returns-clause-longer_idle : goal.returns-clause-longer_idle
+returns-clause-longer_idle c = longer-start
+
+pub returns-clause-longer_twice : goal.returns-clause-longer_twice
+returns-clause-longer_twice c = longer-twice
