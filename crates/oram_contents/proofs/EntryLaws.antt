@@ -36,7 +36,8 @@ module _ (keys : Keys) (start leaf : ℕ) (altered : List Altered) (now : Conten
   abbrev texts : List (List ℕ)
   texts = replies keys.shape.levels start leaf now.mirror altered
 
-  pub joined_is : joined ≡ now.hand ++ flat_map (entries_in keys) (replies keys.shape.levels start leaf now.mirror altered)
+  pub joined_is : joined ≡ now.hand ++ flat_map (entries_in keys)
+      (replies keys.shape.levels start leaf now.mirror altered)
   joined_is = buckets-joined keys.shape.levels leaf 0 (map (opened keys.pads keys.shape) texts) now.hand joined read
       ∙ ap (λ (l : List Entry). now.hand ++ l) (opened_all keys texts)
 

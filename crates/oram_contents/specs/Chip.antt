@@ -45,23 +45,34 @@ abbrev pub AreDistinct : List ℕ → Type 0
 AreDistinct [] = Unit {0}
 AreDistinct (a ∷ later) = (Has a later → ⊥) × AreDistinct later
 
--- The chip shows the counters of all blocks. That a held block is one of the position map, so that it has children, and
--- that the one whose group moves is held, are said of a front end that stands so (`IsShown`, `IsFirst` of oram_lines).
+-- The chip shows the counters of all blocks. At each clause stands which step fails without it. That a held block is
+-- one of the position map, so that it has children, and that the one whose group moves is held, are said of a front end
+-- that stands so (`IsShown`, `IsFirst` of oram_lines): no step here fails without these.
 pub record AreGroups (shape : Shape) (plb : ℕ) (g : Ghost) (chip : Chip) : Type 0 where
-  -- a top layer's block has its counter on chip: its step needs it
+  -- A top layer's block has its counter on chip. The step of such a block needs it: the counter that is looked for is
+  -- that which the chip shows.
   pub roots : (a : ℕ) → a < shape.total → parent_of shape.lines shape.layers a ≡ None
       → IsRootOf g a (root_counter shape chip.roots a)
-  -- a held block is held under its counter, and its group shows its children's: the step of a child needs it, and the
-  -- append of the held block when it leaves
+  -- A held block is held under its counter. The append needs it when the block leaves: its message has that counter.
   pub counters : (h : HeldBlock) → Has h chip.held → h.counter ≡ g.count h.address
+  -- Its group shows its children's counters. The step of a child needs it, each child of a group move, and the append,
+  -- whose line is made of the group.
   pub groups : (h : HeldBlock) → Has h chip.held → IsGroupOf shape g h.address h.group.group h.group.own
-  -- the block whose slot comes next is of the top layer, or its parent is the first that is held
+  -- The block whose slot comes next is of the top layer, or its parent is the first that is held. No step needs it,
+  -- since the step of a child asks for its parent as the first: it says of each access that it is under the counter
+  -- that the group before it gives, and nothing that isn't on chip.
   pub parent : (a p : ℕ) → g.pend ≡ Some a → parent_of shape.lines shape.layers a ≡ Some p
       → (rest : List ℕ) × (g.held ≡ p ∷ rest)
-  -- held addresses differ, are at most `plb`, and are of blocks of the shape: an insert needs it
+  -- The blocks that are held are those on chip, in this order. Each step that speaks of a held block needs it, so that
+  -- what the chip holds and what is known of it are of the same blocks: a use, an insert, a child that is renumbered.
   pub listed : g.held ≡ addresses chip.held
+  -- They differ. A step needs it, since only the first one's group changes; and an insert, since what is displaced
+  -- isn't held any more.
   pub apart : AreDistinct g.held
+  -- They are at most `plb`. An insert needs it: one block at most is displaced, and none is lost.
   pub few : length g.held ≤ plb
+  -- They are of the shape. A step needs it, and a group move: a parent stands above its children, and its message is of
+  -- a block of the shape where it is displaced.
   pub inside : (p : ℕ) → Has p g.held → p < shape.total
 
 -- the chip at the start: no block was accessed, and none is held

@@ -13,7 +13,7 @@ use Rattle.asc_base.specs.declared.block.Counter.{Counter}
 use Rattle.asc_base.specs.declared.block.Entry.{Entry}
 use Rattle.asc_base.specs.declared.settings.Config.{Config}
 use Rattle.asc_base.specs.declared.shape.Shape.{Shape}
-use Rattle.asc_base.proofs.Families.{child_of_parent}
+use Rattle.asc_base.proofs.Families.{child_of_parent, children_few}
 use Rattle.asc_base.proofs.Layers.{index_of-lt, layer_first-zero, layer_count-zero, children_of-above}
 use Rattle.asc_base.proofs.Lookups.{find-has, find-holds}
 use Rattle.asc_base.proofs.ShapeFacts.{shape_layered}
@@ -27,7 +27,7 @@ use Rattle.oram_contents.specs.Groups.{child_counter, moved_of}
 use Rattle.oram_contents.specs.Home.{copies, tree_copies, flying}
 use Rattle.oram_contents.specs.Provenance.{Known, OffOpen, message_in}
 use Rattle.oram_contents.specs.Verdict.{is_first}
-use Rattle.oram_contents.proofs.Lines.{children_few, children_inside, some_child}
+use Rattle.oram_contents.proofs.Lines.{children_inside, some_child}
 use Rattle.oram_lines.specs.Standing.{held_block}
 use Rattle.oram_lines.proofs.MoveTriples.{not_held, block_has}
 use Rattle.oram_lines.proofs.ShownHeld.{group_line}
@@ -130,7 +130,8 @@ module _ (keys : Keys) (lawful : AreKeys keys) (levels : ℕ) (config : Config) 
       (groups_are (record { 0 = p }) first number inside children)
     where
       few : number ≤ 32
-      few = children_few keys.shape p first number lawful.shape inside children
+      few = (children_few keys.shape.lines keys.shape.layers p first number (omega (arith, inside, total_is))
+          children).1
 
       some : 0 < number
       some = some_child keys.shape p first number lawful.shape inside children
@@ -228,7 +229,8 @@ module _ (keys : Keys) (lawful : AreKeys keys) (levels : ℕ) (config : Config) 
           ≡ option_map_or (family_line count) family (data_line now.data_lines a)
       by_children None leaf = x.stored a (leaf_low a inside leaf)
       by_children (Some (first, number)) children =
-          let few = children_few keys.shape a first number lawful.shape inside children in
+          let few = (children_few keys.shape.lines keys.shape.layers a first number
+          (omega (arith, inside, total_is)) children).1 in
           let has = family_has g.count first number few (one_group a first number inside children) in
           ap line_in (family_only count first number (family_group g.count (first, number))
           (some_child keys.shape a first number lawful.shape inside children) (length-own_counts g.count first number)

@@ -6,7 +6,8 @@ pub returns-clause-path : goal.returns-clause-path
 returns-clause-path c = written_there
 
 pub returns-clause-others : goal.returns-clause-others
-returns-clause-others c keys leaf w bucket now off = sealed-off keys.pads keys.shape.levels leaf now.seed now.hand now.mirror w bucket off
+returns-clause-others c keys leaf w bucket now off =
+    sealed-off keys.pads keys.shape.levels leaf now.seed now.hand now.mirror w bucket off
 
 pub returns-clause-opened : goal.returns-clause-opened
 returns-clause-opened c = opened_there

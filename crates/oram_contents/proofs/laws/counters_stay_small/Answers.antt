@@ -1,4 +1,5 @@
-use Rattle.oram_contents.proofs.SmallLaws.{small_start, small_more, small_raised, small_drawn, small_renumbered, small_fits}
+use Rattle.oram_contents.proofs.SmallLaws.{small_start, small_more, small_raised, small_drawn, small_renumbered}
+use Rattle.oram_contents.proofs.SmallLaws.{small_fits}
 use Rattle.oram_contents.proofs.laws.counters_stay_small.Goals as goal
 
 pub returns-clause-start : goal.returns-clause-start
