@@ -41,3 +41,4 @@ pub mod Twice
 pub mod FormLaws
 pub mod Answers
 pub mod FirstSlots
+pub mod TwoSlots
