@@ -514,8 +514,8 @@ pub fn chip_shows_moves()
     ensures inserted { (shape : Shape) (plb : ℕ) (g : Ghost) (chip : Chip) → AreGroups shape plb g chip
         → (h : HeldBlock) → h.counter ≡ g.count h.address
         → IsGroupOf shape g h.address h.group.group h.group.own → (Has h.address g.held → ⊥)
-        → h.address < shape.total → g.pend ≡ None
-        → AreGroups shape plb (inserted g plb h.address) (with_held plb h chip) }
+        → h.address < shape.total → (family : ℕ × ℕ) × (children_of shape.lines shape.layers h.address ≡ Some family)
+        → g.pend ≡ None → AreGroups shape plb (inserted g plb h.address) (with_held plb h chip) }
     ensures used { (shape : Shape) (plb : ℕ) (g : Ghost) (chip : Chip) → AreGroups shape plb g chip → (p : ℕ)
         → g.pend ≡ None
         → AreGroups shape plb (record g { held = addresses (with_used p chip).held }) (with_used p chip) }

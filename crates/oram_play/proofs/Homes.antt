@@ -248,7 +248,7 @@ module _ (keys : Keys) (lawful : AreKeys keys) (levels : ℕ) (config : Config) 
       let a : ℕ = h.address.0 in
       let listed : Has a g.held = subst (Has a) (sym x.stands.shown.groups.listed) (block_has o.front.held h among) in
       let inside : a < keys.shape.total = x.stands.shown.groups.inside a listed in
-      let ((first, number), children) = x.stands.shown.blocks a listed in
+      let ((first, number), children) = x.stands.shown.groups.families a listed in
       let on_chip = held_has h o.front.held among in (
         inside,
         x.stands.shown.groups.counters (held_block h) on_chip ∙ counts_are a inside,
