@@ -1,13 +1,13 @@
 -- A log with an altered reply that shows a forgery, and logs with one that show none.
 use Rattle.std.proofs.Common.{◌≡◌, ◌<◌, inl, inr, ℕ, zero, suc, Bool, true, false, not, ◌&&◌, ◌||◌, nat_le}
-use Rattle.std.proofs.Common.{List, [], ◌∷◌, ◌++◌, length, All, None, Some, refl, sym, ◌∙◌, ap, subst, arith}
+use Rattle.std.proofs.Common.{List, [], ◌∷◌, ◌++◌, length, All, None, Some, Ok, refl, sym, ◌∙◌, ap, subst, arith}
 use Rattle.std.specs.Prelude.{bytes_eq}
 use Rattle.asc_base.specs.Has.{Has}
 use Rattle.asc_base.specs.declared.block.Counter.{Counter}
 use Rattle.asc_base.specs.declared.block.Entry.{Entry}
 use Rattle.asc_base.specs.declared.block.Message.{Message}
 use Rattle.asc_base.proofs.Members.{has_right}
-use Rattle.bucket_codec.specs.Bucket.{bucket_text}
+use Rattle.bucket_codec.specs.Bucket.{bucket_text, opened}
 use Rattle.bucket_codec.specs.Slot.{IsSlot, IsInRange}
 use Rattle.bucket_codec.proofs.Buckets.{opened_bucket}
 use Rattle.bus_watch.specs.declared.log.Altered.{Altered}
@@ -30,7 +30,7 @@ abbrev earlier_events : Keys → ℕ → Counter → List ℕ → List Event
 earlier_events keys a c put = drawn_events keys 256 (Some 0) (real a first_counter) ++ (Tagged (message_of a c put)
     ∷ drawn_events keys 1008 (Some 752) (real a c))
 
-abbrev root_reply : Keys → ℕ → Counter → List ℕ → Altered
+abbrev pub root_reply : Keys → ℕ → Counter → List ℕ → Altered
 root_reply keys a c stood = record {
   time = 1008;
   bucket = 0;
@@ -42,13 +42,14 @@ tested : (b : Bool) → b ≡ false → (b ≡ true → ⊥)
 tested b is holds = let bad : true ≡ false = sym holds ∙ is in cc
 
 module _ (keys : Keys) (lawful : AreKeys keys) (a : ℕ) (c : Counter) (inside : a < keys.shape.total) where
-  -- a sealed bucket with an entry in its first slot alone has that entry alone
-  one_entry : (l : List ℕ) → length l ≡ 64
-      → entries_in keys (bucket_text keys.pads 1 (Some (entry_of keys a c l) ∷ None ∷ None ∷ None ∷ []))
-      ≡ entry_of keys a c l ∷ []
-  one_entry l whole =
-      ap entries_of (opened_bucket keys.pads keys.shape 1 (Some (entry_of keys a c l) ∷ None ∷ None ∷ None ∷ [])
-      (omega arith) (omega arith) (record { four = refl; each = each_slot }) each_range)
+  -- a sealed bucket with an entry in its first slot alone opens to that slot
+  pub one_opens : (l : List ℕ) → length l ≡ 64
+      → opened keys.pads keys.shape
+      (bucket_text keys.pads 1 (Some (entry_of keys a c l) ∷ None ∷ None ∷ None ∷ []))
+      ≡ Ok (Some (entry_of keys a c l) ∷ None ∷ None ∷ None ∷ [])
+  one_opens l whole =
+      opened_bucket keys.pads keys.shape 1 (Some (entry_of keys a c l) ∷ None ∷ None ∷ None ∷ [])
+      (omega arith) (omega arith) (record { four = refl; each = each_slot }) each_range
     where
       each_slot : All IsSlot (Some (entry_of keys a c l) ∷ None ∷ None ∷ None ∷ [])
       each_slot zero d less = entry_typed keys lawful a c l inside whole
@@ -63,6 +64,12 @@ module _ (keys : Keys) (lawful : AreKeys keys) (a : ℕ) (c : Counter) (inside :
       each_range (suc (suc zero)) d less = tt
       each_range (suc (suc (suc zero))) d less = tt
       each_range (suc (suc (suc (suc k)))) d less = absurd (omega arith)
+
+  -- so it has that entry alone
+  one_entry : (l : List ℕ) → length l ≡ 64
+      → entries_in keys (bucket_text keys.pads 1 (Some (entry_of keys a c l) ∷ None ∷ None ∷ None ∷ []))
+      ≡ entry_of keys a c l ∷ []
+  one_entry l whole = ap entries_of (one_opens l whole)
 
   -- a line that stood in a reply is accepted, and another one was tagged
   pub forged : (put found : List ℕ) → length found ≡ 64 → (found ≡ put → ⊥)

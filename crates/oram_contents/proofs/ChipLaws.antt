@@ -126,6 +126,7 @@ groups_start shape plb roots = record {
   apart = tt;
   few = omega arith;
   inside = λ p has. absurd has;
+  families = λ p has. absurd has;
 }
   where
     zeros : (n k : ℕ) → get_or (replicate n zero) k zero ≡ zero
@@ -166,6 +167,7 @@ module _ (shape : Shape) (lawful : IsShape shape) (plb : ℕ) (g : Ghost) (chip 
     apart = s.apart;
     few = s.few;
     inside = s.inside;
+    families = s.families;
   }
 
   -- a block of the top layer is stepped
@@ -190,6 +192,7 @@ module _ (shape : Shape) (lawful : IsShape shape) (plb : ℕ) (g : Ghost) (chip 
     apart = s.apart;
     few = s.few;
     inside = s.inside;
+    families = s.families;
   }
     where
       child_of_none : (h : HeldBlock) → Has h chip.held → (first number k : ℕ)
@@ -332,6 +335,7 @@ module _ (shape : Shape) (lawful : IsShape shape) (plb : ℕ) (g : Ghost) (roots
       apart = s.apart;
       few = s.few;
       inside = s.inside;
+      families = s.families;
     }
 
     -- the child's slot takes it
@@ -362,6 +366,7 @@ module _ (shape : Shape) (lawful : IsShape shape) (plb : ℕ) (g : Ghost) (roots
       apart = s.apart;
       few = s.few;
       inside = s.inside;
+      families = s.families;
     }
       where
         a : ℕ
@@ -391,6 +396,7 @@ module _ (shape : Shape) (lawful : IsShape shape) (plb : ℕ) (g : Ghost) (roots
       apart = s.apart;
       few = s.few;
       inside = s.inside;
+      families = s.families;
     }
       where
         a : ℕ
@@ -467,6 +473,7 @@ module _ (shape : Shape) (lawful : IsShape shape) (plb : ℕ) (g : Ghost) (roots
       apart = s.apart;
       few = s.few;
       inside = s.inside;
+      families = s.families;
     }
       where
         a : ℕ
@@ -516,6 +523,7 @@ module _ (shape : Shape) (lawful : IsShape shape) (plb : ℕ) (g : Ghost) (roots
     apart = s.apart;
     few = s.few;
     inside = s.inside;
+    families = s.families;
   }
     where
       none_done : (p q : ℕ) → moved_of (Some (p, 0)) q ≡ 0
@@ -553,6 +561,7 @@ module _ (shape : Shape) (lawful : IsShape shape) (plb : ℕ) (g : Ghost) (roots
     apart = s.apart;
     few = s.few;
     inside = s.inside;
+    families = s.families;
   }
 
 -- a block of the top layer is taken
@@ -575,6 +584,7 @@ groups_root_taken shape lawful plb g chip s a a_in top at unheld = record {
   apart = s.apart;
   few = s.few;
   inside = s.inside;
+  families = s.families;
 }
   where
     not_child : (x : HeldBlock) → Has x chip.held → (f n k : ℕ)
@@ -620,9 +630,9 @@ length_take (suc n) (x ∷ xs) = let less = length_take n xs in omega arith
 -- the block in flight is held
 pub groups_inserted : (shape : Shape) (plb : ℕ) (g : Ghost) (chip : Chip) → AreGroups shape plb g chip → (h : HeldBlock)
     → h.counter ≡ g.count h.address → IsGroupOf shape g h.address h.group.group h.group.own → (Has h.address g.held → ⊥)
-    → h.address < shape.total → g.pend ≡ None
-    → AreGroups shape plb (inserted g plb h.address) (with_held plb h chip)
-groups_inserted shape plb g chip s h counted shown unheld inside none = record {
+    → h.address < shape.total → (family : ℕ × ℕ) × (children_of shape.lines shape.layers h.address ≡ Some family)
+    → g.pend ≡ None → AreGroups shape plb (inserted g plb h.address) (with_held plb h chip)
+groups_inserted shape plb g chip s h counted shown unheld inside family none = record {
   roots = λ b b_inside top. same_root g (inserted g plb h.address) b (root_counter shape chip.roots b) refl refl
       (s.roots b b_inside top);
   counters = λ x has. elim (has_take plb (h ∷ chip.held) x has) [
@@ -643,6 +653,10 @@ groups_inserted shape plb g chip s h counted shown unheld inside none = record {
   inside = λ p has. elim (has_take plb (h.address ∷ g.held) p has) [
     | inl is ↦ subst (λ x. x < shape.total) (sym is) inside
     | inr at ↦ s.inside p at
+  ];
+  families = λ p has. elim (has_take plb (h.address ∷ g.held) p has) [
+    | inl is ↦ subst (λ x. (family : ℕ × ℕ) × (children_of shape.lines shape.layers x ≡ Some family)) (sym is) family
+    | inr at ↦ s.families p at
   ];
 }
 
@@ -693,6 +707,9 @@ groups_used shape plb g chip s p none = by_found (find (is_at p) chip.held) refl
       few = few;
       inside = λ q has. let y = unmapped q held has in
           s.inside q (subst (λ l. Has q l) (sym s.listed)
+          (subst (λ a. Has a (addresses chip.held)) (sym y.2) (mapped y.0 chip.held (among y.0 y.1))));
+      families = λ q has. let y = unmapped q held has in
+          s.families q (subst (λ l. Has q l) (sym s.listed)
           (subst (λ a. Has a (addresses chip.held)) (sym y.2) (mapped y.0 chip.held (among y.0 y.1))));
     }
 

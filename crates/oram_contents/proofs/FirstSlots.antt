@@ -33,7 +33,7 @@ nothing_joins keys r none from (suc n) =
     ∙ nothing_joins keys r none (from + 1) n
 
 module _ (keys : Keys) (lawful : AreKeys keys) (start : ℕ) where
-  nothing_read : (p : Point) → IsReadTo keys.pads keys.shape start (keys.leaf_of p) [] (first_contents keys) []
+  pub nothing_read : (p : Point) → IsReadTo keys.pads keys.shape start (keys.leaf_of p) [] (first_contents keys) []
   nothing_read p =
       let now = first_contents keys in
       let leaf = keys.leaf_of p in

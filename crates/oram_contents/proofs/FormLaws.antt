@@ -42,14 +42,15 @@ zeros_at zero b = inr refl
 zeros_at (suc n) zero = inl refl
 zeros_at (suc n) (suc b) = zeros_at n b
 
+pub zeros_open : (keys : Keys) (b : ℕ)
+    → opened keys.pads keys.shape (get_or (zero_buckets keys.shape.buckets) b []) ≡ Ok empty_slots
+zeros_open keys b = elim (zeros_at keys.shape.buckets b) [
+  | inl is ↦ ap (opened keys.pads keys.shape) is ∙ unwritten keys zero_bucket zero_seed
+  | inr is ↦ ap (opened keys.pads keys.shape) is ∙ unwritten keys [] no_bytes
+]
+
 pub start_forms : (keys : Keys) → AreInForm keys (zero_buckets keys.shape.buckets)
-start_forms keys b inside = (
-  empty_slots,
-  elim (zeros_at keys.shape.buckets b) [
-    | inl is ↦ ap (opened keys.pads keys.shape) is ∙ unwritten keys zero_bucket zero_seed
-    | inr is ↦ ap (opened keys.pads keys.shape) is ∙ unwritten keys [] no_bytes
-  ],
-)
+start_forms keys b inside = (empty_slots, zeros_open keys b)
 
 module _ (keys : Keys) (lawful : AreKeys keys) where
   pub access_forms : (old new : LogLists) (g : Ghost) (now after : Contents) (start a : ℕ) (c : Counter)

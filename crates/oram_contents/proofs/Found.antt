@@ -28,7 +28,7 @@ pub held_has : (hand : List Entry) (a : Address) (e : Entry) → held hand a ≡
     → Has e hand × (e.address.0 ≡ a.0)
 held_has hand a e is = let found = held-found hand a e is in (found.1, found.0)
 
-first_is : (c : Counter) → is_first c ≡ true → c ≡ first_counter
+pub first_is : (c : Counter) → is_first c ≡ true → c ≡ first_counter
 first_is c is = elim (eqb_tells c.group 0) [
   | inl group ↦ elim (eqb_tells c.own 0) [
     | inl own ↦ (λ i. record { group = group.1 i; own = own.1 i })

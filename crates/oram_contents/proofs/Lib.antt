@@ -42,3 +42,4 @@ pub mod Twice
 pub mod FormLaws
 pub mod Answers
 pub mod FirstSlots
+pub mod TwoSlots

@@ -4,7 +4,7 @@ use Rattle.std.specs.Prelude.{◌≡◌, ◌<◌, ◌≤◌, ◌+◌, ◌-◌, �
 use Rattle.std.specs.Prelude.{None, Some, slice_index, slice_set, replicate}
 use Rattle.asc_base.specs.Has.{Has}
 use Rattle.asc_base.specs.Lookup.{changed_first, promoted_first}
-use Rattle.asc_base.specs.TreeShape.{parent_of, layer_first}
+use Rattle.asc_base.specs.TreeShape.{children_of, parent_of, layer_first}
 use Rattle.asc_base.specs.declared.block.Counter.{Counter}
 use Rattle.asc_base.specs.declared.shape.Shape.{Shape}
 use Rattle.posmap_counters.specs.Counters.{next_group}
@@ -45,9 +45,8 @@ abbrev pub AreDistinct : List ℕ → Type 0
 AreDistinct [] = Unit {0}
 AreDistinct (a ∷ later) = (Has a later → ⊥) × AreDistinct later
 
--- The chip shows the counters of all blocks. At each clause stands which step fails without it. That a held block is one
--- of the position map, so that it has children, and that the one whose group moves is held, are said of a front end that
--- stands so (`IsShown`, `IsFirst` of oram_lines): no step here fails without these, and a refill holds no other block.
+-- The chip shows the counters of all blocks. At each clause stands which step fails without it. That the block whose
+-- group moves is held is said where it moves (`IsFirst` of oram_lines): no other step speaks of it.
 pub record AreGroups (shape : Shape) (plb : ℕ) (g : Ghost) (chip : Chip) : Type 0 where
   -- A top layer's block has its counter on chip. The step of such a block needs it: the counter that is looked for is
   -- that which the chip shows.
@@ -66,13 +65,18 @@ pub record AreGroups (shape : Shape) (plb : ℕ) (g : Ghost) (chip : Chip) : Typ
   -- The blocks that are held are those on chip, in this order. Each step that speaks of a held block needs it, so that
   -- what the chip holds and what is known of it are of the same blocks: a use, an insert, a child that is renumbered.
   pub listed : g.held ≡ addresses chip.held
-  -- They differ. A step needs it: only the first one's group changes; and an insert: what is displaced isn't held still.
+  -- They differ. A step needs it, since only the first one's group changes; and an insert, since what is displaced
+  -- isn't held any more.
   pub apart : AreDistinct g.held
   -- They are at most `plb`. An insert needs it: one block at most is displaced, and none is lost.
   pub few : length g.held ≤ plb
   -- They are of the shape. A step needs it, and a group move: a parent stands above its children, and its message is of
   -- a block of the shape where it is displaced.
   pub inside : (p : ℕ) → Has p g.held → p < shape.total
+  -- They are blocks of the position map: each has children. No step here needs it; the append does, whose line is made
+  -- of the group and not of a data line's bytes, and a call for a line, which is never one that is held.
+  pub families : (p : ℕ) → Has p g.held
+      → (family : ℕ × ℕ) × (children_of shape.lines shape.layers p ≡ Some family)
 
 -- the chip at the start: no block was accessed, and none is held
 abbrev pub first_chip : ℕ → Chip

@@ -34,7 +34,7 @@ ghost use Rattle.oram_contents.specs.Home.{Home, AreInForm, copies, flying, tota
 ghost use Rattle.oram_contents.specs.Fold.{Fold, IsCut, LogEnd, Whole, with_entry, is_open_for, fold_events, whole};
 ghost use Rattle.oram_contents.specs.Fold.{contents_of_log};
 ghost use Rattle.bus_watch.specs.Path.{along, reads, slot_moves, writes_start};
-ghost use Rattle.asc_base.specs.TreeShape.{bucket_of, move_cycles};
+ghost use Rattle.asc_base.specs.TreeShape.{bucket_of, move_cycles, shared_of};
 ghost use Rattle.bucket_codec.specs.Bucket.{Holds, bucket_text, opened, seed_in, slot_entries};
 ghost use Rattle.oram_contents.specs.Copies.{copies_to};
 ghost use Rattle.oram_contents.specs.PathWritten.{places_of, sealed, slots_at, stays};
@@ -368,7 +368,9 @@ pub fn buckets_stay_in_form()
 /// The start is sound and at home, and there is a first slot of each kind. Of the logs of two slots with an altered
 /// reply one shows a forgery: the line that stood in the reply is accepted, and another one was put back. None is shown
 /// where the line that was put back is accepted, whether it stood in the reply or another one did, nor where a line is
-/// accepted that didn't stand there. The test of lists says so.
+/// accepted that didn't stand there. The test of lists says so. The one that shows a forgery is a log of two slots, an
+/// access and a refill that finds what stood in the reply, where the paths of both share the root alone: the reply
+/// stands in its place then, and hides the line that was put back (elsewhere on the path that would be `Doubled`).
 pub fn instances_are_there()
     ensures sound { (keys : Keys) → Sound keys empty_log first_ghost (first_contents keys) }
     ensures always { (keys : Keys) → Always keys empty_log (first_contents keys) }
@@ -384,6 +386,13 @@ pub fn instances_are_there()
         → IsRefill keys empty_log (first_slot keys start (real a first_counter) []) (first_contents keys)
         (after_write keys.pads keys.shape.levels (keys.leaf_of (real a first_counter)) (first_contents keys)) start a
         first_counter None }
+    ensures two_slots { (keys : Keys) → AreKeys keys → (a : ℕ) (c : Counter) → a < keys.shape.total
+        → (c ≡ first_counter → ⊥) → (put found : List ℕ) → length found ≡ 64
+        → shared_of keys.shape.levels (keys.leaf_of (real a first_counter)) (keys.leaf_of (real a c)) ≡ 0
+        → (mid : LogLists) × (between : Contents) × (after : Contents)
+        × IsAccess keys empty_log mid (first_contents keys) between 256 a first_counter c None put
+        × IsRefill keys mid (altered_log keys a c put found found) between after 1008 a c
+        (Some (entry_of keys a c found)) }
     ensures forged { (keys : Keys) → AreKeys keys → (a : ℕ) (c : Counter) → a < keys.shape.total
         → (put found : List ℕ) → length found ≡ 64 → (found ≡ put → ⊥)
         → Forgery keys (altered_log keys a c put found found) }
@@ -514,8 +523,8 @@ pub fn chip_shows_moves()
     ensures inserted { (shape : Shape) (plb : ℕ) (g : Ghost) (chip : Chip) → AreGroups shape plb g chip
         → (h : HeldBlock) → h.counter ≡ g.count h.address
         → IsGroupOf shape g h.address h.group.group h.group.own → (Has h.address g.held → ⊥)
-        → h.address < shape.total → g.pend ≡ None
-        → AreGroups shape plb (inserted g plb h.address) (with_held plb h chip) }
+        → h.address < shape.total → (family : ℕ × ℕ) × (children_of shape.lines shape.layers h.address ≡ Some family)
+        → g.pend ≡ None → AreGroups shape plb (inserted g plb h.address) (with_held plb h chip) }
     ensures used { (shape : Shape) (plb : ℕ) (g : Ghost) (chip : Chip) → AreGroups shape plb g chip → (p : ℕ)
         → g.pend ≡ None
         → AreGroups shape plb (record g { held = addresses (with_used p chip).held }) (with_used p chip) }

@@ -135,7 +135,7 @@ module _ (keys : Keys) (lawful : AreKeys keys) (levels : ℕ) (began : ℕ → L
       (omega (arith, data_layer keys lawful levels line below)))))
       (λ now end m x t later_front seen ends.
       elim (visit_comes keys lawful levels began now x.h m end (record { 0 = line }) purpose x.stands x.calm x.first
-      (data_inside keys lawful levels line below) (λ has. let family = x.stands.port.shown.blocks line has in
+      (data_inside keys lawful levels line below) (λ has. let family = x.stands.port.shown.groups.families line has in
       absurd (let bad : ◌≡◌ {A = Option (ℕ × ℕ)} None (Some family.0) = sym (data_leaf keys lawful levels line below)
       ∙ family.1 in cc))
       fits t later_front seen ends) [

@@ -404,7 +404,7 @@ module _ (keys : Keys) (lawful : AreKeys keys) (levels : ℕ) (began : ℕ → L
       (walk_halts keys.shape.layers front g s asked (record { 0 = line }) st data_is calm inside top))
       (λ now end m x. visit_halts now x.h m end (record { 0 = line }) purpose x.stands (still g x.h data_is x.lines)
       x.calm x.first inside
-      (λ has. let family = x.stands.port.shown.blocks line has in
+      (λ has. let family = x.stands.port.shown.groups.families line has in
       absurd (let bad : ◌≡◌ {A = Option (ℕ × ℕ)} None (Some family.0) = sym (data_leaf keys lawful levels line below)
       ∙ family.1 in cc)))
 

@@ -127,7 +127,6 @@ module _ (keys : Keys) (lawful : AreKeys keys) where
         siblings = λ q f n k inside of less still. s.counters.siblings q f n k inside of less
             (still_none g.move q none);
       };
-      blocks = s.blocks;
       wide = s.wide;
     }
 
@@ -193,7 +192,6 @@ module _ (keys : Keys) (lawful : AreKeys keys) where
                 s.groups.listed ∙ ap (λ x. x ∷ addresses (map held_block rest)) (some_is (sym (up i less) ∙ of)),
               ));
           counters = counters_same g (record g { pend = Some (first + i) }) refl refl keys.shape s.counters;
-          blocks = s.blocks;
           wide = s.wide;
         };
         taken = λ h count same level' pend now. record {
@@ -205,7 +203,6 @@ module _ (keys : Keys) (lawful : AreKeys keys) where
               (groups_moved keys.shape lawful.shape plb g roots (held_block top) (map held_block rest) s.groups first
               number i children less level moving unheld);
           counters = counters_of h count now;
-          blocks = λ q has. s.blocks q (subst (Has q) same has);
           wide = s.wide;
         };
         small = λ log' more. small_raised keys.shape ic log' g.count (first + i) (next_group (child_counter group i))
@@ -280,7 +277,6 @@ module _ (keys : Keys) (lawful : AreKeys keys) where
             count = put_at g.count (first + i) (next_group (child_counter group i));
             move = Some (p.0, i + 1);
           }) refl refl;
-          blocks = s.blocks;
           wide = changed_wide (record { 0 = first + i }) (next_group (child_counter group i)) (top ∷ rest) s.wide;
         };
         small = small_raised keys.shape ic log g.count (first + i) (next_group (child_counter group i))
@@ -345,7 +341,6 @@ module _ (keys : Keys) (lawful : AreKeys keys) where
             own = s.counters.own;
             siblings = λ q f n k inside of under still. siblings_of q f n k inside of under (cases_eq q p.0);
           };
-          blocks = s.blocks;
           wide = λ h has. elim (subst (Has h) changed_top has) [
             | inl is ↦ ap (λ (x : Held). length x.group.own) is
             | inr at ↦ s.wide h (inr at)

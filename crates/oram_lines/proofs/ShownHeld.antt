@@ -1,6 +1,6 @@
 -- How a front end's chip goes on showing the counters of all blocks where a block comes to be held, or is used.
 use Rattle.std.proofs.Common.{◌≡◌, ◌<◌, ◌≤◌, inl, inr, ℕ, zero, suc, Bool, true, false, List, [], ◌∷◌}
-use Rattle.std.proofs.Common.{Option, None, Some, length, map, take, slice_get, nat_eq, is_some, option_map}
+use Rattle.std.proofs.Common.{Option, None, Some, length, map, take, slice_get, is_some, option_map}
 use Rattle.std.proofs.Common.{if◌then◌else◌}
 use Rattle.std.proofs.Common.{refl, sym, ap, ◌∙◌, subst, arith}
 use Rattle.std.specs.List.{find}
@@ -165,7 +165,6 @@ module _ (keys : Keys) (lawful : AreKeys keys) where
         (record { roots = front.roots; held = l })) (sym chip_is)
         (groups_used keys.shape front.plb g (chip_of front) s.groups p.0 none));
     counters = counters_same g (record g { held = used g.held p.0 }) refl refl keys.shape s.counters;
-    blocks = λ q has. s.blocks q (promoted_has (λ a. nat_eq a p.0) g.held q has);
     wide = λ h has. s.wide h (promoted_has (is_of p) front.held h has);
   }
     where
@@ -210,13 +209,8 @@ module _ (keys : Keys) (lawful : AreKeys keys) where
       groups = subst (λ l. AreGroups keys.shape front.plb (inserted g front.plb a.0)
           (record { roots = front.roots; held = l })) (sym (take_map held_block front.plb (new ∷ front.held)))
           (groups_inserted keys.shape front.plb g (chip_of front) s.groups (held_block new) counted shown_new unheld
-          inside none);
+          inside family none);
       counters = counters_same g (inserted g front.plb a.0) refl refl keys.shape s.counters;
-      blocks = λ p has. elim (take_has front.plb (a.0 ∷ g.held) p has) [
-        | inl is ↦ subst (λ x. (family : ℕ × ℕ) × (children_of keys.shape.lines keys.shape.layers x ≡ Some family))
-            (sym is) family
-        | inr at ↦ s.blocks p at
-      ];
       wide = λ h has. wide_of h (take_has front.plb (new ∷ front.held) h has);
     };
     some = λ d is. let there = get_has front.plb (new ∷ front.held) d is in record {
@@ -257,7 +251,8 @@ module _ (keys : Keys) (lawful : AreKeys keys) where
           → (family : ℕ × ℕ) × (children_of keys.shape.lines keys.shape.layers h.address.0 ≡ Some family)
       family_of h (inl is) = subst (λ (x : Held). (family : ℕ × ℕ)
           × (children_of keys.shape.lines keys.shape.layers x.address.0 ≡ Some family)) (sym is) family
-      family_of h (inr at) = s.blocks h.address.0 (subst (Has h.address.0) (sym held_is) (address_has h front.held at))
+      family_of h (inr at) = s.groups.families h.address.0
+          (subst (Has h.address.0) (sym held_is) (address_has h front.held at))
 
       group_of_held : (h : Held) → Has h (new ∷ front.held)
           → IsGroupOf keys.shape g h.address.0 h.group.group h.group.own

@@ -88,6 +88,7 @@ module _ (g h : Ghost) (count : h.count ≡ g.count) (held : h.held ≡ g.held) 
     apart = subst AreDistinct (sym held) s.apart;
     few = subst (λ l. length l ≤ plb) (sym held) s.few;
     inside = λ p has. s.inside p (subst (Has p) held has);
+    families = λ p has. s.families p (subst (Has p) held has);
   }
 
 -- room depends on counters and a group move alone
@@ -110,7 +111,6 @@ module _ (keys : Keys) (lawful : AreKeys keys) where
     shape = s.shape;
     groups = groups_same g h count held stepped pend move keys.shape front.plb (chip_of front) s.groups;
     counters = counters_same g h count move keys.shape s.counters;
-    blocks = λ p has. s.blocks p (subst (Has p) held has);
     wide = s.wide;
   }
 
@@ -126,7 +126,6 @@ module _ (keys : Keys) (lawful : AreKeys keys) where
       own = λ a inside. omega arith;
       siblings = λ p first number k inside children less still. refl;
     };
-    blocks = λ p has. absurd has;
     wide = λ h has. absurd has;
   }
 
@@ -213,7 +212,6 @@ module _ (keys : Keys) (lawful : AreKeys keys) where
         shape = refl;
         groups = groups;
         counters = counters;
-        blocks = λ p has. s.blocks p (subst (Has p) same has);
         wide = s.wide;
       }
 
@@ -349,7 +347,6 @@ module _ (keys : Keys) (lawful : AreKeys keys) where
         shape = refl;
         groups = groups;
         counters = counters;
-        blocks = λ q has. s.blocks q (subst (Has q) same has);
         wide = λ y has. elim has [
           | inl is ↦ ap (λ (z : Held). length z.group.own) is ∙ length-set h.group.own k (slice_index h.group.own k + 1)
               ∙ s.wide h (inl refl)

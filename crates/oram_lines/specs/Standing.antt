@@ -1,5 +1,5 @@
 -- What an encrypted memory stands for: the counters and lines of all blocks, wherever they are kept.
-use Rattle.std.specs.Prelude.{◌≡◌, ◌≤◌, ◌+◌, ℕ, List, [], ◌∷◌, length, map, count_by, None, Some}
+use Rattle.std.specs.Prelude.{◌≡◌, ◌≤◌, ◌+◌, ℕ, List, [], ◌∷◌, length, map, count_by, None}
 use Rattle.asc_base.specs.Has.{Has}
 use Rattle.asc_base.specs.TreeShape.{children_of}
 use Rattle.asc_base.specs.declared.block.Leaf.{Leaf}
@@ -54,15 +54,12 @@ held_block h = record { address = h.address.0; counter = h.counter; group = h.gr
 abbrev pub chip_of : FrontState → Chip
 chip_of front = record { roots = front.roots; held = map held_block front.held }
 
--- The chip of a front end shows the counters of all blocks, which have room; what is held are position-map blocks, with
--- groups of 32 own counts.
+-- The chip of a front end shows the counters of all blocks, which have room; and held groups have 32 own counts.
 pub record IsShown (keys : Keys) (front : FrontState) (g : Ghost) : Type 0 where
   pub front_is : IsFront front
   pub shape : front.shape ≡ keys.shape
   pub groups : AreGroups keys.shape front.plb g (chip_of front)
   pub counters : AreCounters keys.shape g
-  pub blocks : (p : ℕ) → Has p g.held
-      → (family : ℕ × ℕ) × (children_of keys.shape.lines keys.shape.layers p ≡ Some family)
   pub wide : (h : Held) → Has h front.held → length h.group.own ≡ 32
 
 -- The two together, with counters that the number of drawn points bounds; the port stands between slots, with room for

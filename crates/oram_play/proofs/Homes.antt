@@ -130,7 +130,8 @@ module _ (keys : Keys) (lawful : AreKeys keys) (levels : ℕ) (config : Config) 
       (groups_are (record { 0 = p }) first number inside children)
     where
       few : number ≤ 32
-      few = (children_few keys.shape.lines keys.shape.layers p first number (omega (arith, inside, total_is)) children).1
+      few = (children_few keys.shape.lines keys.shape.layers p first number (omega (arith, inside, total_is))
+          children).1
 
       some : 0 < number
       some = some_child keys.shape p first number lawful.shape inside children
@@ -247,7 +248,7 @@ module _ (keys : Keys) (lawful : AreKeys keys) (levels : ℕ) (config : Config) 
       let a : ℕ = h.address.0 in
       let listed : Has a g.held = subst (Has a) (sym x.stands.shown.groups.listed) (block_has o.front.held h among) in
       let inside : a < keys.shape.total = x.stands.shown.groups.inside a listed in
-      let ((first, number), children) = x.stands.shown.blocks a listed in
+      let ((first, number), children) = x.stands.shown.groups.families a listed in
       let on_chip = held_has h o.front.held among in (
         inside,
         x.stands.shown.groups.counters (held_block h) on_chip ∙ counts_are a inside,

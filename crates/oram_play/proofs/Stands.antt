@@ -105,7 +105,7 @@ module _ (keys : Keys) (lawful : AreKeys keys) (levels : ℕ) where
         let inside : a < keys.shape.lines = omega (arith, keys_lines) in
         let leaf = data_leaf keys lawful levels a inside in
         x.outside.each a (data_inside keys lawful levels a inside)
-        (λ has. none_some (sym leaf ∙ (x.stands.shown.blocks a has).1))
+        (λ has. none_some (sym leaf ∙ (x.stands.shown.groups.families a has).1))
         (λ flying. none_some (sym x.calm.flight ∙ flying))
         ∙ ap (line_by x.ghost.count (x.ghost.data_lines a)) leaf ∙ x.stored a inside
 
