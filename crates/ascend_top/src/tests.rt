@@ -3,6 +3,7 @@ mod checking;
 mod forging;
 mod generating;
 mod running;
+mod slots;
 
 ghost use Rattle.std.specs.Prelude.{◌≡◌, ◌<◌, ◌≤◌, ◌^◌};
 ghost use Rattle.bus_watch.specs.Log.{fresh_tap};

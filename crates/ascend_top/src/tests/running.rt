@@ -7,13 +7,13 @@ use asc_outside::{BUCKET_BYTES, Failed, MemStop, ScriptedMemory, empty_bucket};
 
 /// Settings of 4,096 bytes at 0 and a cache of one line, whose slots take 496 cycles and start at 256, 1,008, 1,760 and
 /// so on.
-const SMALL: &str = "run elf=a key=k output=o trace=t size=4096 sets=1 ways=1 first=0";
+pub(super) const SMALL: &str = "run elf=a key=k output=o trace=t size=4096 sets=1 ways=1 first=0";
 
 /// `lw x5, 64(x0)`, and exits.
-const LOAD: [u32; 3] = [0x0400_2283, 0x05d0_0893, 0x0000_0073];
+pub(super) const LOAD: [u32; 3] = [0x0400_2283, 0x05d0_0893, 0x0000_0073];
 
 /// Jumps to itself.
-const JUMP: [u32; 1] = [0x0000_006f];
+pub(super) const JUMP: [u32; 1] = [0x0000_006f];
 
 /// The ten lines of a report: the ending, instructions, cycles, last, fetches, real, dummies, choices, code, altered.
 pub(super) fn report(alloc: Global, end: &str, numbers: [u64; 9]) -> Result<String, AllocError> {
