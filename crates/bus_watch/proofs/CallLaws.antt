@@ -1,5 +1,5 @@
 -- What each answer of a read and a write makes of memory and tap.
-use Rattle.std.proofs.Common.{◌≡◌, ◌<◌, ◌+◌, ◌≤◌, inr, ℕ, false, true, List, [], ◌∷◌, ◌++◌, length, map, Option, Some}
+use Rattle.std.proofs.Common.{◌≡◌, ◌<◌, ◌+◌, ◌≤◌, inr, ℕ, false, true, List, [], ◌∷◌, ◌++◌, length, map, Option, None, Some}
 use Rattle.std.proofs.Common.{IfSome, sym, ◌∙◌, ap, arith, subst, option_map, slice_get, slice_set}
 use Rattle.std.proofs.lemmas.List.{append-nil}
 use Rattle.asc_outside.specs.Memory.{MemoryState, Keeps}
@@ -8,10 +8,10 @@ use Rattle.bus_watch.specs.Honest.{StaysHonest}
 use Rattle.bus_watch.specs.Log.{TapState, LogLists, read_move, write_move, with_move, with_reply}
 use Rattle.bus_watch.specs.Made.{GainsAltered, Made}
 use Rattle.bus_watch.specs.RunEnd.{RunEnd, Whole, MoveFailed, RanOut}
-use Rattle.bus_watch.specs.Tied.{Exchange, move_of, written_by, reply_of, unlike_of, Tied, TiedAt}
+use Rattle.bus_watch.specs.Tied.{Exchange, move_of, reply_of, Tied, TiedAt}
 use Rattle.bus_watch.proofs.HonestLaws.{honest_failed, honest_out, honest_same, honest_write}
 use Rattle.bus_watch.proofs.Replies.{gains_none, reply-moves, reply-events, reply-gains, reply-altered, reply_honest}
-use Rattle.bus_watch.proofs.TiedLaws.{IsAsked, tied_next, tied_cut}
+use Rattle.bus_watch.proofs.TiedLaws.{IsAsked, tied_next, tied_cut, tied_failed}
 
 -- the exchange of a read, and of a write
 abbrev pub read_of : ℕ → ℕ → Option (List ℕ) → Exchange
@@ -68,12 +68,11 @@ module _ {m m' : MemoryState} {t t' : TapState} (x : Exchange) (asked : IsAsked 
       (gains_none t.log t'.log altered) tied honest
 
   -- The memory failed.
-  pub move_failed : t'.mirror ≡ t.mirror → written_by t.mirror x ≡ t.mirror → unlike_of t.mirror x ≡ []
-      → Keeps m.told m'.told → m.faults < m'.faults → Made MoveFailed (move_of x ∷ []) [] m m' t t'
-  move_failed mirror unwritten unnoted told rose =
+  pub move_failed : t'.mirror ≡ t.mirror → x.bytes ≡ None → Keeps m.told m'.told → m.faults < m'.faults
+      → Made MoveFailed (move_of x ∷ []) [] m m' t t'
+  move_failed mirror unanswered told rose =
       made_by MoveFailed (λ e. rose)
-      (λ start buckets tied. tied_next start buckets t t' x asked moves tied (mirror ∙ sym unwritten)
-      (ap (map reply_of) altered ∙ sym (append-nil _) ∙ ap (λ l. map reply_of t.log.altered ++ l) (sym unnoted)))
+      (λ start buckets tied. tied_failed start buckets t t' x asked moves tied mirror altered unanswered)
       (honest_failed m m' t t' told mirror altered)
 
   -- Memory ran out, before the mirror was changed.
@@ -92,7 +91,8 @@ written at number text {m} {m'} {t} {t'} asked noted mirror told =
     let x = write_of at number (Some text) in
     let same : t'.log.altered ≡ t.log.altered = ap (λ (l : LogLists). l.altered) noted.log in
     made_by x asked noted Whole (λ e. cc)
-    (λ start buckets tied. tied_next start buckets t t' x asked (ap (λ (l : LogLists). l.moves) noted.log) tied mirror
+    (λ start buckets tied. tied_next start buckets t t' x asked (ap (λ (l : LogLists). l.moves) noted.log) tied
+    (λ none. cc) mirror
     (ap (map reply_of) same ∙ sym (append-nil _)))
     (honest_write m m' t t' number text told mirror same)
 
@@ -121,7 +121,7 @@ replied at number text {m} {m'} {t} {t'} asked takes log mirror told gives =
     record { altered = gained.altered; gained = gained.gained; before = gained.before } in
     made_at x asked takes moves (ap (λ (l : LogLists). l.events) log ∙ reply-events noted t.mirror at number text)
     Whole (λ e. cc) (subst (GainsAltered t.log) (sym log) replies)
-    (λ start buckets tied. tied_next start buckets t t' x asked moves tied mirror
+    (λ start buckets tied. tied_next start buckets t t' x asked moves tied (λ none. cc) mirror
     (ap (λ (l : LogLists). map reply_of l.altered) log ∙ reply-altered noted t.mirror at number text))
     (honest_same m m' t t' told mirror (λ is. ap (λ (l : LogLists). l.altered) log
     ∙ reply_honest noted t.mirror at number text m.told gives is))

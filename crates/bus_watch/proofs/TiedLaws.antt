@@ -1,14 +1,16 @@
 -- One exchange more.
-use Rattle.std.proofs.Common.{◌≡◌, ◌+◌, ◌≤◌, ℕ, List, [], ◌∷◌, ◌++◌, map, Option, Some, refl, sym, ◌∙◌}
+use Rattle.std.proofs.Common.{◌≡◌, ◌+◌, ◌≤◌, ℕ, List, [], ◌∷◌, ◌++◌, map, Option, None, Some, refl, sym, ◌∙◌}
 use Rattle.std.proofs.Common.{ap, append_assoc}
 use Rattle.std.proofs.lemmas.List.{append-nil, map-append}
 use Rattle.std.proofs.lemmas.Grind.{flat_map-append}
+use Rattle.std.proofs.lemmas.List.Elements.{All-append, All-cons, All-nil}
 use Rattle.std.specs.List.{flat_map}
 use Rattle.asc_outside.specs.Memory.{MemoryState, Ask, Adds, Keeps}
 use Rattle.bus_watch.specs.declared.log.Move.{Move}
 use Rattle.bus_watch.specs.Log.{TapState, LogLists}
+use Rattle.bus_watch.specs.RunEnd.{MoveFailed}
 use Rattle.bus_watch.specs.Tied.{Exchange, move_of, ask_of, said_of, written_by, written, Reply, reply_of, unlike_of}
-use Rattle.bus_watch.specs.Tied.{differing, Tells, Tied, TiedButLast}
+use Rattle.bus_watch.specs.Tied.{differing, IsAnswered, Tells, Tied, TiedAt, TiedButLast}
 
 written_last : (buckets : List (List ℕ)) (xs : List Exchange) (x : Exchange)
     → written buckets (xs ++ x ∷ []) ≡ written_by (written buckets xs) x
@@ -78,10 +80,12 @@ module _ (start : MemoryState) (buckets : List (List ℕ)) {m m' : MemoryState} 
       moves ∙ ap (λ (l : List Move). l ++ move_of x ∷ []) tied.moves
       ∙ sym (map-append move_of tied.exchanges (x ∷ []))
 
-  pub tied_next : t'.mirror ≡ written_by t.mirror x
+  pub tied_next : IsAnswered x → t'.mirror ≡ written_by t.mirror x
       → map reply_of t'.log.altered ≡ map reply_of t.log.altered ++ unlike_of t.mirror x → Tied start buckets m' t'
-  tied_next mirror altered = record {
+  tied_next answered mirror altered = record {
     exchanges = tied.exchanges ++ x ∷ [];
+    answered = All-append IsAnswered tied.exchanges (x ∷ []) tied.answered
+        (All-cons IsAnswered x [] answered (All-nil IsAnswered));
     told = tells_next;
     moves = moves_next;
     mirror = mirror ∙ ap (λ l. written_by l x) tied.mirror ∙ sym (written_last buckets tied.exchanges x);
@@ -94,6 +98,7 @@ module _ (start : MemoryState) (buckets : List (List ℕ)) {m m' : MemoryState} 
   pub tied_cut : t'.mirror ≡ t.mirror → t'.log.altered ≡ t.log.altered → TiedButLast start buckets m' t'
   tied_cut mirror altered = record {
     exchanges = tied.exchanges;
+    answered = tied.answered;
     last = x;
     told = tells_next;
     moves = moves_next;
@@ -101,10 +106,16 @@ module _ (start : MemoryState) (buckets : List (List ℕ)) {m m' : MemoryState} 
     altered = ap (map reply_of) altered ∙ tied.altered;
   }
 
+  pub tied_failed : t'.mirror ≡ t.mirror → t'.log.altered ≡ t.log.altered → x.bytes ≡ None
+      → TiedAt MoveFailed start buckets m' t'
+  unfolding tied_cut
+  tied_failed mirror altered none = (tied_cut mirror altered, none)
+
 -- before the first move
 pub tied_start : (m : MemoryState) (t : TapState) → t.log.moves ≡ [] → t.log.altered ≡ [] → Tied m t.mirror m t
 tied_start m t moves altered = record {
   exchanges = [];
+  answered = All-nil IsAnswered;
   told = record {
     seen = λ all is. (all, is, sym (append-nil all));
     said = λ all is. (all, is, sym (append-nil all));
@@ -125,6 +136,7 @@ tied_prepared start m m' buckets t t' none tied seen said log =
     among (x ∷ xs) told empty altered = cc
     among [] told empty altered = record {
       exchanges = [];
+      answered = All-nil IsAnswered;
       told = record {
         seen = λ all is. told.seen all (sym seen ∙ is);
         said = λ all is. told.said all (sym said ∙ is);
@@ -140,6 +152,7 @@ pub tied_same : (start : MemoryState) (buckets : List (List ℕ)) {m : MemorySta
     → Tied start buckets m t → Tied start buckets m t'
 tied_same start buckets moves altered mirror tied = record {
   exchanges = tied.exchanges;
+  answered = tied.answered;
   told = tied.told;
   moves = moves ∙ tied.moves;
   mirror = mirror ∙ tied.mirror;

@@ -1,5 +1,5 @@
 -- How what a tap has is tied to what the memory was asked.
-use Rattle.std.specs.Prelude.{◌≡◌, ◌⊎◌, ℕ, Bool, if◌then◌else◌, Option, None, Some}
+use Rattle.std.specs.Prelude.{◌≡◌, ◌≢◌, ◌⊎◌, ℕ, Bool, All, if◌then◌else◌, Option, None, Some}
 use Rattle.std.specs.Prelude.{List, [], ◌∷◌, ◌++◌, map, slice_set}
 use Rattle.std.specs.List.{flat_map}
 use Rattle.asc_outside.specs.Memory.{MemoryState, Ask}
@@ -70,27 +70,35 @@ pub record Tells (start memory : MemoryState) (xs : List Exchange) : Type 0 wher
   pub said : (all : List (Option (List ℕ))) → memory.said ≡ Some all
       → (before : List (Option (List ℕ))) × (start.said ≡ Some before) × (all ≡ before ++ flat_map said_of xs)
 
--- Some exchanges are what the memory tells since the start; the log has their moves in order, the mirror each bucket's
--- last Ok write by them, or else what these buckets had, and the altered replies are those that differ from it.
+-- it was answered Ok
+abbrev pub IsAnswered : Exchange → Type 0
+IsAnswered x = x.bytes ≢ None
+
+-- Some exchanges, each answered Ok, are what the memory tells since the start; the log has their moves in order, the
+-- mirror each bucket's last write by them, or else what these buckets had, and the altered replies are those that
+-- differ from it.
 pub record Tied (start : MemoryState) (buckets : List (List ℕ)) (memory : MemoryState) (tap : TapState) : Type 0 where
   pub exchanges : List Exchange
+  pub answered : All IsAnswered exchanges
   pub told : Tells start memory exchanges
   pub moves : tap.log.moves ≡ map move_of exchanges
   pub mirror : tap.mirror ≡ written buckets exchanges
   pub altered : map reply_of tap.log.altered ≡ differing buckets exchanges
 
--- the same, where memory ran out in the last move: mirror and altered replies are left as they were before it
+-- the same but for the last move: mirror and altered replies are left as they were before it
 pub record TiedButLast (start : MemoryState) (buckets : List (List ℕ))
     (memory : MemoryState) (tap : TapState) : Type 0 where
   pub exchanges : List Exchange
+  pub answered : All IsAnswered exchanges
   pub last : Exchange
   pub told : Tells start memory (exchanges ++ last ∷ [])
   pub moves : tap.log.moves ≡ map move_of (exchanges ++ last ∷ [])
   pub mirror : tap.mirror ≡ written buckets exchanges
   pub altered : map reply_of tap.log.altered ≡ differing buckets exchanges
 
--- how memory and tap are tied at this end
+-- How memory and tap are tied at this end. The last move is the only one that failed, or that found no memory.
 abbrev pub TiedAt : RunEnd → MemoryState → List (List ℕ) → MemoryState → TapState → Type 0
 TiedAt Whole start buckets memory tap = Tied start buckets memory tap
-TiedAt MoveFailed start buckets memory tap = Tied start buckets memory tap
+TiedAt MoveFailed start buckets memory tap =
+    (tied : TiedButLast start buckets memory tap) × (tied.last.bytes ≡ None)
 TiedAt RanOut start buckets memory tap = Tied start buckets memory tap ⊎ TiedButLast start buckets memory tap

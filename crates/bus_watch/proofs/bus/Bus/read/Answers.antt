@@ -22,7 +22,7 @@ returns-in-Err-clause-ran g c = record {
           mirrored = ap length c.moved.ensures.mirror;
         };
       })
-      c.moved.ensures.mirror refl refl c.in-Err.ensures.told_err c.in-Err.ensures.cause;
+      c.moved.ensures.mirror refl c.in-Err.ensures.told_err c.in-Err.ensures.cause;
 }
 
 pub returns-in-Ok-replied-clause-ran : goal.returns-in-Ok-replied-clause-ran

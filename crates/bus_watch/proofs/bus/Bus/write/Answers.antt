@@ -24,7 +24,7 @@ returns-in-Err-Failed-clause-ran g c = record {
           mirrored = ap length c.moved.ensures.mirror;
         };
       })
-      c.moved.ensures.mirror refl refl c.in-Err-Failed.ensures.told_err
+      c.moved.ensures.mirror refl c.in-Err-Failed.ensures.told_err
       (c.in-Err-Failed.ensures.cause (ap Err c.in-Err-Failed.field-0-is));
 }
 
