@@ -5,6 +5,7 @@ mod std_host;
 
 use crate::std_host::StdHost;
 use asc_outside::HonestMemory;
+use ascend_top::{Unfailing, ascend_over_honest_memory};
 use bus_watch::Recorder;
 use std::process::ExitCode;
 use std::rt::{Env, Files};
@@ -27,9 +28,11 @@ fn run<R: Files + Print + Env + AllocGlobal>(rt: &R) -> u8 {
     };
     let alloc = rt.alloc();
     let mut host = StdHost::new(rt);
-    let mut memory = HonestMemory::new(alloc);
+    let mut memory = Unfailing {
+        memory: HonestMemory::new(alloc),
+    };
     let mut tap = Recorder::new(alloc);
-    ascend_top::ascend(alloc, words.as_slice(), &mut host, &mut memory, &mut tap)
+    ascend_over_honest_memory(alloc, words.as_slice(), &mut host, &mut memory, &mut tap)
 }
 
 fn main(rt: HostRuntime) -> ExitCode {

@@ -1,5 +1,7 @@
 -- A run over encrypted memory carries the headline.
-use Rattle.std.proofs.Common.{◌⊎◌, ℕ, List, Option, Result, Ok, Err, inl, inr}
+use Rattle.std.proofs.Common.{◌⊎◌, ◌∙◌, ◌++◌, ℕ, List, Option, Result, Ok, Err, inl, inr, ap, sym}
+use Rattle.rv32_core.proofs.OutputLaws.{longer-output}
+use Rattle.secure_machine.specs.Run.{IsFlatReport, start_of}
 use Rattle.asc_outside.specs.Host.{Files, HostState}
 use Rattle.secure_machine.specs.declared.report.Report.{Report}
 use Rattle.ascend_words.specs.Grammar.{Pair, Read}
@@ -8,20 +10,31 @@ use Rattle.ascend_words.specs.declared.table.Command.TheVariants.{Run, Flat, Asm
 use Rattle.ascend_top.specs.Command.{CommandEnds, IsLost, IsMade, WorkEnds}
 use Rattle.ascend_top.specs.EncryptedRun.{IsRunOf, IsWantOf}
 use Rattle.ascend_top.specs.Lent.{Lent}
-use Rattle.ascend_top.specs.Headline.{CarriesHeadline, Headline, IsCutShort, IsForged, MadeByHeadline}
-use Rattle.ascend_top.specs.Headline.{RunsEncrypted}
+use Rattle.ascend_top.specs.Headline.{CarriesHeadline, Headline, IsCutShort, IsFlatOrPrefix, IsForged}
+use Rattle.ascend_top.specs.Headline.{MadeByHeadline, RunsEncrypted}
 use Rattle.ascend_top.specs.Made.{Made, Encrypted, Ran, Assembled, Listed, Held}
 use Rattle.ascend_top.specs.Run.{IsRun, RunWants}
 use Rattle.ascend_top.specs.declared.commands.run.Encrypted.{Encrypted as EncryptedRun}
 use Rattle.ascend_top.specs.declared.commands.flat.Program.{Program}
 use Rattle.ascend_top.specs.declared.refusal.Refusal.{Refusal}
 
+-- where the flat run goes on, its output begins with the one reported
+pub prefixed : (program : Program) (report : Report)
+    → IsFlatReport program.config program.image program.input.items report → IsFlatOrPrefix program report
+prefixed program report is = record {
+  flat = is;
+  prefix = λ more.
+      let longer = longer-output report.instructions more
+          (start_of program.config program.image program.input.items) program.image.bytes.items in
+      (longer.0, longer.1 ∙ ap (λ output. output ++ longer.0) (sym is.output));
+}
+
 -- of a report
 headline_of : (program : Program) (key : List ℕ) (lent : Lent) (report : Report)
     → IsRunOf program.config program.image program.input.items key lent report → Headline program key lent report
 headline_of program key lent report is = record {
-  flat = turned is.dishonest.refinement.flat;
-  honest = λ told. is.end_to_end.flat (is.end_to_end.unaltered told);
+  flat = elim is.dishonest.refinement.flat [ inl forged ↦ inr forged | inr flat ↦ inl (prefixed program report flat) ];
+  honest = λ told. prefixed program report (is.end_to_end.flat (is.end_to_end.unaltered told));
   play = turned is.dishonest.refinement.plays;
   always = record {
     starts = is.dishonest.schedule.pace.scheduled.starts;

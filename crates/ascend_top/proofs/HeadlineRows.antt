@@ -22,7 +22,8 @@ use Rattle.secure_machine.specs.declared.report.Ending.{Ending}
 use Rattle.secure_machine.specs.declared.report.Ending.TheVariants.{Exit}
 use Rattle.secure_machine.specs.declared.report.Report.{Report}
 use Rattle.ascend_top.specs.EncryptedRun.{keys_from}
-use Rattle.ascend_top.specs.Headline.{Headline, IsAlways, IsCutShort, IsForged, program_play}
+use Rattle.ascend_top.specs.Headline.{Headline, IsAlways, IsCutShort, IsFlatOrPrefix, IsForged, program_play}
+use Rattle.ascend_top.proofs.HeadlineLaws.{prefixed}
 use Rattle.ascend_top.specs.Instance.{IsExit, IsQuiet, IsShort, IsUnmoved}
 use Rattle.ascend_top.specs.Lent.{Lent}
 use Rattle.ascend_top.specs.declared.commands.flat.Program.{Program}
@@ -125,8 +126,8 @@ flat_of program h report short =
 pub exits : (program : Program) → IsExit program → (key : List ℕ) (lent : Lent) → IsUnmoved lent → (report : Report)
     → IsShort (Exit 0) report → Headline program key lent report
 exits program h key lent quiet report short = record {
-  flat = inl (flat_of program h report short);
-  honest = λ told. flat_of program h report short;
+  flat = inl (prefixed program report (flat_of program h report short));
+  honest = λ told. prefixed program report (flat_of program h report short);
   play = inl (record {
     run = program_play program;
     is = inl (inl refl);
@@ -145,11 +146,11 @@ pub no_other : (program : Program) → IsExit program → (key : List ℕ) (lent
     → IsShort (Exit 1) report → Headline program key lent report → ⊥
 no_other program h key lent quiet report short line = by line.flat
   where
-    by : IsFlatReport program.config program.image program.input.items report ⊎ IsForged program key lent.tap'.log → ⊥
+    by : IsFlatOrPrefix program report ⊎ IsForged program key lent.tap'.log → ⊥
     by (inl is) =
         flat.other_status program.image report h.image short.said
         (subst (λ (c : Config). IsFlatReport c program.image [] report) h.config
-        (subst (λ input. IsFlatReport program.config program.image input report) h.input is))
+        (subst (λ input. IsFlatReport program.config program.image input report) h.input is.flat))
     by (inr forged) = unforged (keys_from program.config key) lent.tap'.log forged quiet.altered
 
 pub cut : (program : Program) → program.config ≡ small → (lent : Lent) → IsUnmoved lent → IsCutShort program lent

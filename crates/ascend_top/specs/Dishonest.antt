@@ -40,13 +40,15 @@ module _ (config : Config) (image : Image) (input : List ℕ) (keys : Keys) (len
   -- 2. Schedule: up to the reported end, which comes less than a slot's cycles after the time of the settings, the log
   -- keeps the pace of the timetable, and its code tells no more bits than the settings allow. No move passes by the
   -- tap: the memory was asked for just these. Where the bus was prepared, what the memory was asked is tied to the log,
-  -- and any buckets that it tells afterwards are the mirror's. As many buckets count as prepared as the shape has.
+  -- and any buckets that it tells afterwards are the mirror's; a move that failed was the last one, and the ending says
+  -- so. As many buckets count as prepared as the shape has.
   pub record IsOnSchedule : Type 0 where
     pub pace : KeepsPace config report.last lent.tap'.log
     pub in_time : report.last < config.time + olat_of config.shape.levels
     pub bits : log_code (public_of config) lent.tap'.log < 2 ^ config.leak
     pub asked : lent.memory'.moved ≡ lent.memory.moved + length lent.tap'.log.moves
-    pub tied : IsTiedOr config (IsUnprepared report lent.tap lent.tap') lent.memory lent.memory' lent.tap'
+    pub tied : IsTiedOr config report.ending (IsUnprepared report lent.tap lent.tap') lent.memory lent.memory'
+        lent.tap'
     pub told : MayTellMirror lent.memory' lent.tap' ⊎ IsUnprepared report lent.tap lent.tap'
     pub count : lent.memory'.count ≡ config.shape.buckets
 

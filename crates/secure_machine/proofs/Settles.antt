@@ -1,5 +1,5 @@
 -- How a run is settled.
-use Rattle.std.proofs.Common.{◌≡◌, ◌∙◌, ◌+◌, ◌<◌, ◌≤◌, ℕ, List, max, refl, subst, inl, inr, arith}
+use Rattle.std.proofs.Common.{◌≡◌, ◌∙◌, ◌+◌, ◌<◌, ◌≤◌, ℕ, List, max, refl, subst, sym, inl, inr, arith}
 use Rattle.asc_base.specs.TreeShape.{olat_of}
 use Rattle.asc_base.specs.declared.settings.Config.{Config}
 use Rattle.asc_base.specs.declared.stop.Evidence.{Evidence}
@@ -11,7 +11,7 @@ use Rattle.epoch_learner.specs.Stands.{KeepsPace}
 use Rattle.rate_enforcer.specs.PortStep.{PortState}
 use Rattle.rate_enforcer.specs.Stops.{IsEndOf}
 use Rattle.secure_machine.specs.Goes.{Goes, Breaks}
-use Rattle.secure_machine.specs.Finish.{Settled, Short, IsOwnEnding, IsRightEnding, IsTimeUp}
+use Rattle.secure_machine.specs.Finish.{Settled, Short, IsOwnEnding, IsRightEnding, IsTimeUp, moves_end}
 use Rattle.secure_machine.specs.declared.report.Ending.{Ending}
 use Rattle.secure_machine.specs.declared.report.Ending.TheVariants.{Exit, Trap, Budget, TimeUp, StashFull, Integrity}
 use Rattle.secure_machine.specs.declared.report.Ending.TheVariants.{Device}
@@ -33,6 +33,17 @@ own_none : (budget time instructions cycles until : ℕ) (ending : Ending)
 own_none budget time instructions cycles until ending h is =
     subst (IsOwnEnding budget time instructions cycles until) is h
 
+-- an ending by itself comes after moves that were each answered Ok
+own_whole : (budget time instructions cycles until : ℕ) (ending : Ending)
+    → IsOwnEnding budget time instructions cycles until ending → moves_end ending ≡ Whole
+own_whole budget time instructions cycles until (Exit status) h = refl
+own_whole budget time instructions cycles until (Trap kind pc) h = refl
+own_whole budget time instructions cycles until Budget h = refl
+own_whole budget time instructions cycles until (TimeUp at) h = refl
+own_whole budget time instructions cycles until (StashFull held) h = absurd h
+own_whole budget time instructions cycles until (Integrity evidence) h = absurd h
+own_whole budget time instructions cycles until Device h = absurd h
+
 -- where time is up by itself, it is so at the clock
 own_up : (budget time instructions cycles until at : ℕ) (ending : Ending)
     → IsOwnEnding budget time instructions cycles until ending → ending ≡ TimeUp at → (at ≡ cycles) × (time ≤ cycles)
@@ -49,7 +60,10 @@ pub idle_settles : (budget instructions cycles until last : ℕ) (ending : Endin
 idle_settles budget instructions cycles until last ending old mid new one two pace soon after own = record {
   config = two.config ∙ one.config;
   counts = λ counted. two.counts (one.counts counted);
-  tied = λ start buckets tied. two.tied start buckets (one.tied start buckets tied);
+  tied = λ start buckets tied.
+      subst (λ e. TiedAt e start buckets new.memory new.tap)
+      (sym (own_whole budget old.clock.config.time instructions cycles until ending own))
+      (two.tied start buckets (one.tied start buckets tied));
   later = omega (arith, one.later, two.later);
   cause = λ is. absurd (own_none budget old.clock.config.time instructions cycles until ending own is);
   pace = subst (λ (config : Config). KeepsPace config last new.tap.log) one.config pace;

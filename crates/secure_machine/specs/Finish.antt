@@ -6,7 +6,7 @@ use Rattle.asc_base.specs.declared.stop.Stop.{Stop}
 use Rattle.asc_base.specs.declared.stop.Stop.TheVariants as why
 use Rattle.asc_outside.specs.Memory.{MemoryState}
 use Rattle.bus_watch.specs.Log.{LogLists}
-use Rattle.bus_watch.specs.RunEnd.{RanOut}
+use Rattle.bus_watch.specs.RunEnd.{RunEnd, Whole, MoveFailed, RanOut}
 use Rattle.bus_watch.specs.Tied.{Tied, TiedAt}
 use Rattle.epoch_learner.specs.Stands.{KeepsPace}
 use Rattle.oram_frontend.specs.Oram.{OramState}
@@ -68,6 +68,16 @@ abbrev pub HaltsLater : (instructions cycles : ℕ) → Cause → Type 0
 HaltsLater instructions cycles (Ends ending until) = Unit {0}
 HaltsLater instructions cycles (Stops stop) = StopsLater instructions cycles stop
 
+-- How a reported run's moves ended: the last one failed where the memory did, and none else.
+abbrev pub moves_end : Ending → RunEnd
+moves_end (Exit status) = Whole
+moves_end (Trap kind pc) = Whole
+moves_end Budget = Whole
+moves_end (TimeUp at) = Whole
+moves_end (StashFull held) = Whole
+moves_end (Integrity evidence) = Whole
+moves_end Device = MoveFailed
+
 -- What a run leaves that is reported: all is counted and tied, the log keeps the pace up to its end, which comes less
 -- than a slot's cycles after the time of the settings, its ending is right, time is up when it is said to be, and a
 -- failure of the memory has its cause.
@@ -75,7 +85,7 @@ pub record Settled (budget instructions cycles : ℕ) (ending : Ending) (last : 
   pub config : new.clock.config ≡ old.clock.config
   pub counts : KeepsCount old new
   pub tied : (start : MemoryState) (buckets : List (List ℕ)) → Tied start buckets old.memory old.tap
-      → Tied start buckets new.memory new.tap
+      → TiedAt (moves_end ending) start buckets new.memory new.tap
   pub later : old.memory.faults ≤ new.memory.faults
   pub cause : ending ≡ Device → old.memory.faults < new.memory.faults
   pub pace : KeepsPace old.clock.config last new.tap.log

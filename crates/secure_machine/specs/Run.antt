@@ -18,9 +18,10 @@ use Rattle.elf_loader.specs.declared.image.Image.{Image}
 use Rattle.oram_contents.specs.Entries.{Keys}
 use Rattle.rv32_core.specs.FlatRun.{flat_run, machine_at_start, output_limit}
 use Rattle.rv32_core.specs.Machine.{Machine}
-use Rattle.secure_machine.specs.Finish.{IsRightEnding, IsTimeUp}
+use Rattle.secure_machine.specs.Finish.{IsRightEnding, IsTimeUp, moves_end}
 use Rattle.secure_machine.specs.FlatEnds.{FlatEnds}
 use Rattle.secure_machine.specs.Goes.{AsksMoves}
+use Rattle.secure_machine.specs.declared.report.Ending.{Ending}
 use Rattle.secure_machine.specs.declared.report.Ending.TheVariants.{Device, TimeUp}
 use Rattle.secure_machine.specs.declared.report.Report.{Report}
 
@@ -49,7 +50,7 @@ pub record Reported (config : Config) (report : Report) (memory memory' : Memory
   pub code : report.code ≡ log_code (public_of config) tap'.log
   pub fetches : report.fetches ≡ count_by is_answered tap'.log.events
   pub tied : (start : MemoryState) (buckets : List (List ℕ)) → Tied start buckets memory tap
-      → Tied start buckets memory' tap'
+      → TiedAt (moves_end report.ending) start buckets memory' tap'
   pub later : memory.faults ≤ memory'.faults
   pub cause : report.ending ≡ Device → memory.faults < memory'.faults
   pub right : IsRightEnding config.budget config.time report.instructions report.cycles report.last
@@ -86,10 +87,11 @@ pub record IsUnprepared (report : Report) (tap tap' : TapState) : Type 0 where
   pub choices : report.choices ≡ 0
   pub code : report.code ≡ 0
 
--- From buckets of zero bytes on memory and tap are tied, or the bus wasn't prepared.
-abbrev pub IsTiedOr : Config → Type 0 → (memory memory' : MemoryState) (tap' : TapState) → Type 0
-IsTiedOr config Otherwise memory memory' tap' =
-    Tied memory (zero_buckets config.shape.buckets) memory' tap' ⊎ Otherwise
+-- From buckets of zero bytes on memory and tap are tied, as the run's moves ended, or the bus wasn't prepared. So a
+-- run that doesn't report a failure had none, and one that does ended with it.
+abbrev pub IsTiedOr : Config → Ending → Type 0 → (memory memory' : MemoryState) (tap' : TapState) → Type 0
+IsTiedOr config ending Otherwise memory memory' tap' =
+    TiedAt (moves_end ending) memory (zero_buckets config.shape.buckets) memory' tap' ⊎ Otherwise
 
 -- the same where memory ran out, maybe in the last move
 abbrev pub IsTiedButLast : Config → (memory memory' : MemoryState) (tap tap' : TapState) → Type 0

@@ -308,7 +308,7 @@ pub fn run<M: UntrustedMemory, W: Watch, L: LeafFn>(
     ensures fetches { IfOk result (λ report. report.fetches
         ≡ count_by is_answered (W.state bus.new.tap.now).log.events) }
     ensures budget { IsInBudget config.now (W.state bus.new.tap.now).log }
-    ensures tied { IfOk result (λ report. IsTiedOr config.now
+    ensures tied { IfOk result (λ report. IsTiedOr config.now report.ending
         (IsUnprepared report (W.state bus.old.tap.now) (W.state bus.new.tap.now))
         (M.state bus.old.memory.now) (M.state bus.new.memory.now) (W.state bus.new.tap.now)) }
     ensures tied_err { OnErr result (IsTiedButLast config.now (M.state bus.old.memory.now) (M.state bus.new.memory.now)
