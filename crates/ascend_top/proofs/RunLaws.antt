@@ -223,7 +223,8 @@ module _ (config : Config) (image : Image) (input key : List ℕ) (lent : Lent) 
         ⊎ IsUnprepared r lent.tap lent.tap')
         → IfOk result (λ r. MayTellMirror lent.memory' lent.tap' ⊎ IsUnprepared r lent.tap lent.tap')
         → IfOk result (λ _. lent.memory'.count ≡ config.shape.buckets)
-        → IfOk result (λ r. (at : ℕ) → r.ending ≡ TimeUp at → IsTimeUp config r.cycles lent.tap'.log at)
+        → IfOk result (λ r. (at : ℕ) → r.ending ≡ TimeUp at
+        → IsTimeUp config config.budget r.instructions r.cycles lent.tap'.log at)
         → IfOk result (λ r. EndsInOrder (keys_from config key) r.ending lent.tap'.log
         ⊎ IsUnprepared r lent.tap lent.tap')
         → IfOk result (λ r. EndsAtHome (keys_from config key) config (play_with config image input) r.instructions

@@ -32,13 +32,15 @@ keys_from config master =
     chip_keys config (pad_key master) (tag_key master) (leaf (leaf_key master) config.shape.levels)
 
 -- What is reported has its causes: a count of faults never falls, and the run ends by a failure only where it rose; the
--- ending is right by budget and time; where time is up, it is so at the clock, or at the timetable's first start that
--- isn't before the time of the settings; and slots are counted.
+-- ending is right by budget and time; where time is up, it is so at the clock before an instruction that the budget
+-- still has room for, or at the timetable's first start that isn't before the time of the settings; and slots are
+-- counted.
 pub record HasCauses (config : Config) (lent : Lent) (report : Report) : Type 0 where
   pub faults : lent.memory.faults ≤ lent.memory'.faults
   pub device : report.ending ≡ Device → lent.memory.faults < lent.memory'.faults
   pub right : IsRightEnding config.budget config.time report.instructions report.cycles report.last report.ending
-  pub time_up : (at : ℕ) → report.ending ≡ TimeUp at → IsTimeUp config report.cycles lent.tap'.log at
+  pub time_up : (at : ℕ) → report.ending ≡ TimeUp at
+      → IsTimeUp config config.budget report.instructions report.cycles lent.tap'.log at
   pub real : report.real ≡ count_by is_real lent.tap'.log.events
   pub dummies : report.dummies ≡ count_by is_dummy lent.tap'.log.events
 

@@ -211,11 +211,12 @@ module _ {M W L : Type 0} (memory_of : M → MemoryState) (tap_of : W → TapSta
   -- where some requests came before the end
   pub breaks_later : (budget instructions cycles : ℕ) (stop : Stop) (s t u : TimedLines M W L)
       → Onwards memory_of tap_of leaf_of levels_of s t → BreaksOff memory_of tap_of leaf_of levels_of stop t u
-      → StopsLater instructions cycles stop → HaltsOver memory_of tap_of leaf_of levels_of budget
+      → StopsLater instructions cycles stop → instructions ≤ budget
+      → HaltsOver memory_of tap_of leaf_of levels_of budget
       (record { instructions = instructions; cycles = cycles; cause = StopsBy stop }) s u
-  breaks_later budget instructions cycles stop s t u on off late = record {
+  breaks_later budget instructions cycles stop s t u on off late within = record {
     same = same_then on.same off.same;
-    halts = breaks_then on.goes off.breaks;
+    halts = (breaks_then on.goes off.breaks, within);
     late = late;
     fetches = λ known. off.fetches (on.fetches known);
     replays = λ calls known. at_first (λ z n k. CallsReplay z n → IsReplayed z (oram t)
@@ -231,7 +232,7 @@ module _ {M W L : Type 0} (memory_of : M → MemoryState) (tap_of : W → TapSta
     h.2,
     subst (λ (config : Config). IsOwnEnding budget config.time instructions cycles until ending) on.config h.3,
   )
-  halts_by budget levels instructions cycles (StopsBy stop) old mid new on h = breaks_then on h
+  halts_by budget levels instructions cycles (StopsBy stop) old mid new on h = (breaks_then on h.0, h.1)
 
   pub halts_later : (budget : ℕ) (halted : Halted) (s t u : TimedLines M W L)
       → Onwards memory_of tap_of leaf_of levels_of s t

@@ -518,7 +518,7 @@ module _ {M W L : Type 0} (memory_of : M → MemoryState) (tap_of : W → TapSta
   settings_by : (budget n instructions cycles : ℕ) (cause : Cause) (old : PortState) (new : OramState)
       → HaltsBy budget n instructions cycles cause old new → new.port.clock.config ≡ old.clock.config
   settings_by budget n instructions cycles (EndsBy ending until) old new h = h.0.config
-  settings_by budget n instructions cycles (StopsBy stop) old new h = h.config
+  settings_by budget n instructions cycles (StopsBy stop) old new h = h.0.config
 
   pub halts_config : (budget : ℕ) (halted : Halted) (s t : Lines) (o : Oram L) → s.oram.now ≡ o
       → HaltsOver memory_of tap_of leaf_of levels_of budget halted s t

@@ -81,8 +81,11 @@ reported_of config report instructions cycles last ending old new same counted s
           report.ending) (sym ran) (subst (λ n. IsRightEnding config.budget old.clock.config.time instructions cycles n
           report.ending) (sym up) (subst (IsRightEnding config.budget old.clock.config.time instructions cycles last)
           (sym ends) s.right))));
-      time_up = λ at is. subst (λ (c : Config). IsTimeUp c report.cycles new.tap.log at) same
-          (subst (λ n. IsTimeUp old.clock.config n new.tap.log at) (sym ran) (s.time_up at (sym ends ∙ is)));
+      time_up = λ at ended. subst (λ (c : Config). IsTimeUp c config.budget report.instructions report.cycles
+          new.tap.log at) same
+          (subst (λ n. IsTimeUp old.clock.config config.budget n report.cycles new.tap.log at) (sym is)
+          (subst (λ n. IsTimeUp old.clock.config config.budget instructions n new.tap.log at) (sym ran)
+          (s.time_up at (sym ends ∙ ended))));
     }
 
 -- what is left where memory was wanted

@@ -20,13 +20,25 @@ use Rattle.secure_machine.specs.declared.report.Ending.TheVariants.{Device}
 own_right : (budget time instructions cycles until last : ℕ) (ending : Ending)
     → IsOwnEnding budget time instructions cycles until ending → until ≤ last
     → IsRightEnding budget time instructions cycles last ending
-own_right budget time instructions cycles until last (Exit status) h after = omega (arith, h, after)
-own_right budget time instructions cycles until last (Trap kind pc) h after = omega (arith, h, after)
+own_right budget time instructions cycles until last (Exit status) h after = (h.0, h.1, omega (arith, h.2, after))
+own_right budget time instructions cycles until last (Trap kind pc) h after = (h.0, omega (arith, h.1, after))
 own_right budget time instructions cycles until last Budget h after = (h.0, omega (arith, h.1, after))
-own_right budget time instructions cycles until last (TimeUp at) h after = (h.0, omega (arith, h.1, after))
+own_right budget time instructions cycles until last (TimeUp at) h after =
+    (omega (arith, h.0), h.1, omega (arith, h.2, after))
 own_right budget time instructions cycles until last (StashFull held) h after = absurd h
 own_right budget time instructions cycles until last (Integrity evidence) h after = absurd h
 own_right budget time instructions cycles until last Device h after = absurd h
+
+-- and within the budget
+pub own_within : (budget time instructions cycles until : ℕ) (ending : Ending)
+    → IsOwnEnding budget time instructions cycles until ending → instructions ≤ budget
+own_within budget time instructions cycles until (Exit status) h = h.1
+own_within budget time instructions cycles until (Trap kind pc) h = omega (arith, h.0)
+own_within budget time instructions cycles until Budget h = omega (arith, h.0)
+own_within budget time instructions cycles until (TimeUp at) h = omega (arith, h.0)
+own_within budget time instructions cycles until (StashFull held) h = absurd h
+own_within budget time instructions cycles until (Integrity evidence) h = absurd h
+own_within budget time instructions cycles until Device h = absurd h
 
 own_none : (budget time instructions cycles until : ℕ) (ending : Ending)
     → IsOwnEnding budget time instructions cycles until ending → ending ≡ Device → ⊥
@@ -44,12 +56,13 @@ own_whole budget time instructions cycles until (StashFull held) h = absurd h
 own_whole budget time instructions cycles until (Integrity evidence) h = absurd h
 own_whole budget time instructions cycles until Device h = absurd h
 
--- where time is up by itself, it is so at the clock
+-- where time is up by itself, it is so at the clock, and some of the budget is left
 own_up : (budget time instructions cycles until at : ℕ) (ending : Ending)
-    → IsOwnEnding budget time instructions cycles until ending → ending ≡ TimeUp at → (at ≡ cycles) × (time ≤ cycles)
+    → IsOwnEnding budget time instructions cycles until ending → ending ≡ TimeUp at
+    → (at ≡ cycles) × (time ≤ cycles) × (instructions < budget)
 own_up budget time instructions cycles until at ending h is =
-    let (late, all, same) = subst (IsOwnEnding budget time instructions cycles until) is h in
-    (same, omega (arith, late, same))
+    let (few, late, all, same) = subst (IsOwnEnding budget time instructions cycles until) is h in
+    (same, omega (arith, late, same), few)
 
 -- after the slots that were still to be done
 pub idle_settles : (budget instructions cycles until last : ℕ) (ending : Ending) (old mid new : PortState)
@@ -83,8 +96,9 @@ module _ (budget instructions cycles : ℕ) (old new : PortState) where
   whole end is start buckets tied = subst (λ e. TiedAt e start buckets new.memory new.tap) is tied
 
   pub integrity_settles : (evidence : Evidence) → Breaks (stop.Integrity evidence) old new
+      → instructions ≤ budget
       → Settled budget instructions cycles (Integrity evidence) new.clock.last old new
-  integrity_settles evidence h = record {
+  integrity_settles evidence h within = record {
     config = h.config;
     counts = h.counts;
     tied = λ start buckets tied.
@@ -93,7 +107,7 @@ module _ (budget instructions cycles : ℕ) (old new : PortState) where
     cause = λ is. cc;
     pace = h.pace;
     in_time = h.in_time;
-    right = tt;
+    right = within;
     time_up = λ at is. absurd cc;
     unaltered = h.unaltered;
     told = h.told (λ bad. cc);
@@ -101,9 +115,9 @@ module _ (budget instructions cycles : ℕ) (old new : PortState) where
     asked = h.asked;
   }
 
-  pub full_settles : (held : ℕ) → Breaks (stop.StashFull held) old new
+  pub full_settles : (held : ℕ) → Breaks (stop.StashFull held) old new → instructions ≤ budget
       → Settled budget instructions cycles (StashFull held) new.clock.last old new
-  full_settles held h = record {
+  full_settles held h within = record {
     config = h.config;
     counts = h.counts;
     tied = λ start buckets tied.
@@ -112,7 +126,7 @@ module _ (budget instructions cycles : ℕ) (old new : PortState) where
     cause = λ is. cc;
     pace = h.pace;
     in_time = h.in_time;
-    right = tt;
+    right = within;
     time_up = λ at is. absurd cc;
     unaltered = h.unaltered;
     told = h.told (λ bad. cc);
@@ -120,10 +134,10 @@ module _ (budget instructions cycles : ℕ) (old new : PortState) where
     asked = h.asked;
   }
 
-  pub time_settles : (at last : ℕ) → Breaks (stop.TimeUp at) old new
+  pub time_settles : (at last : ℕ) → Breaks (stop.TimeUp at) old new → instructions ≤ budget
       → last ≡ max new.clock.last old.clock.config.time
       → Settled budget instructions cycles (TimeUp at) last old new
-  time_settles at last h is = record {
+  time_settles at last h within is = record {
     config = h.config;
     counts = h.counts;
     tied = λ start buckets tied.
@@ -132,18 +146,19 @@ module _ (budget instructions cycles : ℕ) (old new : PortState) where
     cause = λ is. cc;
     pace = h.pace.2 last (omega (arith, is)) (omega (arith, is, h.pace.0, h.pace.1));
     in_time = omega (arith, is, h.in_time);
-    right = (h.pace.0, omega (arith, is));
+    right = (within, h.pace.0, omega (arith, is));
     time_up = λ other same.
         let e : at ≡ other = cc in
-        subst (IsTimeUp old.clock.config cycles new.tap.log) e (inr h.pace.3);
+        subst (IsTimeUp old.clock.config budget instructions cycles new.tap.log) e (inr h.pace.3);
     unaltered = h.unaltered;
     told = h.told (λ bad. cc);
     prepared = h.prepared;
     asked = h.asked;
   }
 
-  pub device_settles : Breaks stop.Device old new → Settled budget instructions cycles Device new.clock.last old new
-  device_settles h = record {
+  pub device_settles : Breaks stop.Device old new → instructions ≤ budget
+      → Settled budget instructions cycles Device new.clock.last old new
+  device_settles h within = record {
     config = h.config;
     counts = h.counts;
     tied = λ start buckets tied.
@@ -153,7 +168,7 @@ module _ (budget instructions cycles : ℕ) (old new : PortState) where
     cause = λ is. h.cause refl;
     pace = h.pace;
     in_time = h.in_time;
-    right = tt;
+    right = within;
     time_up = λ at is. absurd cc;
     unaltered = h.unaltered;
     told = h.told (λ bad. cc);

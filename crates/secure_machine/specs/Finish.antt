@@ -21,40 +21,47 @@ use Rattle.secure_machine.specs.declared.report.Ending.TheVariants.{Exit, Trap, 
 use Rattle.secure_machine.specs.declared.report.Ending.TheVariants.{Device}
 
 -- An ending that comes by itself, after so many instructions and cycles, and up to when slots are still to be done: to
--- the smaller of the clock and the time of the settings, and to that time when time is up. At the budget all of it is
--- used, and when time is up that is at the clock, which has reached the time of the settings.
+-- the smaller of the clock and the time of the settings, and to that time when time is up. An exit is an instruction
+-- within the budget. At a trap some of the budget is left, and so it is when time is up, which is at the clock that has
+-- reached the time of the settings. At the budget all of it is used.
 abbrev pub IsOwnEnding : (budget time instructions cycles until : ℕ) → Ending → Type 0
-IsOwnEnding budget time instructions cycles until (Exit status) = until ≡ min cycles time
-IsOwnEnding budget time instructions cycles until (Trap kind pc) = until ≡ min cycles time
+IsOwnEnding budget time instructions cycles until (Exit status) =
+    (0 < instructions) × (instructions ≤ budget) × (until ≡ min cycles time)
+IsOwnEnding budget time instructions cycles until (Trap kind pc) = (instructions < budget) × (until ≡ min cycles time)
 IsOwnEnding budget time instructions cycles until Budget = (instructions ≡ budget) × (until ≡ min cycles time)
-IsOwnEnding budget time instructions cycles until (TimeUp at) = (time ≤ at) × (until ≡ time) × (at ≡ cycles)
+IsOwnEnding budget time instructions cycles until (TimeUp at) =
+    (instructions < budget) × (time ≤ at) × (until ≡ time) × (at ≡ cycles)
 IsOwnEnding budget time instructions cycles until (StashFull held) = ⊥
 IsOwnEnding budget time instructions cycles until (Integrity evidence) = ⊥
 IsOwnEnding budget time instructions cycles until Device = ⊥
 
 -- An ending by the settings, of whatever kind, with the end of the schedule: it isn't before the smaller of the clock
--- and the time of the settings, nor before that time when time is up.
+-- and the time of the settings, nor before that time when time is up. No more instructions are finished than the budget
+-- allows: an exit is one of them, at a trap some are left, and at the budget none.
 abbrev pub IsRightEnding : (budget time instructions cycles last : ℕ) → Ending → Type 0
-IsRightEnding budget time instructions cycles last (Exit status) = min cycles time ≤ last
-IsRightEnding budget time instructions cycles last (Trap kind pc) = min cycles time ≤ last
+IsRightEnding budget time instructions cycles last (Exit status) =
+    (0 < instructions) × (instructions ≤ budget) × (min cycles time ≤ last)
+IsRightEnding budget time instructions cycles last (Trap kind pc) = (instructions < budget) × (min cycles time ≤ last)
 IsRightEnding budget time instructions cycles last Budget = (instructions ≡ budget) × (min cycles time ≤ last)
-IsRightEnding budget time instructions cycles last (TimeUp at) = (time ≤ at) × (time ≤ last)
-IsRightEnding budget time instructions cycles last (StashFull held) = Unit {0}
-IsRightEnding budget time instructions cycles last (Integrity evidence) = Unit {0}
-IsRightEnding budget time instructions cycles last Device = Unit {0}
+IsRightEnding budget time instructions cycles last (TimeUp at) =
+    (instructions ≤ budget) × (time ≤ at) × (time ≤ last)
+IsRightEnding budget time instructions cycles last (StashFull held) = instructions ≤ budget
+IsRightEnding budget time instructions cycles last (Integrity evidence) = instructions ≤ budget
+IsRightEnding budget time instructions cycles last Device = instructions ≤ budget
 
--- When time is up: at the clock, where it has reached the time of the settings before an instruction; or at the start
--- of the first slot that wasn't done.
-abbrev pub IsTimeUp : Config → (cycles : ℕ) → LogLists → (at : ℕ) → Type 0
-IsTimeUp config cycles log at = ((at ≡ cycles) × (config.time ≤ cycles)) ⊎ IsNextStart config at log
+-- When time is up: at the clock, where it has reached the time of the settings before an instruction that the budget
+-- still has room for; or at the start of the first slot that wasn't done.
+abbrev pub IsTimeUp : Config → (budget instructions cycles : ℕ) → LogLists → (at : ℕ) → Type 0
+IsTimeUp config budget instructions cycles log at =
+    ((at ≡ cycles) × (config.time ≤ cycles) × (instructions < budget)) ⊎ IsNextStart config at log
 
 -- No more instructions come: the run ends by itself, and the slots up to a time are still to be done; or a line was
--- stopped.
+-- stopped, within the budget.
 abbrev pub HaltsBy : (budget levels instructions cycles : ℕ) → Cause → PortState → OramState → Type 0
 HaltsBy budget levels instructions cycles (Ends ending until) old new =
     Goes old new.port × Serving levels new × (until ≤ new.port.clock.config.time)
     × IsOwnEnding budget old.clock.config.time instructions cycles until ending
-HaltsBy budget levels instructions cycles (Stops s) old new = Breaks s old new.port
+HaltsBy budget levels instructions cycles (Stops s) old new = Breaks s old new.port × (instructions ≤ budget)
 
 abbrev pub Halts : (budget levels : ℕ) → Halted → PortState → OramState → Type 0
 Halts budget levels halted old new = HaltsBy budget levels halted.instructions halted.cycles halted.cause old new
@@ -91,7 +98,8 @@ pub record Settled (budget instructions cycles : ℕ) (ending : Ending) (last : 
   pub pace : KeepsPace old.clock.config last new.tap.log
   pub in_time : last < old.clock.config.time + olat_of old.clock.config.shape.levels
   pub right : IsRightEnding budget old.clock.config.time instructions cycles last ending
-  pub time_up : (at : ℕ) → ending ≡ TimeUp at → IsTimeUp old.clock.config cycles new.tap.log at
+  pub time_up : (at : ℕ) → ending ≡ TimeUp at
+      → IsTimeUp old.clock.config budget instructions cycles new.tap.log at
   pub unaltered : Unaltered old new
   pub told : MayTellOn old new
   pub prepared : SameCount old new

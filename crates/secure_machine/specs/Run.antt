@@ -55,7 +55,8 @@ pub record Reported (config : Config) (report : Report) (memory memory' : Memory
   pub cause : report.ending ≡ Device → memory.faults < memory'.faults
   pub right : IsRightEnding config.budget config.time report.instructions report.cycles report.last
       report.ending
-  pub time_up : (at : ℕ) → report.ending ≡ TimeUp at → IsTimeUp config report.cycles tap'.log at
+  pub time_up : (at : ℕ) → report.ending ≡ TimeUp at
+      → IsTimeUp config config.budget report.instructions report.cycles tap'.log at
   pub unaltered : TellsMirror memory tap → tap'.log.altered ≡ tap.log.altered
   pub told : MayTellMirror memory tap → MayTellMirror memory' tap'
   pub prepared : memory'.count ≡ memory.count

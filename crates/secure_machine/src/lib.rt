@@ -319,7 +319,7 @@ pub fn run<M: UntrustedMemory, W: Watch, L: LeafFn>(
     ensures right { IfOk result (λ report.
         IsRightEnding config.now.budget config.now.time report.instructions report.cycles report.last report.ending) }
     ensures time_up { IfOk result (λ report. (at : ℕ) → report.ending ≡ Ending.TimeUp at
-        → IsTimeUp config.now report.cycles (W.state bus.new.tap.now).log at) }
+        → IsTimeUp config.now config.now.budget report.instructions report.cycles (W.state bus.new.tap.now).log at) }
     ensures asked { (M.state bus.new.memory.now).moved
         ≡ (M.state bus.old.memory.now).moved + length (W.state bus.new.tap.now).log.moves }
     ensures unaltered { IsSome (M.state bus.old.memory.now).told → (W.state bus.new.tap.now).log.altered ≡ [] }

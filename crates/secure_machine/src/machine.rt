@@ -454,7 +454,7 @@ fn ending_of<M: UntrustedMemory, W: Watch, L: LeafFn>(
     ensures named { IfOk result (λ (ending, last). ending_by stop ≡ Some ending) }
     ensures wanted { OnErr result (stop ≡ Stop.NoMemory) }
     ensures settled { (budget instructions cycles : ℕ) (old : PortState)
-        → Breaks stop old (timed_of M.state W.state lines.now).oram.port
+        → Breaks stop old (timed_of M.state W.state lines.now).oram.port → instructions ≤ budget
         → MatchResult result
         (λ (ending, last). Settled budget instructions cycles ending last old (timed_of M.state W.state
         lines.now).oram.port)

@@ -410,7 +410,7 @@ returns-in-Err-Device-clause-right g c =
     let old = g.W.Watch.state c.args.bus.now.tap.now in
     subst (IsRightEnding c.args.config.now.budget c.args.config.now.time c.unprepared.result.instructions
     c.unprepared.result.cycles c.unprepared.result.last)
-    (sym (c.unprepared.ensures old).ending) tt
+    (sym (c.unprepared.ensures old).ending) (omega (arith, (c.unprepared.ensures old).instructions))
 
 pub returns-in-Err-NoMemory-clause-pace_err : goal.returns-in-Err-NoMemory-clause-pace_err
 returns-in-Err-NoMemory-clause-pace_err g c =

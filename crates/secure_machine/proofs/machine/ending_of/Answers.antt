@@ -14,39 +14,40 @@ use Rattle.secure_machine.proofs.machine.ending_of.Goals as goal
 pub returns-in-Integrity-clause-settled : goal.returns-in-Integrity-clause-settled
 returns-in-Integrity-clause-settled g c =
     let new = port g.M.UntrustedMemory.state g.W.Watch.state g.L.LeafFn.levels c.args.lines.now in
-    λ budget instructions cycles old h.
+    λ budget instructions cycles old h within.
     subst (λ n. Settled budget instructions cycles (Integrity c.in-Integrity.evidence) n old new)
     (sym c.last-last.ensures)
     (integrity_settles budget instructions cycles old new c.in-Integrity.evidence
-    (subst (λ (s : Stop). Breaks s old new) c.in-Integrity.is h))
+    (subst (λ (s : Stop). Breaks s old new) c.in-Integrity.is h) within)
 
 pub returns-in-StashFull-clause-settled : goal.returns-in-StashFull-clause-settled
 returns-in-StashFull-clause-settled g c =
     let new = port g.M.UntrustedMemory.state g.W.Watch.state g.L.LeafFn.levels c.args.lines.now in
-    λ budget instructions cycles old h.
+    λ budget instructions cycles old h within.
     subst (λ n. Settled budget instructions cycles (StashFull c.in-StashFull.held) n old new) (sym c.last-last.ensures)
     (full_settles budget instructions cycles old new c.in-StashFull.held
-    (subst (λ (s : Stop). Breaks s old new) c.in-StashFull.is h))
+    (subst (λ (s : Stop). Breaks s old new) c.in-StashFull.is h) within)
 
 pub returns-in-Device-clause-settled : goal.returns-in-Device-clause-settled
 returns-in-Device-clause-settled g c =
     let new = port g.M.UntrustedMemory.state g.W.Watch.state g.L.LeafFn.levels c.args.lines.now in
-    λ budget instructions cycles old h.
+    λ budget instructions cycles old h within.
     subst (λ n. Settled budget instructions cycles Device n old new) (sym c.last-last.ensures)
-    (device_settles budget instructions cycles old new (subst (λ (s : Stop). Breaks s old new) c.in-Device.is h))
+    (device_settles budget instructions cycles old new (subst (λ (s : Stop). Breaks s old new) c.in-Device.is h)
+    within)
 
 pub returns-in-NoMemory-clause-settled : goal.returns-in-NoMemory-clause-settled
 returns-in-NoMemory-clause-settled g c =
     let new = port g.M.UntrustedMemory.state g.W.Watch.state g.L.LeafFn.levels c.args.lines.now in
-    λ budget instructions cycles old h.
+    λ budget instructions cycles old h within.
     short_of budget instructions cycles old new (subst (λ (s : Stop). Breaks s old new) c.in-NoMemory.is h)
 
 pub returns-in-TimeUp-clause-settled : goal.returns-in-TimeUp-clause-settled
 returns-in-TimeUp-clause-settled g c =
     let new = port g.M.UntrustedMemory.state g.W.Watch.state g.L.LeafFn.levels c.args.lines.now in
-    λ budget instructions cycles old h.
+    λ budget instructions cycles old h within.
     let broke = subst (λ (s : Stop). Breaks s old new) c.in-TimeUp.is h in
-    time_settles budget instructions cycles old new c.in-TimeUp.at c.max.result broke
+    time_settles budget instructions cycles old new c.in-TimeUp.at c.max.result broke within
     (c.max.ensures ∙ (ap (λ n. max n c.time.result) c.last-last.ensures
     ∙ ap (max new.clock.last) (c.time.ensures ∙ ap (λ (config : Config). config.time) broke.config)))
 

@@ -17,7 +17,7 @@ use Rattle.secure_machine.proofs.NotedLines.{wait_quiet, request_stop, wait_line
 use Rattle.secure_machine.specs.Fed.{CauseFed}
 use Rattle.secure_machine.proofs.FedLaws.{stop_ends, ended_stop_ends}
 use Rattle.secure_machine.proofs.PortGoes.{breaks_then}
-use Rattle.secure_machine.proofs.Settles.{idle_settles}
+use Rattle.secure_machine.proofs.Settles.{idle_settles, own_within}
 use Rattle.secure_machine.specs.Plays.{CauseInPlay, play_ending}
 use Rattle.secure_machine.proofs.Playing.{wait_in_play, wait_stopped}
 use Rattle.secure_machine.specs.Judged.{CauseReplayed, EndsReplayed}
@@ -60,6 +60,17 @@ returns-in-Err-clause-settled g c =
     c.ending_of.ensures.settled c.args.budget c.args.halted.instructions c.args.halted.cycles first
     (breaks_then by.0 (oram_breaks keys levels old new fits by.1 (Wait c.in-Ends.until) c.in-Err.stop
     c.in-Err.ensures.step))
+    (own_within c.args.budget first.clock.config.time c.args.halted.instructions c.args.halted.cycles c.in-Ends.until
+    c.in-Ends.ending by.3)
+
+pub returns-in-Stops-clause-settled : goal.returns-in-Stops-clause-settled
+returns-in-Stops-clause-settled g c =
+    let levels = g.L.LeafFn.levels c.args.lines.now.oram.now.port.leaves in
+    let old = (timed_of g.M.UntrustedMemory.state g.W.Watch.state c.args.lines.now).oram in
+    λ first h.
+    let by = subst (λ (cause : Cause). HaltsBy c.args.budget levels c.args.halted.instructions
+    c.args.halted.cycles cause first old) c.in-Stops.is h in
+    c.ending_of-in-Stops.ensures.settled c.args.budget c.args.halted.instructions c.args.halted.cycles first by.0 by.1
 
 pub returns-in-Ok-clause-refines : goal.returns-in-Ok-clause-refines
 returns-in-Ok-clause-refines g c machine last memory lawful known =

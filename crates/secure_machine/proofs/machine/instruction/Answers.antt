@@ -86,9 +86,10 @@ returns-in-Err-clause-halts g c =
     c.args.budget h c.args.lines.now c.step.new.lines) (sym c.stopped.ensures)
     (record {
       same = off.same;
-      halts = off.breaks;
+      halts = (off.breaks, omega (arith, c.requires.few));
       late = λ at is some. stops_later g.M.UntrustedMemory.state g.W.Watch.state g.L.LeafFn.levels config 0
-          g.L.LeafFn.leaf_of c.args.lines.now.clock c.in-Err.stop c.args.lines.now c.step.new.lines refl early off at is;
+          g.L.LeafFn.leaf_of c.args.lines.now.clock c.in-Err.stop c.args.lines.now c.step.new.lines refl early off at
+          is;
       fetches = off.fetches;
       replays = off.replays;
     })
@@ -100,8 +101,11 @@ returns-in-Exit-clause-halts g c =
     c.args.budget h c.args.lines.now c.step.new.lines) (sym c.ended-in-Exit.ensures)
     (ends_after g.M.UntrustedMemory.state g.W.Watch.state g.L.LeafFn.leaf_of g.L.LeafFn.levels c.args.budget
     (c.args.before + 1) c.step.new.lines.clock c.min.result (Exit c.in-Exit.status) c.args.lines.now c.step.new.lines
-    c.in-Ok.ensures.onwards (omega (arith, c.min.ensures, c.time-time.ensures, config))
-    (c.min.ensures ∙ ap (min c.step.new.lines.clock) c.time-time.ensures))
+    c.in-Ok.ensures.onwards (omega (arith, c.min.ensures, c.time-time.ensures, config)) (
+      omega (arith),
+      omega (arith, c.requires.few),
+      c.min.ensures ∙ ap (min c.step.new.lines.clock) c.time-time.ensures,
+    ))
 
 pub returns-in-Trap-clause-halts : goal.returns-in-Trap-clause-halts
 returns-in-Trap-clause-halts g c =
@@ -112,7 +116,7 @@ returns-in-Trap-clause-halts g c =
     (ends_after g.M.UntrustedMemory.state g.W.Watch.state g.L.LeafFn.leaf_of g.L.LeafFn.levels c.args.budget
     c.args.before start start (Trap c.in-Trap.kind c.in-Trap.pc) c.args.lines.now c.step.new.lines
     c.in-Ok.ensures.onwards (omega (arith, c.if-start-time.false, c.time-time.ensures, config))
-    (omega (arith, c.if-start-time.false, c.time-time.ensures)))
+    (c.requires.few, omega (arith, c.if-start-time.false, c.time-time.ensures)))
 
 pub returns-then-start-time-clause-fed : goal.returns-then-start-time-clause-fed
 returns-then-start-time-clause-fed g c ways lists core stands =

@@ -31,7 +31,8 @@ returns-in-Err-clause-halts g c =
     c.args.budget h c.args.lines.now c.load_line.new.lines) (sym c.stopped.ensures)
     (breaks_later g.M.UntrustedMemory.state g.W.Watch.state g.L.LeafFn.leaf_of g.L.LeafFn.levels c.args.budget 0
     c.loop-at.lines.clock c.in-Err.stop c.args.lines.now c.loop-at.lines c.load_line.new.lines
-    c.loop-at.invariant.onwards c.in-Err.ensures.breaks (λ at is some. absurd (omega (arith, some))))
+    c.loop-at.invariant.onwards c.in-Err.ensures.breaks (λ at is some. absurd (omega (arith, some)))
+    (omega arith))
 
 pub loop-at-preserved : goal.loop-at-preserved
 loop-at-preserved g c = record {
