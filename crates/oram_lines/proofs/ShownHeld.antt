@@ -135,7 +135,8 @@ pub group_line : (shape : Shape) (g : Ghost) (p first number : ℕ) (group : Gro
     → length group.own ≡ 32 → IsGroupOf shape g p group.group group.own → line_in group ≡ line_at shape g p
 group_line shape g p first number group some children level still wide shown =
     ap line_in (family_only g.count first number group some wide (record {
-      children = λ k less. (shown.shows first number k children less).level (λ at. absurd (none_is_not (sym level ∙ at)))
+      children = λ k less.
+          (shown.shows first number k children less).level (λ at. absurd (none_is_not (sym level ∙ at)))
           ∙ ap {A = Bool} {B = Counter} (λ b. if b then next_group (child_counter group.group group.own k)
           else child_counter group.group group.own k) (not_under k (moved_of g.move p) (still_none g.move p still));
       others = λ k more. shown.others first number k children more;
