@@ -1,5 +1,5 @@
-//! An outside over which every condition of `ascend` and every premise of completeness holds before a call; and a memory
-//! over which none of them is broken in it.
+//! An outside over which every condition of `ascend` and every premise of completeness holds before a call; and a
+//! memory over which none of them is broken in it.
 
 ghost use Rattle.std.specs.Prelude.{◌≡◌, ◌<◌, ◌^◌, [], length, Some, IfOk, IsOkUnless, IsSome};
 ghost use Rattle.asc_outside.specs.Host.{Files};

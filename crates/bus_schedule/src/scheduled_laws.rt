@@ -53,7 +53,8 @@ pub fn log_is_scheduled()
 /// The choice at a slot's end is noted by the time of that end, and not before; and no more choices are noted than
 /// fall. So the log of one slot, at whose end a choice falls, is scheduled up to the cycle before the end without the
 /// choice alone, and up to the end with it alone; and a log of two choices, where one is allowed, is scheduled up to
-/// no time. Where epoch 1 starts later, at 400, no choice falls at that end, none before the first slot, and so not two.
+/// no time. Where epoch 1 starts later, at 400, no choice falls at that end; and none falls before the first slot, so
+/// not two.
 pub fn scheduled_rows()
     ensures before { IsScheduled two_rates 303 (first_slot_log []) }
     ensures early { (index : ℕ) → IsScheduled two_rates 303 (first_slot_log (Chosen index ∷ [])) → ⊥ }

@@ -1,12 +1,13 @@
 -- A text is one trace's at most, and has no fault then.
-use Rattle.std.proofs.Common.{◌≡◌, ◌≢◌, ℕ, suc, Bool, true, false, List, [], ◌∷◌, ◌++◌, map}
+use Rattle.std.proofs.Common.{◌≡◌, ◌≢◌, ℕ, suc, true, List, [], ◌∷◌, ◌++◌, map}
 use Rattle.std.proofs.Common.{get_or, drop, refl, sym, ◌∙◌, ap, subst, arith, append_assoc, append-nil}
-use Rattle.std.specs.Prelude.{codes, ◌&&◌, not, ◌==◌}
+use Rattle.std.specs.Prelude.{codes, not, ◌==◌}
 use Rattle.std.specs.Fmt.{decimal}
 use Rattle.std.specs.List.{AllByRecursion, list_all}
 use Rattle.std.specs.Str.Parse.{AllDigits}
 use Rattle.std.proofs.lemmas.List.Elements.{recursion_from_All}
 use Rattle.std.proofs.lemmas.Str.Parse.{tells_digits}
+use Rattle.asc_base.proofs.Bytes.{both}
 use Rattle.bus_schedule.specs.Timetable.{Public}
 use Rattle.bus_trace.specs.declared.fault.TraceKind.{TraceKind}
 use Rattle.bus_trace.specs.declared.fault.TraceKind.TheVariants.{Form, Range, Cut, Extra}
@@ -60,11 +61,6 @@ tested [] is = tt
 tested (b ∷ bytes) is = let parts = both (not (b == 10)) (list_all (λ b. not (b == 10)) bytes) is in
     (λ same. no b same parts.0, tested bytes parts.1)
   where
-    both : (x y : Bool) → (x && y) ≡ true → (x ≡ true) × (y ≡ true)
-    both true true e = (refl, refl)
-    both true false e = absurd (let no : ⊥ = cc in no)
-    both false y e = absurd (let no : ⊥ = cc in no)
-
     no : (b : ℕ) → b ≡ 10 → not (b == 10) ≡ true → ⊥
     no b same is = let ten : not (10 == 10) ≡ true = subst (λ n. not (n == 10) ≡ true) same is in cc
 

@@ -6,6 +6,7 @@ use Rattle.asc_base.specs.Has.{Has}
 use Rattle.asc_base.specs.declared.block.Counter.{Counter}
 use Rattle.asc_base.specs.declared.block.Entry.{Entry}
 use Rattle.asc_base.specs.declared.block.Message.{Message}
+use Rattle.asc_base.proofs.Lookups.{none_is_not}
 use Rattle.bucket_codec.specs.Bucket.{empty_slots}
 use Rattle.bucket_codec.specs.Slot.{IsEntry, IsInRange}
 use Rattle.bus_watch.specs.Log.{LogLists}
@@ -41,9 +42,6 @@ use Rattle.log_replay.proofs.SlotSplits.{none_held}
 -- the block whose slot comes next
 abbrev next_up : Ghost → ℕ → Ghost
 next_up g a = record g { pend = Some a }
-
-nothing_next : (a : ℕ) → None ≡ Some a → ⊥
-nothing_next a is = cc
 
 -- no counter is before itself
 never : IsBefore first_counter first_counter → ⊥
@@ -100,7 +98,7 @@ module _ (keys : Keys) (a : ℕ) (d : Counter) (l : List ℕ) (top : IsTopLine k
     put_sound : Sound keys put_log put_ghost put_contents
     put_sound = elim (final_sound keys top.lawful empty_log put_log first_up (first_contents keys) put_contents 256 a d
         None l slot (record { path = refl; flight = refl }) refl
-        (record { inside = top.inside; up = up; parent = λ p is. absurd (nothing_next p (sym top.parent ∙ is)) })
+        (record { inside = top.inside; up = up; parent = λ p is. absurd (none_is_not (sym top.parent ∙ is)) })
         (λ h. h) own_line top.line (omega arith) (start_always keys) up_sound) [
           | inl f ↦ absurd f.altered
           | inr s ↦ s.0
@@ -202,7 +200,7 @@ module _ (keys : Keys) (a : ℕ) (d : Counter) (l : List ℕ) (top : IsTopLine k
           last = s.last;
           once = s.once;
           blank = s.blank;
-          drawn = λ b c x h. elim (s.drawn b c x h) [ inl past ↦ inl past | inr now ↦ absurd (nothing_next b now.0) ];
+          drawn = λ b c x h. elim (s.drawn b c x h) [ inl past ↦ inl past | inr now ↦ absurd (none_is_not now.0) ];
           dummies = s.dummies;
           away = s.away;
           at_hand = s.at_hand;

@@ -1,11 +1,12 @@
 -- An encrypted memory stays what its log says, request by request.
-use Rattle.std.proofs.Common.{◌≡◌, ◌<◌, ℕ, length, None, Some, Ok, Err, refl, sym, ap, subst, inl, inr}
+use Rattle.std.proofs.Common.{◌≡◌, ◌<◌, ℕ, length, None, Ok, Err, refl, sym, ap, subst, inl, inr}
 use Rattle.std.proofs.Common.{◌≤◌, ◌∙◌, arith}
 use Rattle.asc_base.specs.declared.shape.Shape.{Shape}
 use Rattle.asc_base.specs.Settings.{IsConfig}
 use Rattle.asc_base.specs.declared.block.Line.{Line}
 use Rattle.asc_base.specs.declared.settings.Config.{Config}
 use Rattle.asc_base.specs.declared.stop.Stop.{Stop}
+use Rattle.asc_base.proofs.Lookups.{none_is_not}
 use Rattle.oram_contents.specs.Entries.{Keys, AreKeys}
 use Rattle.oram_contents.specs.Fold.{Whole}
 use Rattle.oram_frontend.specs.Oram.{OramState, OramRequest, Fetch, Store, Wait, OramStep, Told}
@@ -23,9 +24,6 @@ use Rattle.log_replay.proofs.FrontAsks.{AtAny, fetch_asks, store_asks}
 use Rattle.log_replay.proofs.PortStarts.{start_replays}
 use Rattle.log_replay.proofs.Ports.{wait_replays, between_replays}
 use Rattle.log_replay.proofs.StopPorts.{wait_stops}
-
-none_some : {stop : Stop} → None ≡ Some stop → ⊥
-none_some e = cc
 
 module _ (keys : Keys) (lawful : AreKeys keys) (levels : ℕ) where
   -- the plans of a front end of the keys' shape
@@ -103,16 +101,16 @@ module _ (keys : Keys) (lawful : AreKeys keys) (levels : ℕ) where
   pub request_stops : (old new : OramState) (request : OramRequest) (stop : Stop) → IsReplayed keys old
       → Resting 0 levels old.port → old.stop ≡ None → IsRequest keys.shape.lines request
       → OramStep keys levels old request (Err stop) new → StopsReplayed keys old.port.tree.stash stop new.port
-  request_stops old new (Fetch asked line) stop h rests going is (inl had) = absurd (none_some (sym going ∙ had.0))
+  request_stops old new (Fetch asked line) stop h rests going is (inl had) = absurd (none_is_not (sym going ∙ had.0))
   request_stops old new (Fetch asked line) stop h rests going is (inr step) =
       along_stops keys lawful levels old.port.tree.stash (AtAny keys.shape) (fetch_plan old.front asked line)
       None old.port new.port stop new.front (fetch_so old asked line h is) (stays_first old h rests) step.1
   request_stops old new (Store asked line value) stop h rests going is (inl had) =
-      absurd (none_some (sym going ∙ had.0))
+      absurd (none_is_not (sym going ∙ had.0))
   request_stops old new (Store asked line value) stop h rests going is (inr step) =
       along_stops keys lawful levels old.port.tree.stash (AtAny keys.shape)
       (store_plan old.front asked line value) None old.port new.port stop new.front
       (store_so old asked line value h is.0 is.1) (stays_first old h rests) step.1
-  request_stops old new (Wait time) stop h rests going is (inl had) = absurd (none_some (sym going ∙ had.0))
+  request_stops old new (Wait time) stop h rests going is (inl had) = absurd (none_is_not (sym going ∙ had.0))
   request_stops old new (Wait time) stop h rests going is (inr step) =
       wait_stops keys lawful levels 0 old.port new.port h.port rests time stop step.2

@@ -1,12 +1,12 @@
 -- How a front end's chip goes on showing the counters of all blocks over a group move of the first held block's
 -- children.
 use Rattle.std.proofs.Common.{◌≡◌, ◌<◌, ◌≤◌, ◌+◌, ◌-◌, ◌^◌, ◌⊎◌, inl, inr, ℕ, Bool, true, false, List, [], ◌∷◌}
-use Rattle.std.proofs.Common.{Option, None, Some, length, map, slice_index, if◌then◌else◌, nat_lt, count_by}
+use Rattle.std.proofs.Common.{None, Some, length, map, slice_index, if◌then◌else◌, nat_lt, count_by}
 use Rattle.std.proofs.Common.{refl, sym, ap, ◌∙◌, subst, arith}
 use Rattle.std.proofs.lemmas.Bool.{cases_eq, cases_lt, lt-leb}
 use Rattle.std.proofs.lemmas.Bool.Decides.{eqb_tells}
 use Rattle.asc_base.proofs.Families.{children_few, parent_of_child}
-use Rattle.asc_base.proofs.Lookups.{changed_first-no}
+use Rattle.asc_base.proofs.Lookups.{changed_first-no, some_is, none_is_not}
 use Rattle.asc_base.proofs.ShapeFacts.{shape_layered}
 use Rattle.asc_base.specs.Has.{Has}
 use Rattle.asc_base.specs.Lookup.{changed_first}
@@ -36,12 +36,6 @@ use Rattle.oram_lines.specs.Shown.{IsMoved, IsRenumbered, IsEnded, HasUsed}
 use Rattle.oram_lines.specs.Standing.{IsShown, held_block, chip_of}
 use Rattle.oram_lines.proofs.ShownLaws.{counters_same, groups_same, counters_to, small_later, still_none}
 use Rattle.oram_lines.proofs.ShownParts.{front_of, held_front, first_changed, no_full}
-
-none_is_not : {A : Type 0} {a : A} {P : Type 0} → None ≡ Some a → P
-none_is_not {A} {a} e = absurd (let bad : ◌≡◌ {A = Option A} None (Some a) = e in cc)
-
-some_is : {A : Type 0} {a b : A} → Some a ≡ Some b → a ≡ b
-some_is e = cc
 
 -- how many children of a block are done, in its group move and in another's
 pub moved_here : (p i : ℕ) → moved_of (Some (p, i)) p ≡ i
@@ -137,7 +131,7 @@ module _ (keys : Keys) (lawful : AreKeys keys) where
           → g.count (first + k) ≡ (if nat_lt k i then next_group (child_counter group k) else child_counter group k)
       child_at k under =
           ((s.groups.groups (held_block top) (inl refl)).shows first number k children under).level
-          (λ at. none_is_not (sym level ∙ at))
+          (λ at. absurd (none_is_not (sym level ∙ at)))
           ∙ ap (λ m. (if nat_lt k m then next_group (child_counter group k) else child_counter group k))
           (ap (λ m. moved_of m p.0) moving ∙ moved_here p.0 i)
 
@@ -304,7 +298,7 @@ module _ (keys : Keys) (lawful : AreKeys keys) where
       done_at : (k : ℕ) → k < number → g.count (first + k) ≡ next_group (child_counter group k)
       done_at k under =
           ((s.groups.groups (held_block top) (inl refl)).shows first number k children under).level
-          (λ at. none_is_not (sym level ∙ at))
+          (λ at. absurd (none_is_not (sym level ∙ at)))
           ∙ ap {A = Bool} {B = Counter} (λ b. if b then next_group (child_counter group k) else child_counter group k)
           (ap (nat_lt k) (ap (λ m. moved_of m p.0) moving ∙ moved_here p.0 number) ∙ lt_true k number under)
 

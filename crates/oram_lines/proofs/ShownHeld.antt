@@ -8,7 +8,7 @@ use Rattle.std.proofs.lemmas.Bool.{cases_Bool}
 use Rattle.std.proofs.lemmas.Bool.Decides.{eqb_tells}
 use Rattle.asc_base.proofs.Families.{children_few}
 use Rattle.asc_base.proofs.Lookups.{find-yes, find-no, find-has, find-holds, without_first-has, map-without_first}
-use Rattle.asc_base.proofs.Lookups.{promoted_first-some, promoted_first-none}
+use Rattle.asc_base.proofs.Lookups.{promoted_first-some, promoted_first-none, some_is, none_is_not}
 use Rattle.asc_base.proofs.ShapeFacts.{shape_layered}
 use Rattle.asc_base.specs.Has.{Has}
 use Rattle.asc_base.specs.Lookup.{promoted_first, without_first}
@@ -42,12 +42,6 @@ use Rattle.oram_lines.specs.Standing.{IsShown, held_block, chip_of}
 use Rattle.oram_lines.proofs.ShownLaws.{counters_same, groups_same, still_none, not_under}
 use Rattle.oram_lines.proofs.ShownParts.{chip_addresses}
 
-none_is_not : {A : Type 0} {a : A} {P : Type 0} → None ≡ Some a → P
-none_is_not {A} {a} e = absurd (let bad : ◌≡◌ {A = Option A} None (Some a) = e in cc)
-
-some_is : {A : Type 0} {a b : A} → Some a ≡ Some b → a ≡ b
-some_is e = cc
-
 -- what stands in the first ones of a list stands in the list, and so does what stands at a place
 take_has : {A : Type 0} (n : ℕ) (xs : List A) (x : A) → Has x (take n xs) → Has x xs
 take_has zero xs x has = absurd has
@@ -56,7 +50,7 @@ take_has (suc n) (y ∷ xs) x (inl is) = inl is
 take_has (suc n) (y ∷ xs) x (inr later) = inr (take_has n xs x later)
 
 get_has : {A : Type 0} (n : ℕ) (xs : List A) (x : A) → slice_get xs n ≡ Some x → Has x xs
-get_has n [] x at = none_is_not at
+get_has n [] x at = absurd (none_is_not at)
 get_has zero (y ∷ xs) x at = inl (sym (some_is at))
 get_has (suc n) (y ∷ xs) x at = inr (get_has n xs x at)
 
@@ -141,7 +135,8 @@ pub group_line : (shape : Shape) (g : Ghost) (p first number : ℕ) (group : Gro
     → length group.own ≡ 32 → IsGroupOf shape g p group.group group.own → line_in group ≡ line_at shape g p
 group_line shape g p first number group some children level still wide shown =
     ap line_in (family_only g.count first number group some wide (record {
-      children = λ k less. (shown.shows first number k children less).level (λ at. none_is_not (sym level ∙ at))
+      children = λ k less.
+          (shown.shows first number k children less).level (λ at. absurd (none_is_not (sym level ∙ at)))
           ∙ ap {A = Bool} {B = Counter} (λ b. if b then next_group (child_counter group.group group.own k)
           else child_counter group.group group.own k) (not_under k (moved_of g.move p) (still_none g.move p still));
       others = λ k more. shown.others first number k children more;
@@ -231,7 +226,7 @@ module _ (keys : Keys) (lawful : AreKeys keys) where
 
       shown_new : IsGroupOf keys.shape g a.0 new.group.group new.group.own
       shown_new = read_group keys.shape g a.0 family.0.0 family.0.1 line.0 lawful.shape inside family.1
-          (λ k less at. none_is_not (sym level ∙ at)) (still_none g.move a.0 still) is_line s.counters
+          (λ k less at. absurd (none_is_not (sym level ∙ at))) (still_none g.move a.0 still) is_line s.counters
 
       wide_of : (h : Held) → Has h (new ∷ front.held) → length h.group.own ≡ 32
       wide_of h (inl is) = ap (λ (x : Held). length x.group.own) is ∙ length_own line.0

@@ -21,6 +21,7 @@ use Rattle.oram_contents.specs.Starts.{first_ghost}
 use Rattle.oram_walk.proofs.Fronts.{first_is}
 use Rattle.asc_base.specs.declared.block.Address.{Address}
 use Rattle.asc_base.proofs.Families.{child_of_parent, children_few}
+use Rattle.asc_base.proofs.Lookups.{some_is, none_is_not}
 use Rattle.asc_base.proofs.ShapeFacts.{shape_layered}
 use Rattle.bus_watch.specs.Log.{LogLists}
 use Rattle.std.specs.Prelude.{count_by}
@@ -42,12 +43,6 @@ use Rattle.posmap_lookaside.specs.declared.held.Held.{Held}
 use Rattle.oram_lines.specs.Standing.{held_block}
 use Rattle.oram_lines.proofs.ShownParts.{front_of, spelled, held_front, rooted_front, counter_top, stepped_top}
 use Rattle.oram_lines.proofs.ShownParts.{counter_first, room_first, stepped_first, chip_addresses}
-
-none_is_not : {A : Type 0} {a : A} {P : Type 0} → None ≡ Some a → P
-none_is_not {A} {a} e = absurd (let bad : ◌≡◌ {A = Option A} None (Some a) = e in cc)
-
-some_is : {A : Type 0} {a b : A} → Some a ≡ Some b → a ≡ b
-some_is e = cc
 
 same_counter : (c d : Counter) → c.group ≡ d.group → c.own ≡ d.own → c ≡ d
 same_counter c d g o = λ i. record { group = g i; own = o i }
@@ -163,7 +158,7 @@ module _ (keys : Keys) (lawful : AreKeys keys) where
             (groups_root_taken keys.shape lawful.shape plb (record g { stepped = Some a.0 }) (chip_of after) groups_now
             a.0 inside top refl unheld))
             (counters_to g h a.0 (next_group (g.count a.0)) None (count ∙ ap (put_at g.count a.0) next_is) move
-            (omega arith) (omega arith) (λ p p_in up. none_is_not (sym top ∙ up))
+            (omega arith) (omega arith) (λ p p_in up. absurd (none_is_not (sym top ∙ up)))
             (λ p none. still_none g.move p still) s.counters);
         small = λ log' more. subst (λ c. AreSmall keys.shape ic log' (put_at g.count a.0 c)) (sym next_is)
             (small_raised keys.shape ic log' g.count a.0 (next_group (g.count a.0)) (λ none. refl) (omega arith)
@@ -181,7 +176,7 @@ module _ (keys : Keys) (lawful : AreKeys keys) where
       fits = omega (arith, small.drawn a.0 inside, few)
 
       level_of : (b : ℕ) → g.stepped ≡ Some b → ⊥
-      level_of b at = none_is_not (sym level ∙ at)
+      level_of b at = absurd (none_is_not (sym level ∙ at))
 
       counter_is : counter_in (front_of keys.shape ic roots plb held) a ≡ g.count a.0
       counter_is = counter_top (front_of keys.shape ic roots plb held) a top
@@ -198,7 +193,7 @@ module _ (keys : Keys) (lawful : AreKeys keys) where
 
       waiting : AreGroups keys.shape plb (record g { pend = Some a.0; stepped = Some a.0 }) (chip_of after)
       waiting = groups_wait keys.shape lawful.shape plb (record g { stepped = Some a.0 }) (chip_of after) groups_now a.0
-          (λ p up. none_is_not (sym top ∙ up))
+          (λ p up. absurd (none_is_not (sym top ∙ up)))
 
       next_is : counter_in after a ≡ next_group (g.count a.0)
       next_is = counter_top after a top ∙ (groups_now.roots a.0 inside top).ahead refl
@@ -245,7 +240,7 @@ module _ (keys : Keys) (lawful : AreKeys keys) where
             (λ q none. still_none g.move q still) s.counters);
         small = λ log' more. subst (λ c. AreSmall keys.shape ic log' (put_at g.count a.0 c)) (sym next_is)
             (small_raised keys.shape ic log' g.count a.0 (next_own (g.count a.0))
-            (λ none. none_is_not (sym none ∙ parent)) (omega (arith, few))
+            (λ none. absurd (none_is_not (sym none ∙ parent))) (omega (arith, few))
             (omega (arith, small.drawn a.0 inside, more))
             (small_later keys.shape ic log log' g.count (omega (arith, more)) small));
       })
@@ -290,7 +285,7 @@ module _ (keys : Keys) (lawful : AreKeys keys) where
       less = family.4
 
       level_of : (b : ℕ) → g.stepped ≡ Some b → ⊥
-      level_of b at = none_is_not (sym level ∙ at)
+      level_of b at = absurd (none_is_not (sym level ∙ at))
 
       still_of : (q : ℕ) → moved_of g.move q ≡ 0
       still_of q = still_none g.move q still

@@ -6,7 +6,7 @@ use Rattle.std.proofs.Common.{refl, sym, ap, ◌∙◌, subst, arith}
 use Rattle.std.proofs.lemmas.Bool.{leb-true}
 use Rattle.std.proofs.lemmas.Bool.Decides.{eqb_tells}
 use Rattle.asc_base.proofs.Families.{child_of_parent}
-use Rattle.asc_base.proofs.Lookups.{find-yes, find-no, find-has, find-holds, changed_first-none}
+use Rattle.asc_base.proofs.Lookups.{find-yes, find-no, find-has, find-holds, changed_first-none, some_is, none_is_not}
 use Rattle.asc_base.proofs.ShapeFacts.{shape_layered}
 use Rattle.asc_base.specs.Has.{Has}
 use Rattle.asc_base.specs.Shape.{children_in}
@@ -28,12 +28,6 @@ use Rattle.oram_lines.specs.Standing.{IsShown}
 use Rattle.oram_lines.proofs.ShownChildren.{begins, moves, renumbers, ends}
 use Rattle.oram_lines.proofs.ShownParts.{front_of, spelled, chip_addresses, full_first}
 
-none_is_not : {A : Type 0} {a : A} {P : Type 0} → None ≡ Some a → P
-none_is_not {A} {a} e = absurd (let bad : ◌≡◌ {A = Option A} None (Some a) = e in cc)
-
-some_is : {A : Type 0} {a b : A} → Some a ≡ Some b → a ≡ b
-some_is e = cc
-
 module _ (keys : Keys) (lawful : AreKeys keys) where
   -- what is held is found at its address
   pub held_tells : (front : FrontState) (g : Ghost) (a : Address) → IsShown keys front g
@@ -52,7 +46,7 @@ module _ (keys : Keys) (lawful : AreKeys keys) where
       absent : (list : List Held) → held_at list a ≡ None → Has a.0 (addresses_of list) → ⊥
       absent [] none has = has
       absent (x ∷ list) none has = elim (eqb_tells x.address.0 a.0) [
-        | inl same ↦ none_is_not (sym none ∙ find-yes (is_of a) x list same.0)
+        | inl same ↦ absurd (none_is_not (sym none ∙ find-yes (is_of a) x list same.0))
         | inr other ↦ elim has [
           | inl is ↦ other.1 (sym is)
           | inr later ↦ absent list
@@ -138,12 +132,12 @@ module _ (keys : Keys) (lawful : AreKeys keys) where
           → front.held ≡ h ∷ held → h.address.0 ≡ q → (b : Bool)
           → nat_le (2 ^ front.ic - 1) (slice_index h.group.own (child_in keys.shape a)) ≡ b
           → IsFull keys front a p group
-      is_full q up h held is here false test = none_is_not (
+      is_full q up h held is here false test = absurd (none_is_not (
           sym (full_first keys.shape front.ic front.roots front.plb h held a q up here
           ∙ ap {A = Bool} {B = Option (Address × GroupState)}
           (λ b. if b then Some (record { 0 = q }, h.group) else None)
           test) ∙ spelled_full (h ∷ held) is
-          )
+          ))
       is_full q up h held is here true test = record {
         first = family.0;
         number = family.1;
@@ -212,5 +206,5 @@ module _ (keys : Keys) (lawful : AreKeys keys) where
           let none : full_parent (front_of keys.shape front.ic front.roots front.plb front.held) a ≡ None =
           ap (full_by (front_of keys.shape front.ic front.roots front.plb front.held) a)
           (ap (option_map (λ (n : ℕ). let x : Address = record { 0 = n } in x)) top) in
-          none_is_not (sym none ∙ spelled_full front.held refl)
+          absurd (none_is_not (sym none ∙ spelled_full front.held refl))
       by_parent (Some q) up = let first_is = parent_first q up in by_held q up first_is.0 first_is.1 front.held refl

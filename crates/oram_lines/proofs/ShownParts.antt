@@ -9,7 +9,7 @@ use Rattle.asc_base.specs.Shape.{parent_in}
 use Rattle.asc_base.specs.TreeShape.{parent_of}
 use Rattle.asc_base.specs.declared.block.Address.{Address}
 use Rattle.asc_base.specs.declared.shape.Shape.{Shape}
-use Rattle.asc_base.proofs.Lookups.{find-yes, changed_first-yes}
+use Rattle.asc_base.proofs.Lookups.{find-yes, changed_first-yes, none_is_not}
 use Rattle.posmap_counters.specs.Group.{GroupState, child_counter, stepped_group}
 use Rattle.posmap_lookaside.specs.Addresses.{AreDistinct}
 use Rattle.posmap_lookaside.specs.Held.{is_of, changed, with_group, addresses_of}
@@ -19,12 +19,6 @@ use Rattle.oram_lines.specs.Standing.{held_block}
 use Rattle.oram_walk.specs.Front.{FrontState, IsFront, with_held, root_place, child_in, group_at}
 use Rattle.oram_walk.specs.Front.{counter_by, counter_in, counter_under, stepped_under, stepped_by, stepped}
 use Rattle.oram_walk.specs.Front.{full_under, full_by, full_parent}
-
-none_is_not : {A : Type 0} {a : A} {P : Type 0} → None ≡ Some a → P
-none_is_not {A} {a} e = absurd (let bad : ◌≡◌ {A = Option A} None (Some a) = e in cc)
-
-some_is : {A : Type 0} {a b : A} → Some a ≡ Some b → a ≡ b
-some_is e = cc
 
 pub same_of : (x y : ℕ) → x ≡ y → nat_eq x y ≡ true
 same_of x y e = elim (eqb_tells x y) [ inl same ↦ same.0 | inr other ↦ absurd (other.1 e) ]
@@ -118,9 +112,9 @@ module _ (shape : Shape) (ic : ℕ) (roots : List ℕ) (plb : ℕ) (h : Held) (r
     where
       by_test : (b : Bool) → nat_le (2 ^ ic - 1) (slice_index h.group.own (child_in shape a)) ≡ b
           → nat_le (2 ^ ic - 1) (slice_index h.group.own (child_in shape a)) ≡ false
-      by_test true is = none_is_not (sym none ∙ full_first
+      by_test true is = absurd (none_is_not (sym none ∙ full_first
           ∙ ap {A = Bool} {B = Option (Address × GroupState)}
-          (λ b. if b then Some (record { 0 = p }, h.group) else None) is)
+          (λ b. if b then Some (record { 0 = p }, h.group) else None) is))
       by_test false is = is
 
   pub no_full : nat_le (2 ^ ic - 1) (slice_index h.group.own (child_in shape a)) ≡ false

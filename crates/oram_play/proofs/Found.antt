@@ -10,6 +10,7 @@ use Rattle.asc_base.specs.declared.block.Message.{Message}
 use Rattle.asc_base.specs.declared.settings.Config.{Config}
 use Rattle.asc_base.proofs.Layers.{index_of-lt, layer_first-le, layer_first-next, layer_first-zero}
 use Rattle.asc_base.proofs.Layers.{layer_count-zero, children_of-above}
+use Rattle.asc_base.proofs.Lookups.{none_is_not}
 use Rattle.data_cache.specs.Lines.{LineRequest, Fetch, Store}
 use Rattle.oram_frontend.specs.Access.{next_message}
 use Rattle.oram_walk.specs.Memory.{Accessed, Displaced}
@@ -26,9 +27,6 @@ use Rattle.oram_play.specs.Shown.{appended_shown, answered_shown, AreShownAs}
 use Rattle.oram_play.specs.Taken.{put_in}
 use Rattle.oram_play.specs.Walked.{IsWalked, AreWalked, put_for}
 use Rattle.oram_play.proofs.Inside.{IsInside, AreInside, walk-inside}
-
-none_some : {A : Type 0} {a : A} → None ≡ Some a → ⊥
-none_some e = cc
 
 -- the message of a block, by its parts
 same_message : (m : Message) (address : ℕ) (counter : Counter) (line : Line) → m.address.0 ≡ address
@@ -59,7 +57,7 @@ module _ (config : Config) (stored : StoredLines) (lines : ℕ → Line)
               layer_count-zero sizes.lines,
             )
         | inr over ↦
-            absurd (none_some (sym none ∙ children_of-above sizes.lines sizes.layers a _ refl over))
+            absurd (none_is_not (sym none ∙ children_of-above sizes.lines sizes.layers a _ refl over))
       ]
 
   -- the line that is found is the play's

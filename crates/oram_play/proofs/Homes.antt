@@ -15,7 +15,7 @@ use Rattle.asc_base.specs.declared.settings.Config.{Config}
 use Rattle.asc_base.specs.declared.shape.Shape.{Shape}
 use Rattle.asc_base.proofs.Families.{child_of_parent, children_few}
 use Rattle.asc_base.proofs.Layers.{index_of-lt, layer_first-zero, layer_count-zero, children_of-above}
-use Rattle.asc_base.proofs.Lookups.{find-has, find-holds}
+use Rattle.asc_base.proofs.Lookups.{find-has, find-holds, none_is_not}
 use Rattle.asc_base.proofs.ShapeFacts.{shape_layered}
 use Rattle.bus_schedule.specs.Timetable.{public_of}
 use Rattle.bus_watch.specs.Log.{LogLists}
@@ -50,9 +50,6 @@ use Rattle.oram_lines.specs.Lines.{IsNew, IsRequest}
 use Rattle.oram_play.specs.AtHome.{IsAtHome, entry_in, times_placed, times_in_tree}
 use Rattle.oram_play.specs.Playing.{PlaysAs, called}
 use Rattle.oram_play.proofs.Stands.{keys_lines, new_plays, request_stands, wait_stands}
-
-none_is_not : {A : Type 0} {a : A} {P : Type 0} → None ≡ Some a → P
-none_is_not {A} {a} e = absurd (let bad : ◌≡◌ {A = Option A} None (Some a) = e in cc)
 
 -- the block of an address that passes the test for it
 of_address : (h : Held) (a : Address) → is_of a h ≡ true → h.address.0 ≡ a.0
@@ -153,7 +150,7 @@ module _ (keys : Keys) (lawful : AreKeys keys) (levels : ℕ) (config : Config) 
           (find-holds (is_of (record { 0 = p })) o.front.held h found) in
           let shown = x.stands.shown.groups.groups (held_block h) (held_has h o.front.held among) in
           (shown.shows first number k (ap (children_of keys.shape.lines keys.shape.layers) here ∙ children) less).level
-          (λ at. none_is_not (sym x.calm.stepped ∙ at))
+          (λ at. absurd (none_is_not (sym x.calm.stepped ∙ at)))
           ∙ ap {A = Bool} {B = Counter}
           (λ b. if b then next_group (child_counter h.group.group h.group.own k)
           else child_counter h.group.group h.group.own k)
@@ -163,7 +160,7 @@ module _ (keys : Keys) (lawful : AreKeys keys) (levels : ℕ) (config : Config) 
           let away : Has p g.held → ⊥ = λ at. not_held o.front.held (record { 0 = p }) none
           (subst (Has p) x.stands.shown.groups.listed at) in
           let kept : (x.lines p).0 ≡ line_at keys.shape g p = x.outside.each p inside away
-          (λ at. none_is_not (sym x.calm.flight ∙ at)) in
+          (λ at. absurd (none_is_not (sym x.calm.flight ∙ at))) in
           let same : line_in group ≡ line_in family =
           sym line ∙ kept ∙ ap (line_by g.count (g.data_lines p)) children in
           let is_family : IsGroup family = family_is g.count first number few
@@ -183,7 +180,7 @@ module _ (keys : Keys) (lawful : AreKeys keys) (levels : ℕ) (config : Config) 
 
       by_parent : (up : Option ℕ) → parent_of keys.shape.lines keys.shape.layers a ≡ up → g.count a ≡ count a
       by_parent None top =
-          sym ((x.stands.shown.groups.roots a inside top).level (λ at. none_is_not (sym x.calm.stepped ∙ at)))
+          sym ((x.stands.shown.groups.roots a inside top).level (λ at. absurd (none_is_not (sym x.calm.stepped ∙ at))))
           ∙ sym (roots_are a below top)
       by_parent (Some p) up =
           let (first, number, children, here, less, within) =
@@ -209,7 +206,7 @@ module _ (keys : Keys) (lawful : AreKeys keys) (levels : ℕ) (config : Config) 
               layer_first-zero lines,
               layer_count-zero lines,
             )
-        | inr over ↦ none_is_not (sym none ∙ children_of-above lines layers a _ refl over)
+        | inr over ↦ absurd (none_is_not (sym none ∙ children_of-above lines layers a _ refl over))
       ]
 
   -- A block's line is the play's.

@@ -9,6 +9,7 @@ use Rattle.asc_base.specs.Has.{Has}
 use Rattle.asc_base.specs.TreeShape.{layer_first, parent_of, children_of}
 use Rattle.asc_base.proofs.Families.{child_of_parent, parent_above, children_few}
 use Rattle.asc_base.proofs.Lookups.{find-has, without_first-has, promoted_first-some, promoted_first-none}
+use Rattle.asc_base.proofs.Lookups.{some_is, none_is_not}
 use Rattle.posmap_counters.specs.Counters.{Counters, counter_at, Change, Access, MoveChild, RenumberChild, block_of}
 use Rattle.posmap_counters.specs.Counters.{child_move, addresses_from, after, asked_changes, group_move, siblings}
 use Rattle.posmap_counters.specs.Counters.{is_among}
@@ -20,12 +21,6 @@ use Rattle.posmap_lookaside.specs.Walk.{accesses_of_all, visit, refill, walk_dow
 use Rattle.posmap_lookaside.specs.Walk.{IsMapBlock, IsHeldList}
 use Rattle.posmap_lookaside.proofs.WalkLaws.{missing-has}
 
-none_some : {A : Type 0} {a : A} → None ≡ Some a → ⊥
-none_some e = cc
-
-some_is : {A : Type 0} {a b : A} → Some a ≡ Some b → a ≡ b
-some_is e = cc
-
 -- what stands in the first ones of a list, at a place of it, or where it is used, stands in the list
 take-has : (n : ℕ) (xs : List ℕ) (x : ℕ) → Has x (take n xs) → Has x xs
 take-has zero xs x has = absurd has
@@ -34,7 +29,7 @@ take-has (suc n) (y ∷ xs) x (inl same) = inl same
 take-has (suc n) (y ∷ xs) x (inr later) = inr (take-has n xs x later)
 
 get-has : (n : ℕ) (xs : List ℕ) (x : ℕ) → slice_get xs n ≡ Some x → Has x xs
-get-has n [] x at = absurd (none_some at)
+get-has n [] x at = absurd (none_is_not at)
 get-has zero (y ∷ xs) x at = inl (sym (some_is at))
 get-has (suc n) (y ∷ xs) x at = inr (get-has n xs x at)
 
@@ -88,7 +83,7 @@ module _ (sizes : WalkSizes) where
     changes-inside purpose displaced (after sizes.lines sizes.layers counters (Access a)) cs low.1 maps,
   )
   changes-inside purpose displaced counters (MoveChild a ∷ cs) low maps = (
-    record { inside = low.0; displaced = λ last e. absurd (none_some e) },
+    record { inside = low.0; displaced = λ last e. absurd (none_is_not e) },
     changes-inside purpose displaced (after sizes.lines sizes.layers counters (MoveChild a)) cs low.1 maps,
   )
   changes-inside purpose displaced counters (RenumberChild a ∷ cs) low maps =
@@ -144,7 +139,7 @@ module _ (sizes : WalkSizes) where
       → AreInside (walk_down sizes line below chip).accesses
   unfolding walk_down
   down-inside line [] chip low maps held =
-      visit-inside Final None chip.held chip line low (λ last e. absurd (none_some e))
+      visit-inside Final None chip.held chip line low (λ last e. absurd (none_is_not e))
   down-inside line (a ∷ below) chip low maps held =
       let first : Walked = refill sizes chip a in
       inside-append first.accesses (walk_down sizes line below first.chip).accesses

@@ -6,6 +6,7 @@ use Rattle.asc_base.specs.Settings.{IsConfig}
 use Rattle.asc_base.specs.declared.block.Line.{Line}
 use Rattle.asc_base.specs.declared.settings.Config.{Config}
 use Rattle.asc_base.specs.declared.shape.Shape.{Shape}
+use Rattle.asc_base.proofs.Lookups.{none_is_not}
 use Rattle.asc_base.proofs.ShapeFacts.{IsLayered, shape_layered}
 use Rattle.bus_schedule.specs.Timetable.{public_of}
 use Rattle.data_cache.specs.Lines.{LineRequest, Fetch, Store}
@@ -47,9 +48,6 @@ use Rattle.oram_play.proofs.Found.{shown-walked}
 use Rattle.oram_play.proofs.PlayTurns.{request-played}
 use Rattle.oram_play.proofs.Turns.{fetch-takes, store-takes}
 use Rattle.oram_play.proofs.Waits.{wait-taken}
-
-none_some : {A : Type 0} {a : A} → None ≡ Some a → ⊥
-none_some e = cc
 
 -- What a request comes to in a play, and what the memory took and shows of it.
 record IsTurn (request : LineRequest) (now : Standing) (end : ℕ) (slots : List Slot) (lines : ℕ → Line)
@@ -105,8 +103,8 @@ module _ (keys : Keys) (lawful : AreKeys keys) (levels : ℕ) where
         let inside : a < keys.shape.lines = omega (arith, keys_lines) in
         let leaf = data_leaf keys lawful levels a inside in
         x.outside.each a (data_inside keys lawful levels a inside)
-        (λ has. none_some (sym leaf ∙ (x.stands.shown.groups.families a has).1))
-        (λ flying. none_some (sym x.calm.flight ∙ flying))
+        (λ has. none_is_not (sym leaf ∙ (x.stands.shown.groups.families a has).1))
+        (λ flying. none_is_not (sym x.calm.flight ∙ flying))
         ∙ ap (line_by x.ghost.count (x.ghost.data_lines a)) leaf ∙ x.stored a inside
 
     -- the slots of an answered request are the play's

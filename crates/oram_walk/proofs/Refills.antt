@@ -167,8 +167,10 @@ module _ (shape : Shape) (plb : ℕ) where
         s.counters_are a found (sym (inserted_room plb block held a e (apart_block a other)) ∙ at)
     other_counter (Some last) e a found other at =
         elim (eqb_tells a.0 last.address.0) [
-          | inl same ↦ absurd (none_is_not (sym (inserted_gone plb block last held held_fits e held_distinct held_absent)
-              ∙ ap (held_at (inserted plb block held)) (sym (at_number a last.address same.1)) ∙ at))
+          | inl same ↦
+              (let gone = inserted_gone plb block last held held_fits e held_distinct held_absent in
+              absurd (none_is_not (sym gone
+              ∙ ap (held_at (inserted plb block held)) (sym (at_number a last.address same.1)) ∙ at)))
           | inr kept ↦
               s.counters_are a found
               (sym (inserted_other plb block last held a held_fits e (apart_block a other) kept.1) ∙ at)

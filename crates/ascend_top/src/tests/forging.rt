@@ -215,9 +215,9 @@ const STORE: [u32; 13] = [
 const LINE: &str = "run elf=a key=k output=o size=4096 sets=1 ways=1 first=0";
 
 /// Runs `STORE` over a memory, and compares the output, the number of altered replies, and the first bytes that the
-/// fetches of line 1 were answered: those of the first store, the load, the second store and the write. There are twelve
-/// slots, of a position-map block, the store of line 0, two stores of line 1 and four fetches of either line; the last
-/// one ends at 256 + 11 * 752 + 496, and then come two steps of one cycle and one of ten.
+/// fetches of line 1 were answered: those of the first store, the load, the second store and the write. There are
+/// twelve slots, of a position-map block, the store of line 0, two stores of line 1 and four fetches of either line;
+/// the last one ends at 256 + 11 * 752 + 496, and then come two steps of one cycle and one of ten.
 fn store_over<R: Abort, M: UntrustedMemory>(
     rt: &R,
     alloc: Global,

@@ -146,8 +146,8 @@ fn made_programs_run(rt: HostRuntime) -> Result<(), Fail> {
     Ok(())
 }
 
-/// The greatest program. Its output is the last hash of its data words from 7 on, and the report's numbers are those of a
-/// model in Python of cache, walk, timetable and learner.
+/// The greatest program. Its output is the last hash of its data words from 7 on, and the report's numbers are those of
+/// a model in Python of cache, walk, timetable and learner.
 #[test]
 fn the_greatest_program_runs(rt: HostRuntime) -> Result<(), Fail> {
     let alloc = rt.alloc();

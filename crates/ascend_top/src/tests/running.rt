@@ -302,8 +302,8 @@ fn end_at(number: u64) -> u64
     }
 }
 
-/// Runs `LOAD` with words behind those of `SMALL` over a memory, and compares the status, the report, and how many moves
-/// the tap noted.
+/// Runs `LOAD` with words behind those of `SMALL` over a memory, and compares the status, the report, and how many
+/// moves the tap noted.
 fn load_over<R: Abort, M: UntrustedMemory>(
     rt: &R,
     alloc: Global,
@@ -354,8 +354,8 @@ fn each_move_fails_in_turn(rt: HostRuntime) -> Result<(), Fail> {
     Ok(())
 }
 
-/// One block at the top above two: line 0's parent displaces it after the second slot, which ends at 1,504, and there is
-/// no room for it.
+/// One block at the top above two: line 0's parent displaces it after the second slot, which ends at 1,504, and there
+/// is no room for it.
 #[test]
 fn a_displaced_block_finds_no_room(rt: HostRuntime) -> Result<(), Fail> {
     let alloc = rt.alloc();
