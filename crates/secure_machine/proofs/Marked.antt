@@ -27,8 +27,8 @@ module _ {M W L : Type 0} (memory_of : M → MemoryState) (tap_of : W → TapSta
       (ends.0, ends.1, ends.2, unmarked (k (ends.0)) (ends.1) t outcome (ends.3))
 
   -- where it is stopped, a stop is kept, and those tell it
-  kept_stop : {B A : Type 0} (plan : Plan LineRequest (List ℕ) B A) (s t : TimedLines M W L) (mark : Stopped) (left : B)
-      → Stops MarkedLines plan s t mark left
+  pub kept_stop : {B A : Type 0} (plan : Plan LineRequest (List ℕ) B A) (s t : TimedLines M W L) (mark : Stopped)
+      (left : B) → Stops MarkedLines plan s t mark left
       → (stop : Stop) × (t.oram.now.stop ≡ Some stop)
       × Stops (LinesStep memory_of tap_of leaf_of levels_of) plan s t stop left
   kept_stop (Done a) s t mark left stops = absurd stops

@@ -1,4 +1,5 @@
 pub mod Goes
+pub mod Halting
 pub mod Same
 pub mod Marked
 pub mod Finish

@@ -36,7 +36,7 @@ ghost use Rattle.secure_machine.specs.FlatEnds.{HaltsFlat, HaltsRun, IsFlat, end
 ghost use Rattle.secure_machine.specs.Refines.{IsForged, StandFor, Knows, StopUnblamed, EndsUnblamed, CauseUnblamed};
 ghost use Rattle.secure_machine.specs.Refines.{DrewOnce};
 ghost use Rattle.std.specs.Prelude.{◌≡◌, ◌<◌, ◌*◌, ◌%◌, ℕ, Some, OnOk, OnErr, IfOk, IfErr, MatchResult, vec_len};
-ghost use Rattle.std.specs.Prelude.{length};
+ghost use Rattle.std.specs.Prelude.{length, IsSome};
 ghost use Rattle.std.specs.List.{count_by};
 ghost use Rattle.data_cache.specs.Contents.{CacheBelow};
 ghost use Rattle.elf_loader.specs.Memory.{IsImage};
@@ -45,6 +45,7 @@ ghost use Rattle.rate_enforcer.specs.PortStep.{PortState};
 ghost use Rattle.secure_machine.specs.declared.machine.Cause.TheVariants.{Ends, Stops};
 ghost use Rattle.secure_machine.specs.Finish.{Halts, HaltsLater, Settled, Short};
 ghost use Rattle.secure_machine.specs.Goes.{Breaks};
+ghost use Rattle.secure_machine.specs.Halting.{IsEndOf, OfEnd, OfStop};
 ghost use Rattle.secure_machine.specs.Judged.{CauseReplayed, EndsReplayed, WantsReplayed};
 ghost use Rattle.secure_machine.specs.Runs.{Onwards, BreaksOff, HaltsOver, Ready};
 ghost use Rattle.secure_machine.specs.Same.{IsSameLines, keys_in, oram_over, timed_of};
@@ -63,7 +64,7 @@ use data_cache::{Cache, step_cached};
 use elf_loader::Image;
 use leaf_function::LeafFn;
 use oram_frontend::Oram;
-use rv32_core::{Core, Done, Ended, Files};
+use rv32_core::{Core, Done, Ended, Files, TrapKind};
 
 /// Why no more instructions come.
 #[derive(Clone, Copy)]
@@ -77,6 +78,27 @@ pub(crate) enum Cause {
     },
     /// A line was stopped.
     Stops(Stop),
+}
+
+/// How a run ends at an instruction. The numbers of its end are in its lines, and so is a stop: answers stay small.
+#[derive(Clone, Copy)]
+pub(crate) enum Halt {
+    /// No time was left for it, and it wasn't begun.
+    TimeUp,
+    /// It exited.
+    Exit {
+        /// The program's status.
+        status: u8,
+    },
+    /// It trapped.
+    Trap {
+        /// Why.
+        kind: TrapKind,
+        /// Its address.
+        pc: u32,
+    },
+    /// One of its lines was stopped.
+    Stop,
 }
 
 /// Where a run came to its end: the instructions that are finished, and the clock.
@@ -244,7 +266,7 @@ fn step<M: UntrustedMemory, W: Watch, L: LeafFn>(
     cache: &mut Cache,
     lines: &mut TimedLines<'_, '_, M, W, L>,
     base: u32,
-) -> Result<Done, Stop>
+) -> Result<Done, Stopped>
     requires base { base ≡ core.old.base }
     requires aligned { base % 64 ≡ 0 }
     requires size { core.old.size ≡ 64 * lines.old.count }
@@ -256,7 +278,9 @@ fn step<M: UntrustedMemory, W: Watch, L: LeafFn>(
     ensures forged { AreKeys (keys_in L.leaf_of lines.old) → IsForged M.state W.state L.leaf_of L.levels lines.old
         → IsForged M.state W.state L.leaf_of L.levels lines.new }
     ensures onwards { OnOk result (Onwards M.state W.state L.leaf_of L.levels lines.old lines.new) }
-    ensures breaks { IfErr result (λ stop. BreaksOff M.state W.state L.leaf_of L.levels stop lines.old lines.new) }
+    ensures stops { OnErr result (IsSome lines.new.oram.now.stop) }
+    ensures breaks { OnErr result (OfStop lines.new (λ stop.
+        BreaksOff M.state W.state L.leaf_of L.levels stop lines.old lines.new)) }
     ensures below { OnOk result (CacheBelow lines.new.count cache.new) }
     ensures refines { (memory : List ℕ) → AreKeys (keys_in L.leaf_of lines.old) → IsCore core.old
         → Knows M.state W.state L.leaf_of L.levels cache.old memory lines.old
@@ -270,7 +294,7 @@ fn step<M: UntrustedMemory, W: Watch, L: LeafFn>(
         × (machine_of core.new files.new ≡ machine_of core.old files.old)) }
     ensures honest { (memory : List ℕ) → AreKeys (keys_in L.leaf_of lines.old)
         → Knows M.state W.state L.leaf_of L.levels cache.old memory lines.old
-        → IfErr result (λ stop. StopUnblamed M.state W.state L.leaf_of L.levels stop lines.new) }
+        → OnErr result (OfStop lines.new (λ stop. StopUnblamed M.state W.state L.leaf_of L.levels stop lines.new)) }
     ensures fed { (ways : ℕ) (lists : Lines) → IsCore core.old → StandsAs lines.old.count ways cache.old lists
         → MatchResult result
         (λ done. IsFedStep W.state ways (machine_of core.old files.old) lists lines.old lines.new cache.new
@@ -286,37 +310,36 @@ fn step<M: UntrustedMemory, W: Watch, L: LeafFn>(
         → MatchResult result
         (λ done. LeavesInPlay M.state W.state L.leaf_of L.levels config whole before left lines.old.clock
         (machine_of core.new files.new) cache.new done.ended lines.new)
-        (λ stop. StoppedInPlay M.state W.state L.leaf_of L.levels config whole before lines.old.clock stop lines.new) }
+        (λ _. OfStop lines.new (λ stop. StoppedInPlay M.state W.state L.leaf_of L.levels config whole before
+        lines.old.clock stop lines.new)) }
     ensures spends { (config : Config) (levels costs ways : ℕ) (lists : Lines) → IsCore core.old
         → StandsAs lines.old.count ways cache.old lists → lines.old.clock < config.time
         → ClockSpent M.state W.state L.levels config levels costs lines.old
         → MatchResult result
         (λ done. ClockSpent M.state W.state L.levels config levels (costs + done.cost) lines.new
         × (lines.old.clock + done.cost ≤ lines.new.clock))
-        (λ stop. StopSpent M.state W.state L.levels config levels costs lines.old.clock stop lines.new) }
+        (λ _. OfStop lines.new (λ stop. StopSpent M.state W.state L.levels config levels costs lines.old.clock stop
+        lines.new)) }
 {
     let done = match step_cached(core, files, base, cache, lines) {
         Ok(done) => done,
-        Err(Stopped) => return Err(lines.stopped()),
+        Err(Stopped) => return Err(Stopped),
     };
     lines.spend(done.cost);
     Ok(done)
 }
 
-/// One instruction, where time is left, after so many.
+/// One instruction, where time is left. What is said of the run's end holds after however many came before it.
 fn instruction<M: UntrustedMemory, W: Watch, L: LeafFn>(
     core: &mut Core,
     files: &mut Files,
     cache: &mut Cache,
     lines: &mut TimedLines<'_, '_, M, W, L>,
     base: u32,
-    budget: u64,
-    before: u64,
-) -> Result<(), Halted>
+) -> Result<(), Halt>
     requires base { base ≡ core.old.base }
     requires aligned { base % 64 ≡ 0 }
     requires size { core.old.size ≡ 64 * lines.old.count }
-    requires few { before < budget }
     requires ready { Ready M.state W.state L.levels lines.old }
     requires below { CacheBelow lines.old.count cache.old }
     ensures same_base { core.new.base ≡ core.old.base }
@@ -325,10 +348,12 @@ fn instruction<M: UntrustedMemory, W: Watch, L: LeafFn>(
     ensures forged { AreKeys (keys_in L.leaf_of lines.old) → IsForged M.state W.state L.leaf_of L.levels lines.old
         → IsForged M.state W.state L.leaf_of L.levels lines.new }
     ensures onwards { OnOk result (Onwards M.state W.state L.leaf_of L.levels lines.old lines.new) }
-    ensures halts { IfErr result (λ halted.
-        HaltsOver M.state W.state L.leaf_of L.levels budget halted lines.old lines.new) }
+    ensures stops { IfErr result (λ halt. halt ≡ Halt.Stop → IsSome lines.new.oram.now.stop) }
+    ensures halts { IfErr result (λ halt. (before budget : ℕ) → before < budget
+        → OfEnd halt before lines.old.clock lines.new (λ halted.
+        HaltsOver M.state W.state L.leaf_of L.levels budget halted lines.old lines.new)) }
     ensures below { OnOk result (CacheBelow lines.new.count cache.new) }
-    ensures refines { (memory : List ℕ) → AreKeys (keys_in L.leaf_of lines.old) → IsCore core.old
+    ensures refines { (before : ℕ) (memory : List ℕ) → AreKeys (keys_in L.leaf_of lines.old) → IsCore core.old
         → Knows M.state W.state L.leaf_of L.levels cache.old memory lines.old
         → MatchResult result
         (λ _. IsForged M.state W.state L.leaf_of L.levels lines.new
@@ -336,18 +361,21 @@ fn instruction<M: UntrustedMemory, W: Watch, L: LeafFn>(
         × (flat_step (machine_of core.old files.old) memory
         ≡ record { machine = machine_of core.new files.new; memory = now; done = done })
         × StandFor M.state W.state L.leaf_of L.levels cache.new now lines.new))
-        (λ halted. IsForged M.state W.state L.leaf_of L.levels lines.new
-        ⊎ HaltsFlat before (machine_of core.old files.old) memory halted (machine_of core.new files.new)) }
+        (λ halt. OfEnd halt before lines.old.clock lines.new (λ halted.
+        IsForged M.state W.state L.leaf_of L.levels lines.new
+        ⊎ HaltsFlat before (machine_of core.old files.old) memory halted (machine_of core.new files.new))) }
     ensures honest { (memory : List ℕ) → AreKeys (keys_in L.leaf_of lines.old) → IsCore core.old
         → Knows M.state W.state L.leaf_of L.levels cache.old memory lines.old
-        → IfErr result (λ halted. CauseUnblamed M.state W.state L.leaf_of L.levels halted.cause lines.new) }
-    ensures fed { (ways : ℕ) (lists : Lines) → IsCore core.old → StandsAs lines.old.count ways cache.old lists
+        → IfErr result (λ halt. (before : ℕ) → OfEnd halt before lines.old.clock lines.new (λ halted.
+        CauseUnblamed M.state W.state L.leaf_of L.levels halted.cause lines.new)) }
+    ensures fed { (before ways : ℕ) (lists : Lines) → IsCore core.old → StandsAs lines.old.count ways cache.old lists
         → MatchResult result
         (λ _. (done : DoneValue) × (done.ended ≡ No) × IsFedStep W.state ways (machine_of core.old files.old) lists
         lines.old lines.new cache.new (machine_of core.new files.new) done)
-        (λ halted. HaltsFed W.state ways before (machine_of core.old files.old) lists lines.old lines.new halted
-        (machine_of core.new files.new)) }
-    ensures plays { (config : Config) (whole : Play) (left : ℕ) → AreKeys (keys_in L.leaf_of lines.old)
+        (λ halt. OfEnd halt before lines.old.clock lines.new (λ halted.
+        HaltsFed W.state ways before (machine_of core.old files.old) lists lines.old lines.new halted
+        (machine_of core.new files.new))) }
+    ensures plays { (config : Config) (whole : Play) (before left : ℕ) → AreKeys (keys_in L.leaf_of lines.old)
         → CallsInPlay M.state W.state L.leaf_of L.levels config lines.old → IsConfig config → IsCore core.old
         → InRun M.state W.state L.leaf_of L.levels config whole before (suc left) (machine_of core.old files.old)
         cache.old
@@ -355,38 +383,60 @@ fn instruction<M: UntrustedMemory, W: Watch, L: LeafFn>(
         → MatchResult result
         (λ _. InRun M.state W.state L.leaf_of L.levels config whole (before + 1) left (machine_of core.new files.new)
         cache.new lines.new)
-        (λ halted. HaltsInPlay M.state W.state L.leaf_of L.levels config whole halted lines.new) }
-    ensures spends { (config : Config) (levels costs ways : ℕ) (lists : Lines) → IsCore core.old
+        (λ halt. OfEnd halt before lines.old.clock lines.new (λ halted.
+        HaltsInPlay M.state W.state L.leaf_of L.levels config whole halted lines.new)) }
+    ensures spends { (config : Config) (levels costs before ways : ℕ) (lists : Lines) → IsCore core.old
         → StandsAs lines.old.count ways cache.old lists
         → ClockSpent M.state W.state L.levels config levels costs lines.old
         → MatchResult result
         (λ _. (done : DoneValue) × (done.ended ≡ No) × IsFedStep W.state ways (machine_of core.old files.old) lists
         lines.old lines.new cache.new (machine_of core.new files.new) done
         × ClockSpent M.state W.state L.levels config levels (costs + done.cost) lines.new)
-        (λ halted. HaltsSpent M.state W.state L.levels config levels costs ways before (machine_of core.old files.old)
-        lists lines.old lines.new halted) }
+        (λ halt. OfEnd halt before lines.old.clock lines.new (λ halted.
+        HaltsSpent M.state W.state L.levels config levels costs ways before (machine_of core.old files.old) lists
+        lines.old lines.new halted)) }
 {
     let time = lines.time();
     let start = lines.clock;
     if start >= time {
-        return Err(ended(before, start, Ending::TimeUp { at: start }, time));
+        return Err(Halt::TimeUp);
     }
     let done = match step(core, files, cache, lines, base) {
         Ok(done) => done,
-        Err(stop) => return Err(stopped(before, start, stop)),
+        Err(Stopped) => return Err(Halt::Stop),
     };
     match done.ended {
-        Ended::No => return Ok(()), // and no copy of what the other arms give
-        Ended::Exit { status } => {
+        Ended::No => Ok(()),
+        Ended::Exit { status } => Err(Halt::Exit { status }),
+        Ended::Trap { kind, pc } => Err(Halt::Trap { kind, pc }),
+    }
+}
+
+/// The run's end, where an instruction after so many, begun at a clock, wasn't followed by another.
+#[inline(never)]
+fn halted_by<M: UntrustedMemory, W: Watch, L: LeafFn>(
+    halt: Halt,
+    before: u64,
+    start: u64,
+    lines: &TimedLines<'_, '_, M, W, L>,
+) -> Halted
+    requires few { before + 1 < 2 ^ 64 }
+    requires stops { halt ≡ Halt.Stop → IsSome lines.now.oram.now.stop }
+    ensures { IsEndOf halt before start lines.now result }
+{
+    match halt {
+        Halt::TimeUp => ended(before, start, Ending::TimeUp { at: start }, lines.time()),
+        Halt::Exit { status } => {
             let cycles = lines.clock;
-            Err(ended(
+            ended(
                 before + 1,
                 cycles,
                 Ending::Exit { status },
-                cycles.min(time),
-            ))
+                cycles.min(lines.time()),
+            )
         }
-        Ended::Trap { kind, pc } => Err(ended(before, start, Ending::Trap { kind, pc }, start)),
+        Halt::Trap { kind, pc } => ended(before, start, Ending::Trap { kind, pc }, start),
+        Halt::Stop => stopped(before, start, lines.stopped()),
     }
 }
 
@@ -437,9 +487,10 @@ fn play<M: UntrustedMemory, W: Watch, L: LeafFn>(
         Err(halted) => return halted,
     }
     for before in 0..budget {
-        match instruction(core, files, cache, lines, base, budget, before) {
+        let start = lines.clock;
+        match instruction(core, files, cache, lines, base) {
             Ok(()) => {}
-            Err(halted) => return halted,
+            Err(halt) => return halted_by(halt, before, start, lines),
         }
     }
     let cycles = lines.clock;

@@ -27,20 +27,22 @@ returns-in-Err-instruction g c =
     let bytes = loaded c.args.image.now.bytes.items c.args.image.now.marked.items in
     record {
       halts = halts_later g.M.UntrustedMemory.state g.W.Watch.state g.L.LeafFn.leaf_of g.L.LeafFn.levels c.args.budget
-          c.in-Err-instruction.halted c.args.lines.now c.loop-before.lines c.instruction.new.lines
-          c.loop-before.invariant.onwards c.in-Err-instruction.ensures.halts;
+          c.halted_by.result c.args.lines.now c.loop-before.lines c.instruction.new.lines
+          c.loop-before.invariant.onwards (c.in-Err-instruction.ensures.halts c.loop-before.before c.args.budget
+          c.loop-before-test.true c.halted_by.result c.halted_by.ensures);
       refines = λ memory lawful core known.
           let lawful_now = subst AreKeys (sym (keys_same g.M.UntrustedMemory.state g.W.Watch.state g.L.LeafFn.leaf_of
           g.L.LeafFn.levels c.args.lines.now c.loop-before.lines c.loop-before.invariant.onwards.same)) lawful in
           elim (c.loop-before.invariant.refines memory lawful core known) [
             | inl forged ↦ inl (c.instruction.ensures.forged lawful_now forged)
-            | inr (now, reaches, stands) ↦ elim (c.in-Err-instruction.ensures.refines now lawful_now
-                (c.loop-before.invariant.core core) (inr stands)) [
+            | inr (now, reaches, stands) ↦ elim (c.in-Err-instruction.ensures.refines
+                c.loop-before.before now lawful_now (c.loop-before.invariant.core core) (inr stands)
+                c.halted_by.result c.halted_by.ensures) [
                   | inl forged ↦ inl forged
                   | inr flat ↦ inr (halts_run c.loop-before.before machine
                       (machine_of c.loop-before.core c.loop-before.files)
                       (machine_of c.instruction.new.core c.instruction.new.files) (bytes memory) now
-                      c.in-Err-instruction.halted reaches flat)
+                      c.halted_by.result reaches flat)
                 ]
           ];
       honest = λ memory lawful core known.
@@ -48,9 +50,10 @@ returns-in-Err-instruction g c =
           g.L.LeafFn.levels c.args.lines.now c.loop-before.lines c.loop-before.invariant.onwards.same)) lawful in
           elim (c.loop-before.invariant.refines memory lawful core known) [
             | inl forged ↦ c.in-Err-instruction.ensures.honest memory lawful_now (c.loop-before.invariant.core core)
-                (inl forged)
+                (inl forged) c.loop-before.before c.halted_by.result c.halted_by.ensures
             | inr (now, reaches, stands) ↦ c.in-Err-instruction.ensures.honest now lawful_now
-                (c.loop-before.invariant.core core) (inr stands)
+                (c.loop-before.invariant.core core) (inr stands) c.loop-before.before c.halted_by.result
+                c.halted_by.ensures
           ];
       fed = λ ways sets core stands.
           let started = over_loaded ways c.args.image.now sets in
@@ -58,8 +61,9 @@ returns-in-Err-instruction g c =
           fed_halts g.W.Watch.state ways c.loop-before.before machine
           (machine_of c.loop-before.core c.loop-before.files)
           (machine_of c.instruction.new.core c.instruction.new.files) started c.args.lines.now c.loop-before.lines
-          c.instruction.new.lines c.loop-before.cache c.in-Err-instruction.halted first
-          (c.in-Err-instruction.ensures.fed ways (first.1) (c.loop-before.invariant.core core) (first.3));
+          c.instruction.new.lines c.loop-before.cache c.halted_by.result first
+          (c.in-Err-instruction.ensures.fed c.loop-before.before ways (first.1) (c.loop-before.invariant.core core)
+          (first.3) c.halted_by.result c.halted_by.ensures);
       plays = λ config whole lawful calls is_config core budget known.
           let lawful_now = subst AreKeys (sym (keys_same g.M.UntrustedMemory.state g.W.Watch.state g.L.LeafFn.leaf_of
           g.L.LeafFn.levels c.args.lines.now c.loop-before.lines c.loop-before.invariant.onwards.same)) lawful in
@@ -68,18 +72,19 @@ returns-in-Err-instruction g c =
           in
           let left : ℕ = c.args.budget - c.loop-before.before - 1 in
           let sum : c.loop-before.before + suc left ≡ c.args.budget = omega (arith, c.loop-before-test.true) in
-          c.in-Err-instruction.ensures.plays config whole left lawful_now calls_now is_config
+          c.in-Err-instruction.ensures.plays config whole c.loop-before.before left lawful_now calls_now is_config
           (c.loop-before.invariant.core core)
-          (c.loop-before.invariant.plays config whole (suc left) lawful calls is_config core budget known sum);
+          (c.loop-before.invariant.plays config whole (suc left) lawful calls is_config core budget known sum)
+          c.halted_by.result c.halted_by.ensures;
       spends = λ config levels costs ways sets core stands low known.
           let all : ℕ = costs + length c.args.image.now.marked.items in
           let first = c.loop-before.invariant.spends config levels costs ways sets core stands low known in
           spent_halts g.M.UntrustedMemory.state g.W.Watch.state g.L.LeafFn.levels config levels all ways
           c.loop-before.before machine (machine_of c.loop-before.core c.loop-before.files)
           (over_loaded ways c.args.image.now sets) c.args.lines.now c.loop-before.lines c.instruction.new.lines
-          c.loop-before.cache c.in-Err-instruction.halted first
-          (c.in-Err-instruction.ensures.spends config levels (all + first.total) ways first.now
-          (c.loop-before.invariant.core core) first.stands first.spent);
+          c.loop-before.cache c.halted_by.result first
+          (c.in-Err-instruction.ensures.spends config levels (all + first.total) c.loop-before.before ways first.now
+          (c.loop-before.invariant.core core) first.stands first.spent c.halted_by.result c.halted_by.ensures);
     }
 
 pub loop-before-preserved : goal.loop-before-preserved
@@ -100,8 +105,8 @@ loop-before-preserved g c =
           g.L.LeafFn.levels c.args.lines.now c.loop-before.lines c.loop-before.invariant.onwards.same)) lawful in
           elim (c.loop-before.invariant.refines memory lawful core known) [
             | inl forged ↦ inl (c.instruction.ensures.forged lawful_now forged)
-            | inr (now, reaches, stands) ↦ elim (c.in-Ok-instruction.ensures.refines now lawful_now
-                (c.loop-before.invariant.core core) (inr stands)) [
+            | inr (now, reaches, stands) ↦ elim (c.in-Ok-instruction.ensures.refines
+                c.loop-before.before now lawful_now (c.loop-before.invariant.core core) (inr stands)) [
                   | inl forged ↦ inl forged
                   | inr (later, done, going, step, after) ↦ inr (
                     later,
@@ -115,8 +120,8 @@ loop-before-preserved g c =
       fed = λ ways sets core stands.
           let started = over_loaded ways c.args.image.now sets in
           let first = c.loop-before.invariant.fed ways sets core stands in
-          let (done, going, step) = c.in-Ok-instruction.ensures.fed ways (first.1) (c.loop-before.invariant.core core)
-          (first.3) in
+          let (done, going, step) = c.in-Ok-instruction.ensures.fed c.loop-before.before ways (first.1)
+          (c.loop-before.invariant.core core) (first.3) in
           fed_more g.W.Watch.state ways c.loop-before.before machine (machine_of c.loop-before.core c.loop-before.files)
           (machine_of c.instruction.new.core c.instruction.new.files) started c.args.lines.now c.loop-before.lines
           c.instruction.new.lines c.loop-before.cache c.instruction.new.cache done going first step;
@@ -127,14 +132,14 @@ loop-before-preserved g c =
           (λ z n. CallsPlay z n config) c.args.lines.now c.loop-before.lines c.loop-before.invariant.onwards.same calls
           in
           let before : c.loop-before.before + suc left ≡ c.args.budget = omega (arith, sum) in
-          c.in-Ok-instruction.ensures.plays config whole left lawful_now calls_now is_config
+          c.in-Ok-instruction.ensures.plays config whole c.loop-before.before left lawful_now calls_now is_config
           (c.loop-before.invariant.core core)
           (c.loop-before.invariant.plays config whole (suc left) lawful calls is_config core budget known before);
       spends = λ config levels costs ways sets core stands low known.
           let all : ℕ = costs + length c.args.image.now.marked.items in
           let first = c.loop-before.invariant.spends config levels costs ways sets core stands low known in
-          let (done, going, step, spent) = c.in-Ok-instruction.ensures.spends config levels (all + first.total) ways
-          first.now (c.loop-before.invariant.core core) first.stands first.spent in
+          let (done, going, step, spent) = c.in-Ok-instruction.ensures.spends config levels (all + first.total)
+          c.loop-before.before ways first.now (c.loop-before.invariant.core core) first.stands first.spent in
           spent_more g.M.UntrustedMemory.state g.W.Watch.state g.L.LeafFn.levels config levels all ways
           c.loop-before.before machine (machine_of c.loop-before.core c.loop-before.files)
           (machine_of c.instruction.new.core c.instruction.new.files) (over_loaded ways c.args.image.now sets)

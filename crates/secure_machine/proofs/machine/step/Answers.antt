@@ -1,4 +1,5 @@
-use Rattle.std.proofs.Common.{◌*◌, ◌∙◌, ap, sym}
+use Rattle.std.proofs.Common.{◌≡◌, ◌*◌, ◌∙◌, Some, ap, sym}
+use Rattle.asc_base.specs.declared.stop.Stop.{Stop}
 use Rattle.fed_run.proofs.Left.{step_left}
 use Rattle.secure_machine.proofs.Refining.{stop_forged, stop_unblamed, chain_forged, instruction_core}
 use Rattle.secure_machine.proofs.Refining.{instruction_known, lines_in, spent_is, ForgedBy, SteppedBy}
@@ -11,11 +12,11 @@ use Rattle.secure_machine.proofs.LineChains.{LinesStep, chain_goes, chain_breaks
 use Rattle.secure_machine.proofs.FedChains.{instruction_fed, instruction_starved, spent_fed}
 use Rattle.secure_machine.proofs.Playing.{instruction_in_play, instruction_stopped}
 use Rattle.secure_machine.proofs.SpentChains.{chain_stop_spent, instruction_spends}
-use Rattle.secure_machine.proofs.Marked.{unmarked, is_kept, stopped_with}
+use Rattle.secure_machine.proofs.Marked.{unmarked, kept_stop, is_kept, stopped_with}
 use Rattle.secure_machine.proofs.machine.step.Given as given
 use Rattle.secure_machine.proofs.machine.step.Goals as goal
 
--- the plan of the instruction over the lines ended, or was stopped with what they keep
+-- the plan of the instruction over the lines ended
 ends : (g : given.Over) (c : goal.After-spend g)
     → Ends (LinesStep g.M.UntrustedMemory.state g.W.Watch.state g.L.LeafFn.leaf_of g.L.LeafFn.levels)
     (through (cache_access c.args.core.now.base) (step_plan (machine_of c.args.core.now c.args.files.now))
@@ -28,32 +29,43 @@ ends g c =
     (c.step_cached.new.cache, (machine_of c.step_cached.new.core c.step_cached.new.files, c.in-Ok.done))
     c.in-Ok.ensures.ok
 
-stops : (g : given.Over) (c : goal.After-stopped g)
+-- or it was stopped with the stop that they keep
+stops : (g : given.Over) (c : goal.In-Err g) (stop : Stop) → c.step_cached.new.store.oram.now.stop ≡ Some stop
     → Stops (LinesStep g.M.UntrustedMemory.state g.W.Watch.state g.L.LeafFn.leaf_of g.L.LeafFn.levels)
     (through (cache_access c.args.core.now.base) (step_plan (machine_of c.args.core.now c.args.files.now))
-    c.args.cache.now) c.args.lines.now c.step_cached.new.store c.stopped.result
+    c.args.cache.now) c.args.lines.now c.step_cached.new.store stop
     (c.step_cached.new.cache, machine_of c.step_cached.new.core c.step_cached.new.files)
-stops g c =
+stops g c stop is =
     stopped_with g.M.UntrustedMemory.state g.W.Watch.state g.L.LeafFn.leaf_of g.L.LeafFn.levels
     (through (cache_access c.args.core.now.base) (step_plan (machine_of c.args.core.now c.args.files.now))
     c.args.cache.now) c.args.lines.now c.step_cached.new.store c.in-Err.field-0
-    (c.step_cached.new.cache, machine_of c.step_cached.new.core c.step_cached.new.files) c.stopped.result
-    c.stopped.ensures c.in-Err.ensures.err
+    (c.step_cached.new.cache, machine_of c.step_cached.new.core c.step_cached.new.files) stop is c.in-Err.ensures.err
 
-pub stopped-requires : goal.stopped-requires
-stopped-requires g c =
+kept : (g : given.Over) (c : goal.In-Err g) → (stop : Stop) × (c.step_cached.new.store.oram.now.stop ≡ Some stop)
+    × Stops (LinesStep g.M.UntrustedMemory.state g.W.Watch.state g.L.LeafFn.leaf_of g.L.LeafFn.levels)
+    (through (cache_access c.args.core.now.base) (step_plan (machine_of c.args.core.now c.args.files.now))
+    c.args.cache.now) c.args.lines.now c.step_cached.new.store stop
+    (c.step_cached.new.cache, machine_of c.step_cached.new.core c.step_cached.new.files)
+kept g c =
+    kept_stop g.M.UntrustedMemory.state g.W.Watch.state g.L.LeafFn.leaf_of g.L.LeafFn.levels
+    (through (cache_access c.args.core.now.base) (step_plan (machine_of c.args.core.now c.args.files.now))
+    c.args.cache.now) c.args.lines.now c.step_cached.new.store c.in-Err.field-0
+    (c.step_cached.new.cache, machine_of c.step_cached.new.core c.step_cached.new.files) c.in-Err.ensures.err
+
+pub returns-in-Err-clause-stops : goal.returns-in-Err-clause-stops
+returns-in-Err-clause-stops g c =
     is_kept g.M.UntrustedMemory.state g.W.Watch.state g.L.LeafFn.leaf_of g.L.LeafFn.levels
     (through (cache_access c.args.core.now.base) (step_plan (machine_of c.args.core.now c.args.files.now))
     c.args.cache.now) c.args.lines.now c.step_cached.new.store c.in-Err.field-0
     (c.step_cached.new.cache, machine_of c.step_cached.new.core c.step_cached.new.files) c.in-Err.ensures.err
 
 pub returns-in-Err-clause-breaks : goal.returns-in-Err-clause-breaks
-returns-in-Err-clause-breaks g c =
+returns-in-Err-clause-breaks g c stop is =
     chain_breaks g.M.UntrustedMemory.state g.W.Watch.state g.L.LeafFn.leaf_of g.L.LeafFn.levels
     (through (cache_access c.args.core.now.base) (step_plan (machine_of c.args.core.now c.args.files.now))
-    c.args.cache.now) c.args.lines.now c.step_cached.new.store c.stopped.result
+    c.args.cache.now) c.args.lines.now c.step_cached.new.store stop
     (c.step_cached.new.cache, machine_of c.step_cached.new.core c.step_cached.new.files) c.requires.ready
-    (stops g c)
+    (stops g c stop is)
 
 pub returns-clause-onwards : goal.returns-clause-onwards
 returns-clause-onwards g c =
@@ -68,16 +80,16 @@ returns-clause-onwards g c =
     (sym c.spend.ensures.fetches) c.spend.ensures.ready
 
 pub returns-in-Err-clause-refines : goal.returns-in-Err-clause-refines
-returns-in-Err-clause-refines g c memory lawful core known = (
+returns-in-Err-clause-refines g c memory lawful core known = let (stop, is, stops) = kept g c in (
   stop_forged g.M.UntrustedMemory.state g.W.Watch.state g.L.LeafFn.leaf_of g.L.LeafFn.levels
       (through (cache_access c.args.core.now.base) (step_plan (machine_of c.args.core.now c.args.files.now))
-      c.args.cache.now) c.args.lines.now c.step_cached.new.store c.stopped.result
+      c.args.cache.now) c.args.lines.now c.step_cached.new.store stop
       (c.step_cached.new.cache, machine_of c.step_cached.new.core c.step_cached.new.files) lawful c.requires.ready
-      (stops g c),
+      stops,
   step_left (LinesStep g.M.UntrustedMemory.state g.W.Watch.state g.L.LeafFn.leaf_of g.L.LeafFn.levels)
       c.args.core.now.base (machine_of c.args.core.now c.args.files.now) c.args.cache.now c.args.lines.now
-      c.step_cached.new.store c.stopped.result
-      (c.step_cached.new.cache, machine_of c.step_cached.new.core c.step_cached.new.files) (stops g c),
+      c.step_cached.new.store stop
+      (c.step_cached.new.cache, machine_of c.step_cached.new.core c.step_cached.new.files) stops,
 )
 
 pub returns-clause-refines : goal.returns-clause-refines
@@ -100,12 +112,12 @@ returns-clause-core g c is =
     (machine_of c.step_cached.new.core c.step_cached.new.files, c.in-Ok.done) is (ends g c)
 
 pub returns-in-Err-clause-forged : goal.returns-in-Err-clause-forged
-returns-in-Err-clause-forged g c lawful =
+returns-in-Err-clause-forged g c lawful = let (stop, is, stops) = kept g c in
     stop_forged g.M.UntrustedMemory.state g.W.Watch.state g.L.LeafFn.leaf_of g.L.LeafFn.levels
     (through (cache_access c.args.core.now.base) (step_plan (machine_of c.args.core.now c.args.files.now))
-    c.args.cache.now) c.args.lines.now c.step_cached.new.store c.stopped.result
+    c.args.cache.now) c.args.lines.now c.step_cached.new.store stop
     (c.step_cached.new.cache, machine_of c.step_cached.new.core c.step_cached.new.files) lawful c.requires.ready
-    (stops g c)
+    stops
 
 pub returns-clause-forged : goal.returns-clause-forged
 returns-clause-forged g c lawful forged =
@@ -119,23 +131,23 @@ returns-clause-forged g c lawful forged =
     (ends g c) forged)
 
 pub returns-in-Err-clause-honest : goal.returns-in-Err-clause-honest
-returns-in-Err-clause-honest g c memory lawful known =
+returns-in-Err-clause-honest g c memory lawful known stop is =
     stop_unblamed g.M.UntrustedMemory.state g.W.Watch.state g.L.LeafFn.leaf_of g.L.LeafFn.levels
     (through (cache_access c.args.core.now.base) (step_plan (machine_of c.args.core.now c.args.files.now))
-    c.args.cache.now) c.args.lines.now c.step_cached.new.store c.stopped.result
+    c.args.cache.now) c.args.lines.now c.step_cached.new.store stop
     (c.step_cached.new.cache, machine_of c.step_cached.new.core c.step_cached.new.files) c.args.cache.now memory lawful
-    c.requires.ready known (stops g c)
+    c.requires.ready known (stops g c stop is)
 
 pub returns-in-Err-clause-fed : goal.returns-in-Err-clause-fed
-returns-in-Err-clause-fed g c ways lists core stands = (
+returns-in-Err-clause-fed g c ways lists core stands = let (stop, is, stops) = kept g c in (
   instruction_starved g.M.UntrustedMemory.state g.W.Watch.state g.L.LeafFn.leaf_of g.L.LeafFn.levels ways
       (machine_of c.args.core.now c.args.files.now) c.args.lines.now c.step_cached.new.store c.args.cache.now lists
-      c.stopped.result (c.step_cached.new.cache, machine_of c.step_cached.new.core c.step_cached.new.files) core
-      c.requires.size stands (stops g c),
+      stop (c.step_cached.new.cache, machine_of c.step_cached.new.core c.step_cached.new.files) core
+      c.requires.size stands stops,
   step_left (LinesStep g.M.UntrustedMemory.state g.W.Watch.state g.L.LeafFn.leaf_of g.L.LeafFn.levels)
       c.args.core.now.base (machine_of c.args.core.now c.args.files.now) c.args.cache.now c.args.lines.now
-      c.step_cached.new.store c.stopped.result
-      (c.step_cached.new.cache, machine_of c.step_cached.new.core c.step_cached.new.files) (stops g c),
+      c.step_cached.new.store stop
+      (c.step_cached.new.cache, machine_of c.step_cached.new.core c.step_cached.new.files) stops,
 )
 
 pub returns-clause-fed : goal.returns-clause-fed
@@ -149,12 +161,12 @@ returns-clause-fed g c ways lists core stands =
     c.requires.size stands (ends g c))
 
 pub returns-in-Err-clause-plays : goal.returns-in-Err-clause-plays
-returns-in-Err-clause-plays g c config whole before left lawful calls is_config core early known =
+returns-in-Err-clause-plays g c config whole before left lawful calls is_config core early known stop is =
     instruction_stopped g.M.UntrustedMemory.state g.W.Watch.state g.L.LeafFn.leaf_of g.L.LeafFn.levels config
     whole before left (machine_of c.args.core.now c.args.files.now) c.args.cache.now c.args.lines.now
-    c.step_cached.new.store c.stopped.result
+    c.step_cached.new.store stop
     (c.step_cached.new.cache, machine_of c.step_cached.new.core c.step_cached.new.files) lawful calls c.requires.ready
-    core c.requires.size early known (stops g c)
+    core c.requires.size early known (stops g c stop is)
 
 pub returns-clause-plays : goal.returns-clause-plays
 returns-clause-plays g c config whole before left lawful calls is_config core early known =
@@ -172,12 +184,12 @@ returns-clause-plays g c config whole before left lawful calls is_config core ea
     })
 
 pub returns-in-Err-clause-spends : goal.returns-in-Err-clause-spends
-returns-in-Err-clause-spends g c config levels costs ways lists core stands early known =
+returns-in-Err-clause-spends g c config levels costs ways lists core stands early known stop is =
     chain_stop_spent g.M.UntrustedMemory.state g.W.Watch.state g.L.LeafFn.leaf_of g.L.LeafFn.levels config levels
     costs (through (cache_access c.args.core.now.base) (step_plan (machine_of c.args.core.now c.args.files.now))
-    c.args.cache.now) c.args.lines.now c.step_cached.new.store c.stopped.result
+    c.args.cache.now) c.args.lines.now c.step_cached.new.store stop
     (c.step_cached.new.cache, machine_of c.step_cached.new.core c.step_cached.new.files) c.requires.ready known
-    (stops g c)
+    (stops g c stop is)
 
 pub returns-clause-spends : goal.returns-clause-spends
 returns-clause-spends g c config levels costs ways lists core stands early known =
