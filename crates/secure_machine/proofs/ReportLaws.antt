@@ -7,6 +7,7 @@ use Rattle.asc_base.specs.Shape.{shape_of, layered}
 use Rattle.asc_base.specs.TreeShape.{olat_of}
 use Rattle.asc_base.specs.declared.settings.Config.{Config}
 use Rattle.asc_base.specs.declared.shape.Shape.{Shape}
+use Rattle.bus_watch.specs.Tied.{TiedAt}
 use Rattle.bus_watch.specs.Log.{TapState}
 use Rattle.elf_loader.specs.Memory.{IsImage}
 use Rattle.elf_loader.specs.declared.image.Image.{Image}
@@ -23,7 +24,7 @@ use Rattle.rate_enforcer.specs.Counts.{IsCounted, is_answered}
 use Rattle.bus_schedule.specs.Scheduled.{log_code}
 use Rattle.bus_schedule.specs.Timetable.{public_of}
 use Rattle.rate_enforcer.specs.PortStep.{PortState}
-use Rattle.secure_machine.specs.Finish.{Settled, Short, IsRightEnding, IsTimeUp}
+use Rattle.secure_machine.specs.Finish.{Settled, Short, IsRightEnding, IsTimeUp, moves_end}
 use Rattle.secure_machine.specs.FlatEnds.{FlatEnds, IsFlat}
 use Rattle.secure_machine.specs.Run.{Reported, Wanting, DrawsLeaves, IsFlatReport, IsUnprepared, start_of}
 use Rattle.secure_machine.proofs.ImageZeros.{loaded_image}
@@ -67,7 +68,8 @@ reported_of config report instructions cycles last ending old new same counted s
       code = code ∙ counts.code.code
           ∙ ap (λ (c : Config). log_code (public_of c) new.tap.log) (s.config ∙ same);
       fetches = fetches;
-      tied = s.tied;
+      tied = λ start buckets tied. subst (λ e. TiedAt (moves_end e) start buckets new.memory new.tap) (sym ends)
+          (s.tied start buckets tied);
       later = s.later;
       cause = λ failed. s.cause (sym ends ∙ failed);
       unaltered = s.unaltered;
