@@ -13,3 +13,4 @@ pub mod HeadlineLaws
 pub mod PlayLaws
 pub mod Instances
 pub mod HeadlineRows
+pub mod ForgedRow

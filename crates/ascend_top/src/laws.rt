@@ -2,6 +2,7 @@
 
 ghost use Rattle.std.specs.Prelude.{◌≡◌, ◌<◌, ◌≤◌, ℕ, List, [], ◌∷◌, Option, Some, IsSome};
 ghost use Rattle.asc_base.specs.Settings.{config_of};
+ghost use Rattle.asc_base.specs.declared.block.Counter.{Counter};
 ghost use Rattle.asc_base.specs.declared.settings.Config.{Config};
 ghost use Rattle.asc_outside.specs.Host.{Files, HostState};
 ghost use Rattle.bus_schedule.specs.Timetable.{public_of};
@@ -15,6 +16,7 @@ ghost use Rattle.run_play.specs.Slots.{first_pace};
 ghost use Rattle.rv32_asm.specs.File.{file_of};
 ghost use Rattle.secure_machine.specs.Full.{NoSlotIsFull};
 ghost use Rattle.secure_machine.specs.Plays.{play_report};
+ghost use Rattle.secure_machine.specs.Rows.{IsSaid};
 ghost use Rattle.secure_machine.specs.declared.report.Ending.TheVariants.{Exit};
 ghost use Rattle.secure_machine.specs.declared.report.Report.{Report};
 ghost use Rattle.ascend_words.specs.Grammar.{IsWords, Pair};
@@ -26,9 +28,10 @@ ghost use Rattle.ascend_top.specs.Command.{AreRight};
 ghost use Rattle.ascend_top.specs.Complete.{HasRoom};
 ghost use Rattle.ascend_top.specs.FlatRun.{file_in};
 ghost use Rattle.ascend_top.specs.EncryptedRun.{keys_from};
-ghost use Rattle.ascend_top.specs.Headline.{Headline, IsAlways, IsCutShort, RunsEncrypted, program_play};
+ghost use Rattle.ascend_top.specs.Headline.{Headline, IsAlways, IsCutShort, IsFlatOrPrefix, RunsEncrypted};
+ghost use Rattle.ascend_top.specs.Headline.{program_play};
 ghost use Rattle.ascend_top.specs.Instance.{HaveKey, short_read, short_words};
-ghost use Rattle.ascend_top.specs.Instance.{IsExit, IsQuiet, IsShort, IsUnmoved};
+ghost use Rattle.ascend_top.specs.Instance.{IsExit, IsForgedRun, IsQuiet, IsShort, IsUnmoved};
 ghost use Rattle.ascend_top.specs.Lent.{Lent};
 ghost use Rattle.ascend_top.specs.Run.{IsRun, run_report_steps};
 ghost use Rattle.ascend_top.specs.Steps.{AllDone, PrintsMore};
@@ -96,7 +99,9 @@ pub fn completeness_can_be_met()
 /// twelve cycles and before its first slot, of the report that says so, and of an empty log, whatever the key is; it
 /// holds of no report with another status, where no reply was altered. Where memory ran out before the first slot its
 /// rest holds, up to the time 0. And a move without a slot is in no schedule, whatever the settings and the end time
-/// are.
+/// are. By a forgery it holds of every report that ends with the last read, where a line of any block was accepted by
+/// its valid tag that stood in an altered reply, and nothing was tagged: also of one that says status 1 of the program
+/// that exits with 0, which isn't flat RV32IM's.
 pub fn headlines_have_rows()
     ensures exit { (program : Program) → IsExit program → (key : List ℕ) (lent : Lent) → IsUnmoved lent
         → (report : Report) → IsShort (Exit 0) report → Headline program key lent report }
@@ -106,4 +111,9 @@ pub fn headlines_have_rows()
         → IsCutShort program lent }
     ensures no_move { (config : Config) (lent : Lent) (end : ℕ) (move : Move) → IsQuiet lent
         → lent.tap'.log.moves ≡ move ∷ [] → IsAlways config lent end → ⊥ }
+    ensures forged { (program : Program) (key : List ℕ) (lent : Lent) (a : ℕ) (c : Counter) (l : List ℕ)
+        → IsForgedRun program key lent a c l → (report : Report) → report.last ≡ 457
+        → Headline program key lent report }
+    ensures not_flat { (program : Program) → IsExit program → (report : Report) → IsSaid 2 (Exit 1) report
+        → IsFlatOrPrefix program report → ⊥ }
 {}
