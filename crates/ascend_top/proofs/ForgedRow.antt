@@ -171,4 +171,4 @@ pub not_flat : (program : Program) → IsExit program → (report : Report) → 
 not_flat program h report said is =
     flat.other_status program.image report h.image said
     (subst (λ (c : Config). IsFlatReport c program.image [] report) h.config
-    (subst (λ input. IsFlatReport program.config program.image input report) h.input is))
+    (subst (λ input. IsFlatReport program.config program.image input report) h.input is.flat))
