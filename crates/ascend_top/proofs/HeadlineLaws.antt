@@ -25,7 +25,7 @@ prefixed program report is = record {
   flat = is;
   prefix = λ more.
       let longer = longer-output report.instructions more
-          (start_of program.config program.image program.input.items) program.image.bytes.items in
+      (start_of program.config program.image program.input.items) program.image.bytes.items in
       (longer.0, longer.1 ∙ ap (λ output. output ++ longer.0) (sym is.output));
 }
 
