@@ -41,26 +41,29 @@ fn run_small(alloc: Global, program: &[u32], more: &str) -> Result<Recorder, Fai
     Ok(tap)
 }
 
-/// Programs, the words behind those of `SMALL`, the number of slots, and the starts of some, counted from 0. Each slot
-/// takes 496 cycles.
-const STARTS: [(&[u32], &str, usize, &[(usize, u64)]); 5] = [
-    (&LOAD, "time=200", 0, &[]),
+/// Programs, the words behind those of `SMALL`, the numbers of slots and of moves, and the starts of some slots, counted
+/// from 0. Each slot takes 496 cycles and makes twelve moves.
+const STARTS: [(&[u32], &str, usize, usize, &[(usize, u64)]); 5] = [
+    (&LOAD, "time=200", 0, 0, &[]),
     (
         &LOAD,
         "",
         4,
+        48,
         &[(0, 256), (1, 1_008), (2, 1_760), (3, 2_512)],
     ),
     (
         &LOAD,
         "rates=256 leak=0",
         4,
+        48,
         &[(0, 256), (1, 1_008), (2, 1_760), (3, 2_512)],
     ),
     (
         &JUMP,
         "rates=256 leak=0 time=6000",
         8,
+        96,
         &[(3, 2_512), (4, 3_264), (5, 4_016), (6, 4_768), (7, 5_520)],
     ),
     // the 44th slot ends at 33,088, and the next one comes at the rate that was chosen there
@@ -68,6 +71,7 @@ const STARTS: [(&[u32], &str, usize, &[(usize, u64)]); 5] = [
         &JUMP,
         "leak=2 epoch=32768 time=200000",
         53,
+        636,
         &[(43, 32_592), (44, 49_472), (52, 184_512)],
     ),
 ];
@@ -75,14 +79,14 @@ const STARTS: [(&[u32], &str, usize, &[(usize, u64)]); 5] = [
 #[test]
 fn slots_start_at_the_rate(rt: HostRuntime) -> Result<(), Fail> {
     let alloc = rt.alloc();
-    for (program, more, slots, some) in STARTS {
+    for (program, more, slots, moves, some) in STARTS {
         let tap = run_small(alloc, program, more)?;
         let starts = starts(alloc, tap.log())?;
         assert!(rt; starts.len() == slots, "{more}");
         for (number, start) in some {
             assert!(rt; starts.get(*number) == Some(start), "{more}: {number}");
         }
-        assert!(rt; tap.log().moves.len() == 12 * slots, "{more}");
+        assert!(rt; tap.log().moves.len() == moves, "{more}");
     }
     Ok(())
 }
